@@ -1,0 +1,74 @@
+-- The calls over words, bytes and an output. Document 01, "How a request is turned back".
+-- Order of the causes: 1, 2, the table's fields (3 or 4), the words from the first (5 to 9), 10, then 11.
+use mathlib.Core.Bool.{Bool, true, false, cond, _&&_}
+use mathlib.Core.Option.{Option, none, some}
+use mathlib.Core.List.{List, [], _∷_, _++_}
+use Prim.Native.Nat.{ℕ, _+_, _*_, _^_}
+use lib.Dec.{leb}
+use lib.ListN.{length, drop}
+use Rattle.model.specs.Facts.{tableOf, partialFacts, knownFacts, tableFault}
+use Rattle.model.specs.Outcome.{Outcomes}
+use Rattle.model.specs.Record.{Record, tree, evaluated, reduced, narrowed, completed}
+use Rattle.model.specs.Writing.{encodeR, short}
+use Rattle.model.specs.Reading.{Parsed, refuse, got, sheetLength, recordLength, readSheet, readRecord}
+
+-- A refusal's number, or the words written.
+pub data Answer : Type 0 where
+  refusal : ℕ → Answer
+  wrote : List ℕ → Answer
+
+-- What is returned: the number (0 when accepted) and how many words were written (0 when refused).
+abbrev pub number : Answer → ℕ
+number (refusal n) = n
+number (wrote ws) = 0
+
+abbrev pub written : Answer → ℕ
+written (refusal n) = 0
+written (wrote ws) = length ws
+
+-- The output afterwards: refused, as it was; accepted, the words written and then what stood there.
+abbrev pub afterwards : Answer → List ℕ → List ℕ
+afterwards (refusal n) out = out
+afterwards (wrote ws) out = ws ++ drop (length ws) out
+
+-- ---- steps of a call
+abbrev pub unlessLong : Bool → Answer → Answer
+unlessLong true a = a
+unlessLong false a = refusal 1
+
+abbrev pub unlessFault : Option ℕ → Answer → Answer
+unlessFault none a = a
+unlessFault (some n) a = refusal n
+
+abbrev pub onRead : {A : Type 0} → Parsed A → (A → Answer) → Answer
+onRead (refuse n) k = refusal n
+onRead (got a ws) k = k a
+
+module _ (L : Outcomes) where
+  -- 11 when the resulting record is longer than the output or 16,384 words, or a fact list in it is over 4,095.
+  abbrev pub fits : ℕ → Record (L .O) → Bool
+  fits room r = leb (length (encodeR (L .number) r)) room && recordLength (encodeR (L .number) r) && short (tree r)
+
+  abbrev pub write : ℕ → Record (L .O) → Answer
+  write room r = cond (fits room r) (wrote (encodeR (L .number) r)) (refusal 11)
+
+  -- ---- the four calls: words, table bytes, and the room of the output in words
+  abbrev pub evaluate : List ℕ → List ℕ → ℕ → Answer
+  evaluate sheet facts room =
+      unlessLong (sheetLength sheet) (unlessFault (tableFault knownFacts facts)
+        (onRead (readSheet (L .value) sheet) (λ t. write room (evaluated L (tableOf facts) t))))
+
+  abbrev pub partialEvaluate : List ℕ → List ℕ → ℕ → Answer
+  partialEvaluate sheet facts room =
+      unlessLong (sheetLength sheet) (unlessFault (tableFault partialFacts facts)
+        (onRead (readSheet (L .value) sheet) (λ t. write room (reduced L (tableOf facts) t))))
+
+  abbrev pub narrowResidual : List ℕ → List ℕ → ℕ → Answer
+  narrowResidual rec facts room =
+      unlessLong (recordLength rec) (unlessFault (tableFault partialFacts facts)
+        (onRead (readRecord (L .value) rec) (λ r. write room (narrowed L (tableOf facts) r))))
+
+  abbrev pub completeResidual : List ℕ → List ℕ → ℕ → Answer
+  completeResidual rec facts room =
+      unlessLong (recordLength rec) (unlessFault (tableFault knownFacts facts)
+        (onRead (readRecord (L .value) rec) (λ r. write room (completed L (tableOf facts) r))))

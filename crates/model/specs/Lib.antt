@@ -1,0 +1,15 @@
+pub mod Fields
+pub mod Facts
+pub mod Outcome
+pub mod Condition
+pub mod Decision
+pub mod Policy
+pub mod Evaluate
+pub mod Partial
+pub mod Consulted
+pub mod Record
+pub mod Writing
+pub mod Reading
+pub mod Calls
+pub mod Required
+pub mod Listing

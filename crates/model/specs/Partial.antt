@@ -1,0 +1,162 @@
+-- Reduction: what is left of a policy under a table that leaves facts open. Document 01, "Reducing".
+use mathlib.Core.Bool.{Bool, true, false, not}
+use mathlib.Core.Option.{Option, none, some}
+use mathlib.Core.List.{List, [], _∷_}
+use Prim.Native.Nat.{ℕ}
+use Rattle.model.specs.Facts.{Presence, absent, present, unknown, Table, asKnown}
+use Rattle.model.specs.Outcome.{Outcomes}
+use Rattle.model.specs.Condition.{Condition, always, never, has, notC, allC, anyC, Conditions, cnil, ccons, ConditionEval, unlessNone, evalCondition}
+use Rattle.model.specs.Decision.{Permit, Denial, Decision, permits, denies, combined, genericDeny}
+use Rattle.model.specs.Policy.{Grant, Policy, permit, deny, grant, all, any, orElse, stored, Policies, pnil, pcons}
+use Rattle.model.specs.Evaluate.{evalGrant, evalPolicy}
+
+-- ---- conditions
+
+-- A condition under a table that leaves facts open: known, or a condition that is left.
+pub data ReducedCondition : Type 0 where
+  known : Bool → ReducedCondition
+  pendingC : Condition → ReducedCondition
+
+-- Has on an Unknown fact is pending.
+abbrev pub reduceHas : ℕ → Presence → ReducedCondition
+reduceHas f absent = known false
+reduceHas f present = known true
+reduceHas f unknown = pendingC (has f)
+
+-- Not flips a known condition and wraps a pending one.
+abbrev pub flipR : ReducedCondition → ReducedCondition
+flipR (known b) = known (not b)
+flipR (pendingC c) = pendingC (notC c)
+
+-- A walk over the arms: an arm decided the list, or these arms are pending.
+pub data ConditionWalk : Type 0 where
+  stopped : ConditionWalk
+  through : Conditions → ConditionWalk
+
+-- All: a known false arm stops the walk; a known true one drops out.
+abbrev pub stepAllC : ReducedCondition → ConditionWalk → ConditionWalk
+stepAllC (known false) w = stopped
+stepAllC (known true) w = w
+stepAllC (pendingC c) stopped = stopped
+stepAllC (pendingC c) (through cs) = through (ccons c cs)
+
+-- Any: a known true arm stops the walk; a known false one drops out.
+abbrev pub stepAnyC : ReducedCondition → ConditionWalk → ConditionWalk
+stepAnyC (known true) w = stopped
+stepAnyC (known false) w = w
+stepAnyC (pendingC c) stopped = stopped
+stepAnyC (pendingC c) (through cs) = through (ccons c cs)
+
+-- No pending arm: known. One: it stands by itself. More: a list of them.
+abbrev pub endAllC : ConditionWalk → ReducedCondition
+endAllC stopped = known false
+endAllC (through cnil) = known true
+endAllC (through (ccons c cnil)) = pendingC c
+endAllC (through (ccons c (ccons d cs))) = pendingC (allC (ccons c (ccons d cs)))
+
+abbrev pub endAnyC : ConditionWalk → ReducedCondition
+endAnyC stopped = known true
+endAnyC (through cnil) = known false
+endAnyC (through (ccons c cnil)) = pendingC c
+endAnyC (through (ccons c (ccons d cs))) = pendingC (anyC (ccons c (ccons d cs)))
+
+abbrev mutual
+  pub reduceCondition : Table → Condition → ReducedCondition
+  reduceCondition P always = known true
+  reduceCondition P never = known false
+  reduceCondition P (has f) = reduceHas f (P f)
+  reduceCondition P (notC c) = flipR (reduceCondition P c)
+  reduceCondition P (allC cs) = unlessNone cs (known false) (endAllC (reduceConditionAll P cs))
+  reduceCondition P (anyC cs) = endAnyC (reduceConditionAny P cs)
+
+  pub reduceConditionAll : Table → Conditions → ConditionWalk
+  reduceConditionAll P cnil = through cnil
+  reduceConditionAll P (ccons c cs) = stepAllC (reduceCondition P c) (reduceConditionAll P cs)
+
+  pub reduceConditionAny : Table → Conditions → ConditionWalk
+  reduceConditionAny P cnil = through cnil
+  reduceConditionAny P (ccons c cs) = stepAnyC (reduceCondition P c) (reduceConditionAny P cs)
+
+-- ---- policies
+
+-- A tree under a table that leaves facts open: resolved, or a tree that is left.
+pub data ReducedPolicy (O : Type 0) : Type 0 where
+  resolved : Decision O → ReducedPolicy O
+  pending : Policy O → ReducedPolicy O
+
+-- Resolved parts kept in a residual are nodes 12 or 13.
+abbrev pub asResidual : {O : Type 0} → ReducedPolicy O → Policy O
+asResidual (resolved d) = stored d
+asResidual (pending t) = t
+
+-- Permits first, then pending arms.
+abbrev pub arms : {O : Type 0} → List (Permit O) → Policies O → Policies O
+arms [] qs = qs
+arms (p ∷ ps) qs = pcons (stored (permits p)) (arms ps qs)
+
+-- Any without resolved permits holds its first resolved deny first.
+abbrev pub kept : {O : Type 0} → List (Permit O) → Option (Denial O) → Policies O → Policies O
+kept [] none qs = qs
+kept [] (some d) qs = pcons (stored (denies d)) qs
+kept (p ∷ ps) first qs = arms (p ∷ ps) qs
+
+-- The walk over the arms of All: a resolved deny decided it, or these permits and these pending arms are left.
+pub data AllWalk (O : Type 0) : Type 0 where
+  stop : Denial O → AllWalk O
+  go : List (Permit O) → Policies O → AllWalk O
+
+abbrev pub stepAll : {O : Type 0} → ReducedPolicy O → AllWalk O → AllWalk O
+stepAll (resolved (denies d)) w = stop d
+stepAll (resolved (permits p)) (stop d) = stop d
+stepAll (resolved (permits p)) (go ps qs) = go (p ∷ ps) qs
+stepAll (pending q) (stop d) = stop d
+stepAll (pending q) (go ps qs) = go ps (pcons q qs)
+
+-- The walk over the arms of Any: permits, the first deny, pending arms.
+pub data AnyWalk (O : Type 0) : Type 0 where
+  parts : List (Permit O) → Option (Denial O) → Policies O → AnyWalk O
+
+abbrev pub stepAny : {O : Type 0} → ReducedPolicy O → AnyWalk O → AnyWalk O
+stepAny (resolved (denies d)) (parts ps first qs) = parts ps (some d) qs
+stepAny (resolved (permits p)) (parts ps first qs) = parts (p ∷ ps) first qs
+stepAny (pending q) (parts ps first qs) = parts ps first (pcons q qs)
+
+-- A known grant is evaluated again with Unknown read as Absent; a pending one holds what is left of its condition.
+abbrev pub reduceGrant : {O : Type 0} → Grant O → ConditionEval → ReducedCondition → ReducedPolicy O
+reduceGrant g v (known b) = resolved (evalGrant g v)
+reduceGrant g v (pendingC c) = pending (grant g c)
+
+-- OrElse: a resolved permit of the primary is the answer; after a resolved deny the fallback is; with a pending primary both are kept.
+abbrev pub reduceOrElse : {O : Type 0} → ReducedPolicy O → ReducedPolicy O → ReducedPolicy O
+reduceOrElse (resolved (permits p)) b = resolved (permits p)
+reduceOrElse (resolved (denies d)) b = b
+reduceOrElse (pending a) b = pending (orElse a (asResidual b))
+
+module _ (L : Outcomes) where
+  -- A list without pending arms resolves by the list rule (the arms kept name nothing, so that any table serves).
+  abbrev pub endAll : Table → AllWalk (L .O) → ReducedPolicy (L .O)
+  endAll T (stop d) = resolved (denies d)
+  endAll T (go ps pnil) = resolved (evalPolicy L T (all (arms ps pnil)))
+  endAll T (go ps (pcons q qs)) = pending (all (arms ps (pcons q qs)))
+
+  abbrev pub endAny : Table → AnyWalk (L .O) → ReducedPolicy (L .O)
+  endAny T (parts ps first pnil) = resolved (evalPolicy L T (any (kept ps first pnil)))
+  endAny T (parts ps first (pcons q qs)) = pending (any (kept ps first (pcons q qs)))
+
+  abbrev mutual
+    pub reducePolicy : Table → Policy (L .O) → ReducedPolicy (L .O)
+    reducePolicy P (permit o) = resolved (permits (combined o []))
+    reducePolicy P deny = resolved (denies genericDeny)
+    reducePolicy P (grant g c) = reduceGrant g (evalCondition (asKnown P) c) (reduceCondition P c)
+    reducePolicy P (all ts) = endAll (asKnown P) (reduceAll P ts)
+    reducePolicy P (any ts) = endAny (asKnown P) (reduceAny P ts)
+    reducePolicy P (orElse a b) = reduceOrElse (reducePolicy P a) (reducePolicy P b)
+    reducePolicy P (stored d) = resolved d
+
+    pub reduceAll : Table → Policies (L .O) → AllWalk (L .O)
+    reduceAll P pnil = go [] pnil
+    reduceAll P (pcons t ts) = stepAll (reducePolicy P t) (reduceAll P ts)
+
+    pub reduceAny : Table → Policies (L .O) → AnyWalk (L .O)
+    reduceAny P pnil = parts [] none pnil
+    reduceAny P (pcons t ts) = stepAny (reducePolicy P t) (reduceAny P ts)

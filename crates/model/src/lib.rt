@@ -1,0 +1,1 @@
+// The definitions are in specs/: this crate has no code.

@@ -18,13 +18,13 @@ pub data Answer : Type 0 where
   wrote : List ℕ → Answer
 
 -- What is returned: the number (0 when accepted) and how many words were written (0 when refused).
-abbrev pub number : Answer → ℕ
-number (refusal n) = n
-number (wrote ws) = 0
+abbrev pub numberOf : Answer → ℕ
+numberOf (refusal n) = n
+numberOf (wrote ws) = 0
 
-abbrev pub written : Answer → ℕ
-written (refusal n) = 0
-written (wrote ws) = length ws
+abbrev pub writtenOf : Answer → ℕ
+writtenOf (refusal n) = 0
+writtenOf (wrote ws) = length ws
 
 -- The output afterwards: refused, as it was; accepted, the words written and then what stood there.
 abbrev pub afterwards : Answer → List ℕ → List ℕ

@@ -1,0 +1,42 @@
+-- `facts::field_fault` meets its contract. Assumes nothing.
+use mathlib.Core.Path.{_≡_, refl, sym, ap, _∙_}
+use Prim.Native.Nat.{ℕ, zero, suc, _<_}
+use native.Mathlib.Omega.{arith}
+use borrow.Author.Needs.{needs}
+use mathlib.Core.Option.{Option, none, some}
+use Rattle.model.specs.Facts.{TableKind, unknownFault, fieldFault}
+use Rattle.facts.proofs.field_fault.Statement.{statement}
+use Rattle.facts.proofs.field_fault.Tie as tie
+
+module _ (k : TableKind) where
+  known-one : (field : ℕ) → field < 2 → none ≡ fieldFault k field
+  known-one zero h = refl
+  known-one (suc zero) h = refl
+  known-one (suc (suc field)) h = absurd (omega arith)
+
+  reserved : (field : ℕ) → 2 < field → some 3 ≡ fieldFault k field
+  reserved zero h = absurd (omega arith)
+  reserved (suc zero) h = absurd (omega arith)
+  reserved (suc (suc zero)) h = absurd (omega arith)
+  reserved (suc (suc (suc field))) h = refl
+
+returns : tie.Need-returns
+returns c = ?
+
+returns-2 : tie.Need-returns-2
+returns-2 c = ?
+
+enum-told : tie.Need-enum-told
+enum-told c = search needs
+
+enum-told-2 : tie.Need-enum-told-2
+enum-told-2 c = search needs
+
+returns-3 : tie.Need-returns-3
+returns-3 c = ?
+
+returns-4 : tie.Need-returns-4
+returns-4 c = ?
+
+pub field-fault-spec : {M : Type 1} → statement M
+field-fault-spec = tie.close (tie.spec returns returns-2 enum-told enum-told-2 returns-3 returns-4)

@@ -1,0 +1,73 @@
+-- `facts::first_fault` meets its contract. The loop's invariant: no field passed is at fault. Assumes nothing.
+use mathlib.Core.Path.{_≡_, refl, sym, ap, _∙_}
+use Prim.Native.Nat.{ℕ, _*_, _-_, _≤_}
+use native.Mathlib.Omega.{arith}
+use lib.ListN.{length, drop}
+use borrow.Author.Needs.{needs}
+use Rattle.model.specs.Facts.{tableFields, firstFault}
+use Rattle.facts.specs.Answers.{kindOf, faultOf}
+use Rattle.facts.proofs.first_fault.Statement.{statement}
+use Rattle.facts.proofs.first_fault.Tie as tie
+
+abbrev Inv-loop : tie.InvT-loop
+Inv-loop facts kind end fact₀ fact =
+    (fact ≤ end) × (end ≡ 4 * length facts) × (end ≤ 1024)
+    × (firstFault (kindOf kind) (tableFields facts) ≡ firstFault (kindOf kind) (drop fact (tableFields facts)))
+
+abbrev μ-loop : tie.MeasureT-loop
+μ-loop facts kind end fact₀ fact = end - fact
+
+cast-end : tie.Need-cast-end Inv-loop μ-loop
+cast-end c = search needs
+
+mul-end : tie.Need-mul-end Inv-loop μ-loop
+mul-end c = search needs
+
+loop-holds : tie.Need-loop-holds Inv-loop μ-loop
+loop-holds c = ?
+
+field-requires : tie.Need-field-requires Inv-loop μ-loop
+field-requires c κs = search needs
+
+field-fault-requires : tie.Need-field-fault-requires Inv-loop μ-loop
+field-fault-requires c κs = search needs
+
+enum-told : tie.Need-enum-told Inv-loop μ-loop
+enum-told c = search needs
+
+add-fact : tie.Need-add-fact Inv-loop μ-loop
+add-fact c = search needs
+
+loop-less : tie.Need-loop-less Inv-loop μ-loop
+loop-less c = search needs
+
+loop-again : tie.Need-loop-again Inv-loop μ-loop
+loop-again c = ?
+
+enum-known-number : tie.Need-enum-known-number Inv-loop μ-loop
+enum-known-number c = search needs
+
+returns : tie.Need-returns Inv-loop μ-loop
+returns c = ?
+
+returns-2 : tie.Need-returns-2 Inv-loop μ-loop
+returns-2 c = ?
+
+pub first-fault-spec : {M : Type 1} → statement M
+first-fault-spec =
+    tie.close
+    (tie.spec
+    Inv-loop
+    μ-loop
+    cast-end
+    mul-end
+    loop-holds
+    field-requires
+    field-fault-requires
+    enum-told
+    add-fact
+    loop-less
+    loop-again
+    enum-known-number
+    returns
+    returns-2)

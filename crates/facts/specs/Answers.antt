@@ -1,0 +1,34 @@
+-- What the answers stand for: document 01's readings of a fact and its refusal numbers.
+use mathlib.Core.Bool.{Bool, true, false}
+use mathlib.Core.Option.{Option, none, some}
+use Prim.Native.Nat.{ℕ}
+use Rattle.model.specs.Facts as model
+use Rattle.facts.specs.declared.Presence.{Presence}
+use Rattle.facts.specs.declared.Presence.the-variants.{Absent, Present, Unknown}
+use Rattle.facts.specs.declared.TableFault.{TableFault}
+use Rattle.facts.specs.declared.TableFault.the-variants.{Faultless, Refused}
+use Rattle.facts.specs.declared.TableKind.{TableKind}
+use Rattle.facts.specs.declared.TableKind.the-variants.{Partial, Known}
+
+abbrev pub presenceOf : Presence → model.Presence
+presenceOf Absent = model.absent
+presenceOf Present = model.present
+presenceOf Unknown = model.unknown
+
+abbrev pub isPresent : model.Presence → Bool
+isPresent model.absent = false
+isPresent model.present = true
+isPresent model.unknown = false
+
+abbrev pub kindOf : TableKind → model.TableKind
+kindOf Partial = model.partialFacts
+kindOf Known = model.knownFacts
+
+-- The number of the refusal, if there is one; and whether there is none.
+abbrev pub faultOf : TableFault → Option ℕ
+faultOf Faultless = none
+faultOf (Refused n) = some n
+
+abbrev pub noFault : Option ℕ → Bool
+noFault none = true
+noFault (some n) = false

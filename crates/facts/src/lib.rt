@@ -1,0 +1,140 @@
+// Fact tables, after gatekeep's facts.rs: what a table says of a fact, and the fault for which a table is turned back.
+ghost use mathlib.Core.Path.{_≡_};
+ghost use Prim.Native.Nat.{_≤_};
+ghost use lib.Dec.{eqb};
+ghost use lib.ListN.{length, getD};
+ghost use Rattle.model.specs.Fields.{split};
+ghost use Rattle.model.specs.Facts.{tableFields, tableOf, fieldFault, firstFault, tableFault, partialFacts, knownFacts};
+ghost use Rattle.facts.specs.Answers.{presenceOf, isPresent, kindOf, faultOf, noFault};
+
+// What a table says of a fact.
+pub enum Presence {
+    Absent,
+    Present,
+    Unknown,
+}
+
+// The number for which a table is turned back, if it is.
+pub enum TableFault {
+    Faultless,
+    Refused(u32),
+}
+
+// A known table holds no Unknown.
+enum TableKind {
+    Partial,
+    Known,
+}
+
+// The field of a fact, 0 past the end. The place in the byte is a shift, so nothing branches on it.
+fn field(facts: &[u8], fact: u32) -> u8
+    ensures { λ r. ⌜ r ≡ getD (tableFields (now (facts .entry))) fact 0 ⌝ }
+{
+    let at = (fact / 4) as usize;
+    if facts.len() <= at {
+        return 0;
+    }
+    (facts[at] >> (6 - fact % 4 * 2)) % 4
+}
+
+impl Presence {
+    // What the table says of a fact.
+    pub fn of(facts: &[u8], fact: u32) -> Presence
+        ensures { λ r. ⌜ presenceOf r ≡ tableOf (now (facts .entry)) fact ⌝ }
+    {
+        match field(facts, fact) {
+            0 => Presence::Absent,
+            1 => Presence::Present,
+            _ => Presence::Unknown,
+        }
+    }
+}
+
+// Whether the table has the fact as Present.
+pub fn present(facts: &[u8], fact: u32) -> bool
+    ensures { λ r. ⌜ r ≡ isPresent (tableOf (now (facts .entry)) fact) ⌝ }
+{
+    field(facts, fact) == 1
+}
+
+// The fault of a field.
+fn field_fault(field: u8, kind: TableKind) -> TableFault
+    ensures { λ r. ⌜ faultOf r ≡ fieldFault (kindOf kind) field ⌝ }
+{
+    if field < 2 {
+        return TableFault::Faultless;
+    }
+    if field > 2 {
+        return TableFault::Refused(3);
+    }
+    match kind {
+        TableKind::Partial => TableFault::Faultless,
+        TableKind::Known => TableFault::Refused(4),
+    }
+}
+
+// The first fault from fact 0 on.
+fn first_fault(facts: &[u8], kind: TableKind) -> TableFault
+    requires { ⌜ length (now facts) ≤ 256 ⌝ }
+    ensures { λ r. ⌜ faultOf r ≡ firstFault (kindOf kind) (tableFields (now (facts .entry))) ⌝ }
+{
+    let end = facts.len() as u32 * 4;
+    let mut fact = 0;
+    while fact < end {
+        match field_fault(field(facts, fact), kind) {
+            TableFault::Faultless => fact += 1,
+            TableFault::Refused(number) => return TableFault::Refused(number),
+        }
+    }
+    TableFault::Faultless
+}
+
+// A mark in each field of a byte that is at fault: a 3 has both bits, and in a known table the upper bit is enough.
+fn marks(byte: u8, kind: TableKind) -> u8
+    ensures { λ r. ⌜ eqb r 0 ≡ noFault (firstFault (kindOf kind) (split 2 4 byte)) ⌝ }
+{
+    match kind {
+        TableKind::Partial => byte & (byte / 2) & 85,
+        TableKind::Known => byte & 170,
+    }
+}
+
+// Whether no field is at fault. The loop has no way out before its end, so it is compiled to work on many bytes at a time.
+fn faultless(facts: &[u8], kind: TableKind) -> bool
+    ensures { λ r. ⌜ r ≡ noFault (firstFault (kindOf kind) (tableFields (now (facts .entry)))) ⌝ }
+{
+    let mut marked = 0;
+    let mut i = 0;
+    while i < facts.len() {
+        marked = marked | marks(facts[i], kind);
+        i += 1;
+    }
+    marked == 0
+}
+
+// The fault of a table. Its fields are looked at one by one only where there is a fault among them.
+fn table_fault(facts: &[u8], kind: TableKind) -> TableFault
+    ensures { λ r. ⌜ faultOf r ≡ tableFault (kindOf kind) (now (facts .entry)) ⌝ }
+{
+    if facts.len() > 256 {
+        return TableFault::Refused(2);
+    }
+    if faultless(facts, kind) {
+        return TableFault::Faultless;
+    }
+    first_fault(facts, kind)
+}
+
+// The fault of a partial table.
+pub fn partial_fault(facts: &[u8]) -> TableFault
+    ensures { λ r. ⌜ faultOf r ≡ tableFault partialFacts (now (facts .entry)) ⌝ }
+{
+    table_fault(facts, TableKind::Partial)
+}
+
+// The fault of a known table.
+pub fn known_fault(facts: &[u8]) -> TableFault
+    ensures { λ r. ⌜ faultOf r ≡ tableFault knownFacts (now (facts .entry)) ⌝ }
+{
+    table_fault(facts, TableKind::Known)
+}

@@ -1,0 +1,102 @@
+-- What document 01 asks of a tree that stands in a sheet or a record: each field fits its bits, no list repeats an obligation,
+-- no list is longer than its count can say, and the nesting.
+use mathlib.Core.Path.{_≡_}
+use mathlib.Core.Bool.{Bool, true, false, _&&_}
+use mathlib.Core.Option.{Option, none, some}
+use mathlib.Core.List.{List, [], _∷_}
+use Prim.Native.Nat.{ℕ, suc, _+_, _≤_, _<_, max}
+use lib.Dec.{leb}
+use lib.ListN.{length}
+use Rattle.model.specs.Condition.{Condition, always, never, has, notC, allC, anyC, Conditions, cnil, ccons}
+use Rattle.model.specs.Decision.{Permit, Denial, Decision, permits, denies}
+use Rattle.model.specs.Policy.{Grant, Policy, permit, deny, grant, all, any, orElse, stored, Policies, pnil, pcons}
+use Rattle.model.specs.Writing.{countC, count}
+use Rattle.laws.specs.Lists.{Distinct, Below}
+use Rattle.laws.specs.Size.{wordsC}
+
+abbrev mutual
+  pub FormC : Condition → Type 0
+  FormC always = Unit {0}
+  FormC never = Unit {0}
+  FormC (has f) = f < 1024
+  FormC (notC c) = FormC c
+  FormC (allC cs) = (countC cs ≤ 4095) × FormCs cs
+  FormC (anyC cs) = (countC cs ≤ 4095) × FormCs cs
+
+  pub FormCs : Conditions → Type 0
+  FormCs cnil = Unit {0}
+  FormCs (ccons c cs) = FormC c × FormCs cs
+
+-- What is there has Q.
+abbrev pub IfThere : {A : Type 0} → (A → Type 0) → Option A → Type 0
+IfThere Q none = Unit {0}
+IfThere Q (some a) = Q a
+
+-- A label or a reason.
+abbrev pub FormL : Option ℕ → Type 0
+FormL l = IfThere (λ n. n < 32768) l
+
+-- Facts in a list: they may repeat.
+abbrev pub FormF : List ℕ → Type 0
+FormF fs = (length fs ≤ 4095) × Below 1024 fs
+
+-- Obligations.
+abbrev pub FormO : List ℕ → Type 0
+FormO os = Distinct os × Below 64 os
+
+-- G says which outcomes fit.
+module _ {O : Type 0} (G : O → Type 0) where
+  abbrev pub FormP : Permit O → Type 0
+  FormP p = G (p .outcome) × FormO (p .obligations) × FormL (p .label) × FormF (p .facts)
+
+  abbrev pub FormN : Denial O → Type 0
+  FormN d = IfThere G (d .denied) × FormF (d .facts) × FormL (d .label) × FormL (d .reason)
+
+  abbrev pub FormD : Decision O → Type 0
+  FormD (permits p) = FormP p
+  FormD (denies d) = FormN d
+
+  abbrev pub FormG : Grant O → Type 0
+  FormG g = G (g .outcome) × FormO (g .obligations) × FormL (g .label) × FormL (g .reason)
+
+  abbrev mutual
+    pub Form : Policy O → Type 0
+    Form (permit o) = G o
+    Form deny = Unit {0}
+    Form (grant g c) = FormG g × FormC c × (wordsC c ≤ 4095)
+    Form (all ts) = (count ts ≤ 4095) × Forms ts
+    Form (any ts) = (count ts ≤ 4095) × Forms ts
+    Form (orElse a b) = Form a × Form b
+    Form (stored d) = FormD d
+
+    pub Forms : Policies O → Type 0
+    Forms pnil = Unit {0}
+    Forms (pcons t ts) = Form t × Forms ts
+
+-- Nesting, grant and condition together.
+abbrev mutual
+  pub depthC : Condition → ℕ
+  depthC always = 1
+  depthC never = 1
+  depthC (has f) = 1
+  depthC (notC c) = 1 + depthC c
+  depthC (allC cs) = 1 + depthCs cs
+  depthC (anyC cs) = 1 + depthCs cs
+
+  pub depthCs : Conditions → ℕ
+  depthCs cnil = 0
+  depthCs (ccons c cs) = max (depthC c) (depthCs cs)
+
+abbrev mutual
+  pub depth : {O : Type 0} → Policy O → ℕ
+  depth (permit o) = 1
+  depth deny = 1
+  depth (grant g c) = 1 + depthC c
+  depth (all ts) = 1 + depths ts
+  depth (any ts) = 1 + depths ts
+  depth (orElse a b) = 1 + max (depth a) (depth b)
+  depth (stored d) = 1
+
+  pub depths : {O : Type 0} → Policies O → ℕ
+  depths pnil = 0
+  depths (pcons t ts) = max (depth t) (depths ts)

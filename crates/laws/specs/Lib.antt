@@ -1,0 +1,10 @@
+pub mod Lists
+pub mod FieldLaws
+pub mod Each
+pub mod Names
+pub mod Size
+pub mod Form
+pub mod Lengths
+pub mod ReadBack
+pub mod ReadForm
+pub mod Canon

@@ -1,0 +1,418 @@
+-- What is written is read back: for a tree or record of good form, reading the words that it was written as gives it again.
+use mathlib.Core.Path.{_≡_, refl, sym, _∙_, ap, ap₂, subst}
+use mathlib.Core.Bool.{Bool, true, false, cond, not, _||_, _&&_}
+use mathlib.Core.Option.{Option, none, some}
+use mathlib.Core.List.{List, [], _∷_, _++_, append-assoc, append-nil, map, map-id}
+use Prim.Native.Nat.{ℕ, zero, suc, _+_, _-_, _*_, _/_, _%_, _≤_, _<_, max}
+use native.Mathlib.Omega.{arith}
+use borrow.Author.Tests.{ltb-true, leb-true, eqb-true, not-true, lt-ltb, le-ltb, le-leb}
+use lib.Dec.{eqb, ltb, leb, eqb-refl, lt→ltb, le→leb, ltb→lt, T}
+use lib.ListN.{length}
+use Rattle.model.specs.Fields.{pack}
+use Rattle.model.specs.Facts.{Presence, absent, present, unknown}
+use Rattle.model.specs.Condition.{Condition, always, never, has, notC, allC, anyC, Conditions, cnil, ccons}
+use Rattle.model.specs.Decision.{Shape, forbidden, hidden, Permit, Denial, Decision, permits, denies, held}
+use Rattle.model.specs.Policy.{Grant, Policy, permit, deny, grant, all, any, orElse, stored, Policies, pnil, pcons}
+use Rattle.model.specs.Partial.{ReducedPolicy, resolved, pending}
+use Rattle.model.specs.Consulted.{Entry, Consulted}
+use Rattle.model.specs.Record.{Record, tree}
+use Rattle.model.specs.Writing.{obligationBits, entryBits, word, shapeBit, marked, presenceField, entryField, countC, count, encodeC, encodeCs, deniedField, encodeD, encode, encodes, encodeR}
+use Rattle.model.specs.Reading.{Parsed, got, next, unless, readList, obligation, listed, entry, consulted, many, nodeC, readCondition, whole, mark, shapeOf, outcomeOf, deniedOf, grantMore, parseGrant, grantAt, more12, parse12, at12, more13, parse13, at13, asStored, node, readPolicy, node14, parse14, parse15, rest, leads, readLead, readRecord}
+use Rattle.laws.specs.Lists.{Distinct, Every, Below, eqb-sym, or-false-l, or-false-r, held-end, pigeon}
+use Rattle.laws.specs.FieldLaws.{Narrow, Passes, back-list}
+use Rattle.laws.specs.Form.{FormC, FormCs, IfThere, FormL, FormO, FormP, FormN, FormD, FormG, Form, Forms, depthC, depthCs, depth, depths}
+
+-- ---- tests
+unless-is : {A : Type 0} {b : Bool} (n : ℕ) (p : Parsed A) → b ≡ true → unless b n p ≡ p
+unless-is n p e = ap (λ x. unless x n p) e
+
+both-is : (a b : Bool) → a ≡ true → b ≡ true → (a && b) ≡ true
+both-is a b p q = rw (p, q)
+
+-- ---- a word's kind and its other number
+word-kind : (k r : ℕ) → r < 268435456 → word k r / 268435456 ≡ k
+word-kind k r h = omega arith
+
+word-rest : (k r : ℕ) → r < 268435456 → word k r % 268435456 ≡ r
+word-rest k r h = omega arith
+
+-- ---- conditions
+parseC-word : (d k r : ℕ) (ws : List ℕ) → r < 268435456 → readCondition (suc d) (word k r ∷ ws) ≡ nodeC (λ vs. readCondition d vs) k r ws
+parseC-word d k r ws h = λ i. nodeC (λ vs. readCondition d vs) (word-kind k r h i) (word-rest k r h i) ws
+
+mutual
+  pub back-C : (c : Condition) (d : ℕ) (ws : List ℕ) → depthC c ≤ d → FormC c → readCondition d (encodeC c ++ ws) ≡ got c ws
+  back-C always zero ws h f = let z : ⊥ = omega arith in absurd z
+  back-C always (suc d) ws h f = parseC-word d 0 0 ws (omega arith)
+  back-C never zero ws h f = let z : ⊥ = omega arith in absurd z
+  back-C never (suc d) ws h f = parseC-word d 1 0 ws (omega arith)
+  back-C (has n) zero ws h f = let z : ⊥ = omega arith in absurd z
+  back-C (has n) (suc d) ws h f = parseC-word d 2 n ws (omega arith) ∙ unless-is 8 (got (has n) ws) (lt-ltb n 1024 f)
+  back-C (notC c) zero ws h f = let z : ⊥ = omega arith in absurd z
+  back-C (notC c) (suc d) ws h f =
+      parseC-word d 3 0 (encodeC c ++ ws) (omega arith) ∙ ap (λ q. next q (λ x vs. got (notC x) vs)) (back-C c d ws (omega arith) f)
+  back-C (allC cs) zero ws h f = let z : ⊥ = omega arith in absurd z
+  back-C (allC cs) (suc d) ws h f =
+      parseC-word d 4 (countC cs) (encodeCs cs ++ ws) (omega (arith, f .0))
+      ∙ unless-is 8 (next (many cnil ccons (λ vs. readCondition d vs) (countC cs) (encodeCs cs ++ ws)) (λ xs vs. got (allC xs) vs)) (lt-ltb (countC cs) 4096 (omega (arith, f .0)))
+      ∙ ap (λ q. next q (λ xs vs. got (allC xs) vs)) (back-Cs cs d ws (omega arith) (f .1))
+  back-C (anyC cs) zero ws h f = let z : ⊥ = omega arith in absurd z
+  back-C (anyC cs) (suc d) ws h f =
+      parseC-word d 5 (countC cs) (encodeCs cs ++ ws) (omega (arith, f .0))
+      ∙ unless-is 8 (next (many cnil ccons (λ vs. readCondition d vs) (countC cs) (encodeCs cs ++ ws)) (λ xs vs. got (anyC xs) vs)) (lt-ltb (countC cs) 4096 (omega (arith, f .0)))
+      ∙ ap (λ q. next q (λ xs vs. got (anyC xs) vs)) (back-Cs cs d ws (omega arith) (f .1))
+
+  back-Cs : (cs : Conditions) (d : ℕ) (ws : List ℕ) → depthCs cs ≤ d → FormCs cs → many cnil ccons (λ vs. readCondition d vs) (countC cs) (encodeCs cs ++ ws) ≡ got cs ws
+  back-Cs cnil d ws h f = refl
+  back-Cs (ccons c cs) d ws h f =
+      ap (λ vs. many cnil ccons (λ us. readCondition d us) (suc (countC cs)) vs) (append-assoc (encodeC c) (encodeCs cs) ws)
+      ∙ ap (λ q. next q (λ a vs. next (many cnil ccons (λ us. readCondition d us) (countC cs) vs) (λ xs us. got (ccons a xs) us))) (back-C c d (encodeCs cs ++ ws) (omega arith) (f .0))
+      ∙ ap (λ q. next q (λ xs us. got (ccons c xs) us)) (back-Cs cs d ws (omega arith) (f .1))
+
+-- ---- obligations, facts, entries
+abbrev self : ℕ → ℕ
+self n = n
+
+-- None of the list is held yet.
+abbrev Fresh : List ℕ → List ℕ → Type 0
+Fresh sofar os = Every (λ o. held o sofar ≡ false) os
+
+fresh-end : (sofar : List ℕ) (o : ℕ) (os : List ℕ) → held o os ≡ false → Fresh sofar os → Fresh (sofar ++ o ∷ []) os
+fresh-end sofar o [] h f = tt
+fresh-end sofar o (p ∷ os) h f =
+    (held-end p o sofar (f .0) (eqb-sym o p (or-false-l (eqb o p) (held o os) h)), fresh-end sofar o os (or-false-r (eqb o p) (held o os) h) (f .1))
+
+fresh-nil : (os : List ℕ) → Fresh [] os
+fresh-nil [] = tt
+fresh-nil (o ∷ os) = (refl, fresh-nil os)
+
+obligation-passes : (os : List ℕ) (o : ℕ) → o < 64 → held o os ≡ false → obligation os o ≡ got o []
+obligation-passes os o h f = unless-is 8 (unless (not (held o os)) 9 (got o [])) (lt-ltb o 64 h) ∙ unless-is 9 (got o []) (ap not f)
+
+passes-obligations : (os sofar : List ℕ) → Below 64 os → Distinct os → Fresh sofar os → Passes self obligation sofar os
+passes-obligations [] sofar b d f = tt
+passes-obligations (o ∷ os) sofar b d f =
+    (obligation-passes sofar o (b .0) (f .0), passes-obligations os (sofar ++ o ∷ []) (b .1) (d .1) (fresh-end sofar o os (d .0) (f .1)))
+
+narrow-obligations : (os : List ℕ) → Below 64 os → Narrow obligationBits (map self os)
+narrow-obligations [] b = tt
+narrow-obligations (o ∷ os) b = (omega (arith, b .0), narrow-obligations os (b .1))
+
+passes-facts : (fs sofar : List ℕ) → Below 1024 fs → Passes self listed sofar fs
+passes-facts [] sofar b = tt
+passes-facts (f ∷ fs) sofar b = (unless-is 8 (got f []) (lt-ltb f 1024 (b .0)), passes-facts fs (sofar ++ f ∷ []) (b .1))
+
+narrow-facts : (fs : List ℕ) → Below 1024 fs → Narrow entryBits (map self fs)
+narrow-facts [] b = tt
+narrow-facts (f ∷ fs) b = (omega (arith, b .0), narrow-facts fs (b .1))
+
+back-obligations : (os : List ℕ) (ws : List ℕ) → FormO os → readList obligation obligationBits (length os) (pack obligationBits os ++ ws) ≡ got os ws
+back-obligations os ws f =
+    ap (λ l. readList obligation obligationBits (length os) (pack obligationBits l ++ ws)) (sym (map-id os))
+    ∙ back-list self obligation obligationBits 3 os ws refl (narrow-obligations os (f .1)) (passes-obligations os [] (f .1) (f .0) (fresh-nil os))
+
+back-facts : (fs : List ℕ) (ws : List ℕ) → Below 1024 fs → readList listed entryBits (length fs) (pack entryBits fs ++ ws) ≡ got fs ws
+back-facts fs ws f =
+    ap (λ l. readList listed entryBits (length fs) (pack entryBits l ++ ws)) (sym (map-id fs))
+    ∙ back-list self listed entryBits 1 fs ws refl (narrow-facts fs f) (passes-facts fs [] f)
+
+seen-back : (p : Presence) (f : ℕ) → entry (presenceField p) f ≡ got (record { fact = f; seen = p }) []
+seen-back absent f = refl
+seen-back present f = refl
+seen-back unknown f = refl
+
+seen-small : (p : Presence) → presenceField p ≤ 2
+seen-small absent = omega arith
+seen-small present = omega arith
+seen-small unknown = omega arith
+
+entry-passes : (es : Consulted) (x : Entry) → x .fact < 1024 → consulted es (entryField x) ≡ got x []
+entry-passes es x h =
+    let lo : entryField x % 16384 ≡ x .fact = omega arith in
+    let hi : entryField x / 16384 ≡ presenceField (x .seen) = omega arith in
+    (λ i. unless (ltb (lo i) 1024) 8 (entry (hi i) (lo i)))
+    ∙ unless-is 8 (entry (presenceField (x .seen)) (x .fact)) (lt-ltb (x .fact) 1024 h)
+    ∙ seen-back (x .seen) (x .fact)
+
+abbrev pub Facts : Consulted → Type 0
+Facts [] = Unit {0}
+Facts (x ∷ xs) = (x .fact < 1024) × Facts xs
+
+passes-entries : (es sofar : Consulted) → Facts es → Passes entryField consulted sofar es
+passes-entries [] sofar b = tt
+passes-entries (x ∷ es) sofar b = (entry-passes sofar x (b .0), passes-entries es (sofar ++ x ∷ []) (b .1))
+
+narrow-entries : (es : Consulted) → Facts es → Narrow entryBits (map entryField es)
+narrow-entries [] b = tt
+narrow-entries (x ∷ es) b = (omega (arith, b .0, seen-small (x .seen)), narrow-entries es (b .1))
+
+back-entries : (es : Consulted) (ws : List ℕ) → Facts es → readList consulted entryBits (length es) (pack entryBits (map entryField es) ++ ws) ≡ got es ws
+back-entries es ws f = back-list entryField consulted entryBits 1 es ws refl (narrow-entries es f) (passes-entries es [] f)
+
+-- ---- labels, reasons, shapes
+mark-back : (l : Option ℕ) → FormL l → mark (marked l) ≡ got l []
+mark-back none f = refl
+mark-back (some n) f =
+    let e : 32768 + n - 32768 ≡ n = omega arith in
+    (λ i. cond (le-ltb (32768 + n) 32768 (omega arith) i) (unless (eqb (32768 + n) 0) 8 (got none [])) (unless (ltb (32768 + n) 65536) 8 (got (some (32768 + n - 32768)) [])))
+    ∙ unless-is 8 (got (some (32768 + n - 32768)) []) (lt-ltb (32768 + n) 65536 (omega arith))
+    ∙ ap (λ x. got (some x) []) e
+
+marked-small : (l : Option ℕ) → FormL l → marked l < 65536
+marked-small none f = omega arith
+marked-small (some n) f = omega arith
+
+shape-back : (s : Shape) → shapeOf (shapeBit s) ≡ s
+shape-back forbidden = refl
+shape-back hidden = refl
+
+shape-small : (s : Shape) → shapeBit s ≤ 1
+shape-small forbidden = omega arith
+shape-small hidden = omega arith
+
+-- ---- policies. `number` writes an outcome in 16 number, `value` reads it.
+module _ {O : Type 0} (G : O → Type 0) (number : O → ℕ) (value : ℕ → Option O)
+    (small : (o : O) → G o → number o < 65536) (again : (o : O) → G o → value (number o) ≡ some o) where
+
+  outcome-back : {A : Type 0} (o : O) → G o → (k : O → Parsed A) → outcomeOf value (value (number o)) k ≡ k o
+  outcome-back o h k = ap (λ x. outcomeOf value x k) (again o h)
+
+  back-grantMore : (p : List ℕ → Parsed Condition) (g : Grant O) (c : Condition) (ws : List ℕ) → FormG G g → p (encodeC c ++ ws) ≡ got c ws
+      → grantMore value p (shapeBit (g .shape)) (length (g .obligations)) (g .outcome) (marked (g .label)) (marked (g .reason)) (pack obligationBits (g .obligations) ++ (encodeC c ++ ws)) ≡ got (grant g c) ws
+  back-grantMore p g c ws f h =
+      ap (λ q. next q (λ l _. next (mark (marked (g .reason))) (λ m _. next (readList obligation obligationBits (length (g .obligations)) (pack obligationBits (g .obligations) ++ (encodeC c ++ ws))) (λ os vs. next (p vs) (λ x us. got (grant (record { outcome = g .outcome; obligations = os; label = l; reason = m; shape = shapeOf (shapeBit (g .shape)) }) x) us))))) (mark-back (g .label) (f .2))
+      ∙ ap (λ q. next q (λ m _. next (readList obligation obligationBits (length (g .obligations)) (pack obligationBits (g .obligations) ++ (encodeC c ++ ws))) (λ os vs. next (p vs) (λ x us. got (grant (record { outcome = g .outcome; obligations = os; label = g .label; reason = m; shape = shapeOf (shapeBit (g .shape)) }) x) us)))) (mark-back (g .reason) (f .3))
+      ∙ ap (λ q. next q (λ os vs. next (p vs) (λ x us. got (grant (record { outcome = g .outcome; obligations = os; label = g .label; reason = g .reason; shape = shapeOf (shapeBit (g .shape)) }) x) us))) (back-obligations (g .obligations) (encodeC c ++ ws) (f .1))
+      ∙ ap (λ q. next q (λ x us. got (grant (record { outcome = g .outcome; obligations = g .obligations; label = g .label; reason = g .reason; shape = shapeOf (shapeBit (g .shape)) }) x) us)) h
+      ∙ ap (λ s. got (grant (record { outcome = g .outcome; obligations = g .obligations; label = g .label; reason = g .reason; shape = s }) c) ws) (shape-back (g .shape))
+
+  obligations-few : (os : List ℕ) → FormO os → length os ≤ 64
+  obligations-few os f = pigeon 64 os (f .0) (f .1)
+
+  back-grant : (p : List ℕ → Parsed Condition) (g : Grant O) (c : Condition) (ws : List ℕ) → FormG G g → p (encodeC c ++ ws) ≡ got c ws
+      → grantAt value p (shapeBit (g .shape) * 134217728 + length (g .obligations) * 1048576 + number (g .outcome)) ((marked (g .label) * 65536 + marked (g .reason)) ∷ (pack obligationBits (g .obligations) ++ (encodeC c ++ ws))) ≡ got (grant g c) ws
+  back-grant p g c ws f h =
+      let n = length (g .obligations) in
+      let sb = shapeBit (g .shape) in
+      let o = number (g .outcome) in
+      let r = sb * 134217728 + n * 1048576 + o in
+      let w = marked (g .label) * 65536 + marked (g .reason) in
+      let vs = pack obligationBits (g .obligations) ++ (encodeC c ++ ws) in
+      let few = obligations-few (g .obligations) (f .1) in
+      let so = small (g .outcome) (f .0) in
+      let ss = shape-small (g .shape) in
+      let mr = marked-small (g .reason) (f .3) in
+      let e₁ : r / 134217728 ≡ sb = omega arith in
+      let e₂ : r / 1048576 % 128 ≡ n = omega arith in
+      let e₃ : r / 65536 % 16 ≡ 0 = omega arith in
+      let e₄ : r % 65536 ≡ o = omega arith in
+      let ml = marked-small (g .label) (f .2) in
+      let e₅ : w / 65536 ≡ marked (g .label) = omega arith in
+      let e₆ : w % 65536 ≡ marked (g .reason) = omega arith in
+      (λ i. parseGrant value p (e₁ i) (e₂ i) (e₃ i) (e₄ i) (w ∷ vs))
+      ∙ unless-is 8 (outcomeOf value (value o) (λ x. grantMore value p sb n x (w / 65536) (w % 65536) vs)) (le-leb n 64 few)
+      ∙ outcome-back (g .outcome) (f .0) (λ x. grantMore value p sb n x (w / 65536) (w % 65536) vs)
+      ∙ (λ i. grantMore value p sb n (g .outcome) (e₅ i) (e₆ i) vs)
+      ∙ back-grantMore p g c ws f h
+
+  back-12 : (q : Permit O) (ws : List ℕ) → FormP G q
+      → at12 value (length (q .obligations) * 1048576 + number (q .outcome)) ((marked (q .label) * 65536 + length (q .facts)) ∷ ((pack obligationBits (q .obligations) ++ pack entryBits (q .facts)) ++ ws)) ≡ got (permits q) ws
+  back-12 q ws f =
+      let n = length (q .obligations) in
+      let m = length (q .facts) in
+      let o = number (q .outcome) in
+      let r = n * 1048576 + o in
+      let w = marked (q .label) * 65536 + m in
+      let vs = (pack obligationBits (q .obligations) ++ pack entryBits (q .facts)) ++ ws in
+      let vs′ = pack obligationBits (q .obligations) ++ (pack entryBits (q .facts) ++ ws) in
+      let few = obligations-few (q .obligations) (f .1) in
+      let so = small (q .outcome) (f .0) in
+      let fm : m ≤ 4095 = f .3 .0 in
+      let e₁ : r / 134217728 ≡ 0 = omega arith in
+      let e₂ : r / 1048576 % 128 ≡ n = omega arith in
+      let e₃ : r / 65536 % 16 ≡ 0 = omega arith in
+      let e₄ : r % 65536 ≡ o = omega arith in
+      let ml = marked-small (q .label) (f .2) in
+      let e₅ : w / 65536 ≡ marked (q .label) = omega arith in
+      let e₆ : w % 65536 ≡ m = omega arith in
+      let mk : Option ℕ → List ℕ → List ℕ → List ℕ → Parsed (Decision O) = λ l os fs us. got (permits (record { outcome = q .outcome; obligations = os; label = l; facts = fs })) us in
+      (λ i. parse12 value (e₁ i) (e₂ i) (e₃ i) (e₄ i) (w ∷ vs))
+      ∙ unless-is 8 (outcomeOf value (value o) (λ x. more12 value n x (w / 65536) (w % 65536) vs)) (le-leb n 64 few)
+      ∙ outcome-back (q .outcome) (f .0) (λ x. more12 value n x (w / 65536) (w % 65536) vs)
+      ∙ (λ i. more12 value n (q .outcome) (e₅ i) (e₆ i) (append-assoc (pack obligationBits (q .obligations)) (pack entryBits (q .facts)) ws i))
+      ∙ ap (λ x. next x (λ l _. unless (ltb m 4096) 8 (next (readList obligation obligationBits n vs′) (λ os us. next (readList listed entryBits m us) (λ fs ts. mk l os fs ts))))) (mark-back (q .label) (f .2))
+      ∙ unless-is 8 (next (readList obligation obligationBits n vs′) (λ os us. next (readList listed entryBits m us) (λ fs ts. mk (q .label) os fs ts))) (lt-ltb m 4096 (omega arith))
+      ∙ ap (λ x. next x (λ os us. next (readList listed entryBits m us) (λ fs ts. mk (q .label) os fs ts))) (back-obligations (q .obligations) (pack entryBits (q .facts) ++ ws) (f .1))
+      ∙ ap (λ x. next x (λ fs ts. mk (q .label) (q .obligations) fs ts)) (back-facts (q .facts) ws (f .3 .1))
+
+  -- the denied outcome, by its present bit
+  abbrev hereBit : Option O → ℕ
+  hereBit none = 0
+  hereBit (some o) = 1
+
+  abbrev hereBits : Option O → ℕ
+  hereBits none = 0
+  hereBits (some o) = number o
+
+  denied-split : (x : Option O) → deniedField number x ≡ hereBit x * 67108864 + hereBits x
+  denied-split none = omega arith
+  denied-split (some o) = omega arith
+
+  denied-small : (x : Option O) → IfThere G x → hereBits x < 65536
+  denied-small none h = omega arith
+  denied-small (some o) h = small o h
+
+  here-small : (x : Option O) → hereBit x ≤ 1
+  here-small none = omega arith
+  here-small (some o) = omega arith
+
+  denied-back : {A : Type 0} (x : Option O) → IfThere G x → (k : Option O → Parsed A) → deniedOf value (hereBit x) (hereBits x) k ≡ k x
+  denied-back none h k = refl
+  denied-back (some o) h k = outcome-back o h (λ y. k (some y))
+
+  back-13 : (q : Denial O) (ws : List ℕ) → FormN G q
+      → at13 value (shapeBit (q .shape) * 134217728 + deniedField number (q .denied)) ((marked (q .label) * 65536 + marked (q .reason)) ∷ length (q .facts) ∷ (pack entryBits (q .facts) ++ ws)) ≡ got (denies q) ws
+  back-13 q ws f =
+      let m = length (q .facts) in
+      let sb = shapeBit (q .shape) in
+      let hb = hereBit (q .denied) in
+      let v = hereBits (q .denied) in
+      let r = sb * 134217728 + deniedField number (q .denied) in
+      let w = marked (q .label) * 65536 + marked (q .reason) in
+      let vs = pack entryBits (q .facts) ++ ws in
+      let ds = denied-split (q .denied) in
+      let sv = denied-small (q .denied) (f .0) in
+      let sh = here-small (q .denied) in
+      let ss = shape-small (q .shape) in
+      let mr = marked-small (q .reason) (f .3) in
+      let fm : m ≤ 4095 = f .1 .0 in
+      let e₁ : r / 134217728 ≡ sb = omega arith in
+      let e₂ : r / 67108864 % 2 ≡ hb = omega arith in
+      let e₃ : r / 65536 % 1024 ≡ 0 = omega arith in
+      let e₄ : r % 65536 ≡ v = omega arith in
+      let ml = marked-small (q .label) (f .2) in
+      let e₅ : w / 65536 ≡ marked (q .label) = omega arith in
+      let e₆ : w % 65536 ≡ marked (q .reason) = omega arith in
+      let mk : Option ℕ → Option ℕ → List ℕ → List ℕ → Parsed (Decision O) = λ l e fs us. got (denies (record { denied = q .denied; facts = fs; label = l; reason = e; shape = shapeOf sb })) us in
+      (λ i. parse13 value (e₁ i) (e₂ i) (e₃ i) (e₄ i) (w ∷ m ∷ vs))
+      ∙ denied-back (q .denied) (f .0) (λ den. more13 value sb den (w / 65536) (w % 65536) (m ∷ vs))
+      ∙ (λ i. more13 value sb (q .denied) (e₅ i) (e₆ i) (m ∷ vs))
+      ∙ ap (λ x. next x (λ l _. next (mark (marked (q .reason))) (λ e _. unless (ltb m 4096) 8 (next (readList listed entryBits m vs) (λ fs us. mk l e fs us))))) (mark-back (q .label) (f .2))
+      ∙ ap (λ x. next x (λ e _. unless (ltb m 4096) 8 (next (readList listed entryBits m vs) (λ fs us. mk (q .label) e fs us)))) (mark-back (q .reason) (f .3))
+      ∙ unless-is 8 (next (readList listed entryBits m vs) (λ fs us. mk (q .label) (q .reason) fs us)) (lt-ltb m 4096 (omega arith))
+      ∙ ap (λ x. next x (λ fs us. mk (q .label) (q .reason) fs us)) (back-facts (q .facts) ws (f .1 .1))
+      ∙ ap (λ s. got (denies (record { denied = q .denied; facts = q .facts; label = q .label; reason = q .reason; shape = s })) ws) (shape-back (q .shape))
+
+  -- ---- trees
+  parse-word : (res : Bool) (d k r : ℕ) (ws : List ℕ) → r < 268435456 → readPolicy value res (suc d) (word k r ∷ ws) ≡ node value res (λ vs. readCondition d vs) (λ vs. readPolicy value res d vs) k r ws
+  parse-word res d k r ws h = λ i. node value res (λ vs. readCondition d vs) (λ vs. readPolicy value res d vs) (word-kind k r h i) (word-rest k r h i) ws
+
+  back-D : (d : ℕ) (e : Decision O) (ws : List ℕ) → FormD G e → readPolicy value true (suc d) (encodeD number e ++ ws) ≡ got (stored e) ws
+  back-D d (permits q) ws f =
+      let few = obligations-few (q .obligations) (f .1) in
+      let so = small (q .outcome) (f .0) in
+      parse-word true d 12 (length (q .obligations) * 1048576 + number (q .outcome)) ((marked (q .label) * 65536 + length (q .facts)) ∷ ((pack obligationBits (q .obligations) ++ pack entryBits (q .facts)) ++ ws)) (omega arith)
+      ∙ ap (asStored value) (back-12 q ws f)
+  back-D d (denies q) ws f =
+      let ds = denied-split (q .denied) in
+      let sv = denied-small (q .denied) (f .0) in
+      let sh = here-small (q .denied) in
+      let ss = shape-small (q .shape) in
+      parse-word true d 13 (shapeBit (q .shape) * 134217728 + deniedField number (q .denied)) ((marked (q .label) * 65536 + marked (q .reason)) ∷ length (q .facts) ∷ (pack entryBits (q .facts) ++ ws)) (omega arith)
+      ∙ ap (asStored value) (back-13 q ws f)
+
+  mutual
+    pub back-T : (t : Policy O) (d : ℕ) (ws : List ℕ) → depth t ≤ d → Form G t → readPolicy value true d (encode number t ++ ws) ≡ got t ws
+    back-T (permit o) zero ws h f = let z : ⊥ = omega arith in absurd z
+    back-T (permit o) (suc d) ws h f =
+        let so = small o f in
+        let e₁ : number o / 65536 ≡ 0 = omega arith in
+        let e₂ : number o % 65536 ≡ number o = omega arith in
+        parse-word true d 6 (number o) ws (omega arith)
+        ∙ (λ i. unless (eqb (e₁ i) 0) 8 (outcomeOf value (value (e₂ i)) (λ x. got (permit x) ws)))
+        ∙ outcome-back o f (λ x. got (permit x) ws)
+    back-T deny zero ws h f = let z : ⊥ = omega arith in absurd z
+    back-T deny (suc d) ws h f = parse-word true d 7 0 ws (omega arith)
+    back-T (grant g c) zero ws h f = let z : ⊥ = omega arith in absurd z
+    back-T (grant g c) (suc d) ws h f =
+        let few = obligations-few (g .obligations) (f .0 .1) in
+        let so = small (g .outcome) (f .0 .0) in
+        let ss = shape-small (g .shape) in
+        let r = shapeBit (g .shape) * 134217728 + length (g .obligations) * 1048576 + number (g .outcome) in
+        let w = marked (g .label) * 65536 + marked (g .reason) in
+        parse-word true d 8 r (w ∷ ((pack obligationBits (g .obligations) ++ encodeC c) ++ ws)) (omega arith)
+        ∙ ap (λ vs. grantAt value (λ us. readCondition d us) r (w ∷ vs)) (append-assoc (pack obligationBits (g .obligations)) (encodeC c) ws)
+        ∙ back-grant (λ us. readCondition d us) g c ws (f .0) (back-C c d ws (omega arith) (f .1))
+    back-T (all ts) zero ws h f = let z : ⊥ = omega arith in absurd z
+    back-T (all ts) (suc d) ws h f =
+        parse-word true d 9 (count ts) (encodes number ts ++ ws) (omega (arith, f .0))
+        ∙ unless-is 8 (next (many pnil pcons (λ vs. readPolicy value true d vs) (count ts) (encodes number ts ++ ws)) (λ xs vs. got (all xs) vs)) (lt-ltb (count ts) 4096 (omega (arith, f .0)))
+        ∙ ap (λ q. next q (λ xs vs. got (all xs) vs)) (back-Ts ts d ws (omega arith) (f .1))
+    back-T (any ts) zero ws h f = let z : ⊥ = omega arith in absurd z
+    back-T (any ts) (suc d) ws h f =
+        parse-word true d 10 (count ts) (encodes number ts ++ ws) (omega (arith, f .0))
+        ∙ unless-is 8 (next (many pnil pcons (λ vs. readPolicy value true d vs) (count ts) (encodes number ts ++ ws)) (λ xs vs. got (any xs) vs)) (lt-ltb (count ts) 4096 (omega (arith, f .0)))
+        ∙ ap (λ q. next q (λ xs vs. got (any xs) vs)) (back-Ts ts d ws (omega arith) (f .1))
+    back-T (orElse a b) zero ws h f = let z : ⊥ = omega arith in absurd z
+    back-T (orElse a b) (suc d) ws h f =
+        parse-word true d 11 0 ((encode number a ++ encode number b) ++ ws) (omega arith)
+        ∙ ap (λ us. next (readPolicy value true d us) (λ x vs. next (readPolicy value true d vs) (λ y ts. got (orElse x y) ts))) (append-assoc (encode number a) (encode number b) ws)
+        ∙ ap (λ q. next q (λ x vs. next (readPolicy value true d vs) (λ y ts. got (orElse x y) ts))) (back-T a d (encode number b ++ ws) (omega arith) (f .0))
+        ∙ ap (λ q. next q (λ y ts. got (orElse a y) ts)) (back-T b d ws (omega arith) (f .1))
+    back-T (stored e) zero ws h f = let z : ⊥ = omega arith in absurd z
+    back-T (stored e) (suc d) ws h f = back-D d e ws f
+
+    back-Ts : (ts : Policies O) (d : ℕ) (ws : List ℕ) → depths ts ≤ d → Forms G ts → many pnil pcons (λ vs. readPolicy value true d vs) (count ts) (encodes number ts ++ ws) ≡ got ts ws
+    back-Ts pnil d ws h f = refl
+    back-Ts (pcons t ts) d ws h f =
+        ap (λ vs. many pnil pcons (λ us. readPolicy value true d us) (suc (count ts)) vs) (append-assoc (encode number t) (encodes number ts) ws)
+        ∙ ap (λ q. next q (λ a vs. next (many pnil pcons (λ us. readPolicy value true d us) (count ts) vs) (λ xs us. got (pcons a xs) us))) (back-T t d (encodes number ts ++ ws) (omega arith) (f .0))
+        ∙ ap (λ q. next q (λ xs us. got (pcons t xs) us)) (back-Ts ts d ws (omega arith) (f .1))
+
+  -- ---- records
+  back-14 : (e : Decision O) (ws : List ℕ) → FormD G e → parse14 value (encodeD number e ++ ws) ≡ got (resolved e) ws
+  back-14 (permits q) ws f =
+      let few = obligations-few (q .obligations) (f .1) in
+      let so = small (q .outcome) (f .0) in
+      let r = length (q .obligations) * 1048576 + number (q .outcome) in
+      let hr : r < 268435456 = omega arith in
+      let vs = (marked (q .label) * 65536 + length (q .facts)) ∷ ((pack obligationBits (q .obligations) ++ pack entryBits (q .facts)) ++ ws) in
+      (λ i. unless (leb 12 (word-kind 12 r hr i)) 5 (node14 value (word-kind 12 r hr i - 12) (word-rest 12 r hr i) vs))
+      ∙ ap (λ x. next x (λ d us. got (resolved d) us)) (back-12 q ws f)
+  back-14 (denies q) ws f =
+      let ds = denied-split (q .denied) in
+      let sv = denied-small (q .denied) (f .0) in
+      let sh = here-small (q .denied) in
+      let ss = shape-small (q .shape) in
+      let r = shapeBit (q .shape) * 134217728 + deniedField number (q .denied) in
+      let hr : r < 268435456 = omega arith in
+      let vs = (marked (q .label) * 65536 + marked (q .reason)) ∷ length (q .facts) ∷ (pack entryBits (q .facts) ++ ws) in
+      (λ i. unless (leb 12 (word-kind 13 r hr i)) 5 (node14 value (word-kind 13 r hr i - 12) (word-rest 13 r hr i) vs))
+      ∙ ap (λ x. next x (λ d us. got (resolved d) us)) (back-13 q ws f)
+
+  back-rest : (p : List ℕ → Parsed (ReducedPolicy O)) (b : ReducedPolicy O) (es : Consulted) (vs ws : List ℕ) → length es < 4096 → Facts es → p (vs ++ ws) ≡ got b ws
+      → rest value p (length es) ((pack entryBits (map entryField es) ++ vs) ++ ws) ≡ got (record { body = b; log = es }) ws
+  back-rest p b es vs ws n f h =
+      ap (λ us. rest value p (length es) us) (append-assoc (pack entryBits (map entryField es)) vs ws)
+      ∙ unless-is 8 (next (readList consulted entryBits (length es) (pack entryBits (map entryField es) ++ (vs ++ ws))) (λ xs us. next (p us) (λ y ts. got (record { body = y; log = xs }) ts))) (lt-ltb (length es) 4096 n)
+      ∙ ap (λ q. next q (λ xs us. next (p us) (λ y ts. got (record { body = y; log = xs }) ts))) (back-entries es (vs ++ ws) f)
+      ∙ ap (λ q. next q (λ y ts. got (record { body = y; log = es }) ts)) h
+
+  lead-word : (k : ℕ) (n : ℕ) (vs : List ℕ) → n < 268435456 → readLead value (word k n ∷ vs) ≡ unless (leb 14 k) 5 (leads value (k - 14) n vs)
+  lead-word k n vs h = λ i. unless (leb 14 (word-kind k n h i)) 5 (leads value (word-kind k n h i - 14) (word-rest k n h i) vs)
+
+  back-lead : (b : ReducedPolicy O) (es : Consulted) (ws : List ℕ) → length es < 4096 → Facts es → Form G (tree (record { body = b; log = es })) → depth (tree (record { body = b; log = es })) ≤ 32
+      → readLead value (encodeR number (record { body = b; log = es }) ++ ws) ≡ got (record { body = b; log = es }) ws
+  back-lead (resolved e) es ws n f g h =
+      lead-word 14 (length es) ((pack entryBits (map entryField es) ++ encodeD number e) ++ ws) (omega arith)
+      ∙ back-rest (parse14 value) (resolved e) es (encodeD number e) ws n f (back-14 e ws g)
+  back-lead (pending t) es ws n f g h =
+      lead-word 15 (length es) ((pack entryBits (map entryField es) ++ encode number t) ++ ws) (omega arith)
+      ∙ back-rest (parse15 value) (pending t) es (encode number t) ws n f (ap (λ q. next q (λ x us. got (pending x) us)) (back-T t 32 ws h g))
+
+  -- A record of good form is read back from its words.
+  pub back-R : (r : Record O) → length (r .log) < 4096 → Facts (r .log) → Form G (tree r) → depth (tree r) ≤ 32 → length (encodeR number r) ≤ 16384 → readRecord value (encodeR number r) ≡ got r []
+  back-R r n f g h k =
+      unless-is 1 (whole (readLead value (encodeR number r))) (both-is (leb 1 (length (encodeR number r))) (leb (length (encodeR number r)) 16384) (le-leb 1 (length (encodeR number r)) (omega arith)) (le-leb (length (encodeR number r)) 16384 k))
+      ∙ ap (λ us. whole (readLead value us)) (sym (append-nil (encodeR number r)))
+      ∙ ap (whole) (back-lead (r .body) (r .log) [] n f g h)

@@ -1,23 +1,81 @@
 -- The first fault of a table, for either kind of table. Assumes nothing.
 use mathlib.Core.Path.{_≡_, refl, sym, ap, _∙_}
-use mathlib.Core.Bool.{Bool, true, false, _&&_}
+use mathlib.Core.Bool.{Bool, true, false, _&&_, Bool·beq, and-assoc}
 use mathlib.Core.Option.{Option, none, some}
 use mathlib.Core.List.{List, [], _∷_, _++_}
-use Prim.Native.Nat.{ℕ, zero, suc, _+_, _≤_, _<_}
+use Prim.Native.Nat.{ℕ, zero, suc, _+_, _*_, _/_, _≤_, _<_}
+use native.Mathlib.Numerals.{add-one}
+use native.Mathlib.Omega.{arith}
+use lib.Bits.{bitAnd, bitOr, and-le-l, and-le-r, or-add-and}
+use lib.Dec.{eqb, eqb·suc-zero}
+use lib.ListN.{length, getD, drop, drop-of-length-le}
+use lib.Seq.{drop-cons}
+use borrow.Author.Tests.{eq-eqb, ne-eqb}
 use Rattle.model.specs.Fields.{split}
-use Rattle.model.specs.Facts.{TableKind, tableFields, fieldFault, orFault, firstFault}
+use Rattle.model.specs.Facts.{TableKind, partialFacts, knownFacts, tableFields, fieldFault, orFault, firstFault}
 use Rattle.facts.specs.Answers.{noFault}
+use Rattle.facts.proofs.Fields.{length-fields}
 
-pub or-assoc : (a b c : Option ℕ) → orFault (orFault a b) c ≡ orFault a (orFault b c)
+-- ---- faults, one after the other
+or-assoc : (a b c : Option ℕ) → orFault (orFault a b) c ≡ orFault a (orFault b c)
 or-assoc none b c = refl
 or-assoc (some n) b c = refl
 
-pub noFault-or : (a b : Option ℕ) → noFault (orFault a b) ≡ (noFault a && noFault b)
+noFault-or : (a b : Option ℕ) → noFault (orFault a b) ≡ (noFault a && noFault b)
 noFault-or none b = refl
 noFault-or (some n) b = refl
 
+pub none-is : (a : Option ℕ) → noFault a ≡ true → a ≡ none
+none-is none h = refl
+none-is (some n) h = let z : _≡_ {A = ℕ} 0 1 = cc in absurd (omega arith)
+
+-- ---- the marks of a byte
+-- A field at fault has a mark: its upper bit and, unless the table is known, its lower bit.
+abbrev pub marksOf : TableKind → ℕ → ℕ
+marksOf partialFacts b = bitAnd (bitAnd b (b / 2)) 85
+marksOf knownFacts b = bitAnd b 170
+
+left : (a b : Bool) → (a && b) ≡ true → a ≡ true
+left true b t = refl
+left false b t = t
+
+right : (a b : Bool) → (a && b) ≡ true → b ≡ true
+right true b t = t
+right false b t = cc
+
+-- What holds of each number below a bound, as a test that is computed.
+abbrev each : (ℕ → Bool) → ℕ → Bool
+each f zero = true
+each f (suc n) = f zero && each (λ m. f (suc m)) n
+
+of-each : (f : ℕ → Bool) (n : ℕ) → each f n ≡ true → (m : ℕ) → m < n → f m ≡ true
+of-each f zero t m h = absurd (omega arith)
+of-each f (suc n) t zero h = left (f zero) (each (λ m. f (suc m)) n) t
+of-each f (suc n) t (suc m) h = of-each (λ m. f (suc m)) n (right (f zero) (each (λ m. f (suc m)) n) t) m (omega arith)
+
+same-test : (a b : Bool) → Bool·beq a b ≡ true → a ≡ b
+same-test true true t = refl
+same-test false false t = refl
+same-test true false t = cc
+same-test false true t = cc
+
+or-zero : (a b : ℕ) → eqb (bitOr a b) 0 ≡ (eqb a 0 && eqb b 0)
+or-zero zero b = refl
+or-zero (suc a) b = rw eqb·suc-zero (ne-eqb (bitOr (suc a) b) 0 (λ e. omega (arith, or-add-and (suc a) b, and-le-r (suc a) b)))
+
+-- A byte has no mark exactly where it has no fault: computed for each byte of either kind.
+abbrev marksRight : TableKind → ℕ → Bool
+marksRight k b = Bool·beq (eqb (marksOf k b) 0) (noFault (firstFault k (split 2 4 b)))
+
+each-byte : (k : TableKind) → each (marksRight k) 256 ≡ true
+each-byte partialFacts = refl
+each-byte knownFacts = refl
+
+pub marks-say : (k : TableKind) (b : ℕ) → b < 256 → eqb (marksOf k b) 0 ≡ noFault (firstFault k (split 2 4 b))
+marks-say k b h = same-test (eqb (marksOf k b) 0) (noFault (firstFault k (split 2 4 b))) (of-each (marksRight k) 256 (each-byte k) b h)
+
 module _ (k : TableKind) where
-  pub fault-append : (xs ys : List ℕ) → firstFault k (xs ++ ys) ≡ orFault (firstFault k xs) (firstFault k ys)
+  fault-append : (xs ys : List ℕ) → firstFault k (xs ++ ys) ≡ orFault (firstFault k xs) (firstFault k ys)
   fault-append [] ys = refl
   fault-append (x ∷ xs) ys = rw (or-assoc, fault-append xs ys)
 
@@ -25,3 +83,21 @@ module _ (k : TableKind) where
   pub byte-first : (b : ℕ) (bs : List ℕ) →
       noFault (firstFault k (tableFields (b ∷ bs))) ≡ (noFault (firstFault k (split 2 4 b)) && noFault (firstFault k (tableFields bs)))
   byte-first b bs = ap noFault (fault-append (split 2 4 b) (tableFields bs)) ∙ noFault-or (firstFault k (split 2 4 b)) (firstFault k (tableFields bs))
+
+  -- A byte is passed, and its marks are kept beside those of the bytes before.
+  pub pass-byte : (bs : List ℕ) (i m r : ℕ) → i < length bs → eqb r 0 ≡ noFault (firstFault k (split 2 4 (getD bs i 0))) →
+      (eqb m 0 && noFault (firstFault k (tableFields (drop i bs)))) ≡ (eqb (bitOr m r) 0 && noFault (firstFault k (tableFields (drop (i + 1) bs))))
+  pass-byte bs i m r h e = rw (drop-cons bs i 0, byte-first, ← e, or-zero, and-assoc, add-one)
+
+  -- A field is passed: its fault comes first.
+  pub pass-field : (bs : List ℕ) (f field : ℕ) (fault : Option ℕ) → f < 4 * length bs →
+      field ≡ getD (tableFields bs) f 0 → fault ≡ fieldFault k field →
+      firstFault k (drop f (tableFields bs)) ≡ orFault fault (firstFault k (drop (f + 1) (tableFields bs)))
+  pass-field bs f field fault h e g =
+      let p : f < length (tableFields bs) = omega (arith, length-fields bs) in
+      rw (drop-cons (tableFields bs) f 0, g, e, add-one)
+
+  pub no-field-left : (bs : List ℕ) (f : ℕ) → 4 * length bs ≤ f → firstFault k (drop f (tableFields bs)) ≡ none
+  no-field-left bs f h =
+      let p : length (tableFields bs) ≤ f = omega (arith, length-fields bs) in
+      rw (drop-of-length-le (tableFields bs) p)

@@ -8,3 +8,4 @@ pub mod Lengths
 pub mod ReadBack
 pub mod ReadForm
 pub mod Canon
+pub mod Products

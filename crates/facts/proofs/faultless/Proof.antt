@@ -1,13 +1,15 @@
 -- `facts::faultless` meets its contract. The loop's invariant: the table is faultless exactly where there is no mark yet and the bytes left are faultless. Assumes nothing.
 use mathlib.Core.Path.{_≡_, refl, sym, ap, _∙_}
-use mathlib.Core.Bool.{_&&_}
+use mathlib.Core.Bool.{_&&_, and-true}
+use mathlib.Core.List.{[]}
 use Prim.Native.Nat.{ℕ, _-_, _≤_}
 use native.Mathlib.Omega.{arith}
 use lib.Dec.{eqb}
-use lib.ListN.{length, drop}
+use lib.ListN.{length, drop, drop-of-length-le}
 use borrow.Author.Needs.{needs}
 use Rattle.model.specs.Facts.{tableFields, firstFault}
 use Rattle.facts.specs.Answers.{kindOf, noFault}
+use Rattle.facts.proofs.Faults.{pass-byte}
 use Rattle.facts.proofs.faultless.Statement.{statement}
 use Rattle.facts.proofs.faultless.Tie as tie
 
@@ -20,7 +22,7 @@ abbrev μ-loop : tie.MeasureT-loop
 μ-loop facts kind marked₀ i₀ marked i = length facts - i
 
 loop-holds : tie.Need-loop-holds Inv-loop μ-loop
-loop-holds c = ?
+loop-holds c = search needs
 
 shared-slice-read-marks : tie.Need-shared-slice-read-marks Inv-loop μ-loop
 shared-slice-read-marks c = search needs
@@ -35,10 +37,23 @@ loop-less : tie.Need-loop-less Inv-loop μ-loop
 loop-less c = search needs
 
 loop-again : tie.Need-loop-again Inv-loop μ-loop
-loop-again c = ?
+loop-again c =
+    (search needs,
+    c .before .before .before .loop .inv .1
+    ∙ pass-byte
+    (kindOf (c .before .before .before .before .before .args .kind))
+    (c .before .before .before .before .before .args .facts .now)
+    (c .before .before .before .loop .i)
+    (c .before .before .before .loop .marked)
+    (c .marks .result)
+    (c .before .before .loop-test .taken)
+    (c .marks .ensures))
 
 returns : tie.Need-returns Inv-loop μ-loop
-returns c = ?
+returns c =
+    let over : drop (c .before .loop .i) (c .before .before .before .args .facts .now) ≡ [] =
+        drop-of-length-le (c .before .before .before .args .facts .now) (c .loop-test .left) in
+    sym (c .before .loop .inv .1 ∙ rw (over, and-true))
 
 pub faultless-spec : {M : Type 1} → statement M
 faultless-spec =

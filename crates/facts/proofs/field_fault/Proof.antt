@@ -21,10 +21,10 @@ module _ (k : TableKind) where
   reserved (suc (suc (suc field))) h = refl
 
 returns : tie.Need-returns
-returns c = ?
+returns c = known-one _ _ (c .if1 .taken)
 
 returns-2 : tie.Need-returns-2
-returns-2 c = ?
+returns-2 c = reserved _ _ (c .if2 .taken)
 
 enum-told : tie.Need-enum-told
 enum-told c = search needs
@@ -33,10 +33,14 @@ enum-told-2 : tie.Need-enum-told-2
 enum-told-2 c = search needs
 
 returns-3 : tie.Need-returns-3
-returns-3 c = ?
+returns-3 c =
+    let two : c .before .before .before .before .args .field ≡ 2 = omega arith in
+    rw (two, c .enum-told .given .1)
 
 returns-4 : tie.Need-returns-4
-returns-4 c = ?
+returns-4 c =
+    let two : c .before .before .before .before .args .field ≡ 2 = omega arith in
+    rw (two, c .enum-told2 .given .1)
 
 pub field-fault-spec : {M : Type 1} → statement M
 field-fault-spec = tie.close (tie.spec returns returns-2 enum-told enum-told-2 returns-3 returns-4)

@@ -1,11 +1,13 @@
 -- `facts::first_fault` meets its contract. The loop's invariant: no field passed is at fault. Assumes nothing.
 use mathlib.Core.Path.{_≡_, refl, sym, ap, _∙_}
-use Prim.Native.Nat.{ℕ, _*_, _-_, _≤_}
+use Prim.Native.Nat.{ℕ, _+_, _*_, _-_, _≤_}
 use native.Mathlib.Omega.{arith}
 use lib.ListN.{length, drop}
 use borrow.Author.Needs.{needs}
-use Rattle.model.specs.Facts.{tableFields, firstFault}
+use Rattle.model.specs.Facts.{tableFields, orFault, firstFault}
 use Rattle.facts.specs.Answers.{kindOf, faultOf}
+use Rattle.facts.specs.declared.TableFault.{TableFault}
+use Rattle.facts.proofs.Faults.{pass-field, no-field-left}
 use Rattle.facts.proofs.first_fault.Statement.{statement}
 use Rattle.facts.proofs.first_fault.Tie as tie
 
@@ -24,7 +26,7 @@ mul-end : tie.Need-mul-end Inv-loop μ-loop
 mul-end c = search needs
 
 loop-holds : tie.Need-loop-holds Inv-loop μ-loop
-loop-holds c = ?
+loop-holds c = search needs
 
 field-requires : tie.Need-field-requires Inv-loop μ-loop
 field-requires c κs = search needs
@@ -42,16 +44,47 @@ loop-less : tie.Need-loop-less Inv-loop μ-loop
 loop-less c = search needs
 
 loop-again : tie.Need-loop-again Inv-loop μ-loop
-loop-again c = ?
+loop-again c =
+    let turn = c .before .before .before .before .before in
+    let after = firstFault (kindOf (turn .before .before .args .kind)) (drop (turn .loop .fact + 1) (tableFields (turn .before .before .args .facts .now))) in
+    (search needs, search needs, search needs,
+    turn .loop .inv .3
+    ∙ pass-field
+    (kindOf (turn .before .before .args .kind))
+    (turn .before .before .args .facts .now)
+    (turn .loop .fact)
+    (c .before .before .before .field .result)
+    (faultOf (c .before .before .field-fault .result))
+    (omega arith)
+    (c .before .before .before .field .ensures)
+    (c .before .before .field-fault .ensures)
+    ∙ ap (λ (r : TableFault). orFault (faultOf r) after) (c .enum-told .given .1))
 
 enum-known-number : tie.Need-enum-known-number Inv-loop μ-loop
 enum-known-number c = search needs
 
 returns : tie.Need-returns Inv-loop μ-loop
-returns c = ?
+returns c =
+    let turn = c .before .before .before .before .before .before in
+    let after = firstFault (kindOf (turn .before .before .args .kind)) (drop (turn .loop .fact + 1) (tableFields (turn .before .before .args .facts .now))) in
+    sym
+    (turn .loop .inv .3
+    ∙ pass-field
+    (kindOf (turn .before .before .args .kind))
+    (turn .before .before .args .facts .now)
+    (turn .loop .fact)
+    (c .before .before .before .before .field .result)
+    (faultOf (c .before .before .before .field-fault .result))
+    (omega arith)
+    (c .before .before .before .before .field .ensures)
+    (c .before .before .before .field-fault .ensures)
+    ∙ ap (λ (r : TableFault). orFault (faultOf r) after) (c .before .number .given .1))
 
 returns-2 : tie.Need-returns-2 Inv-loop μ-loop
-returns-2 c = ?
+returns-2 c =
+    sym
+    (c .before .loop .inv .3
+    ∙ no-field-left (kindOf (c .before .before .before .args .kind)) (c .before .before .before .args .facts .now) (c .before .loop .fact) (omega arith))
 
 pub first-fault-spec : {M : Type 1} → statement M
 first-fault-spec =

@@ -16,13 +16,14 @@ field-requires : tie.Need-field-requires
 field-requires c κs = search needs
 
 returns : tie.Need-returns
-returns c = ?
+returns c = ap presence (sym (c .match .keys1) ∙ c .before .field .ensures)
 
 returns-2 : tie.Need-returns-2
-returns-2 c = ?
+returns-2 c = ap presence (sym (c .match .keys2) ∙ c .before .field .ensures)
 
 returns-3 : tie.Need-returns-3
-returns-3 c = ?
+returns-3 c =
+    other (c .before .field .result) (c .match .rest .0 .1) (c .match .rest .1) ∙ ap presence (c .before .field .ensures)
 
 pub of-spec : {M : Type 1} → statement M
 of-spec = tie.close (tie.spec field-requires returns returns-2 returns-3)

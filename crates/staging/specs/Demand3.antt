@@ -1,0 +1,238 @@
+-- Demand 3, proved: for every list of narrowings, over words and bytes, for any outcomes with commutative and associative meet and join.
+use mathlib.Core.Path.{_≡_, refl, sym, _∙_, ap, subst}
+use mathlib.Core.Bool.{Bool, true, false, cond, _&&_}
+use mathlib.Core.Option.{Option, none, some}
+use mathlib.Core.List.{List, [], _∷_}
+use Prim.Native.Nat.{ℕ, _+_, _*_, _^_, _≤_, _<_}
+use native.Mathlib.Omega.{arith}
+use borrow.Author.Tests.{le-leb}
+use lib.Dec.{leb}
+use lib.ListN.{length}
+use Rattle.model.specs.Facts.{unknown, Table, tableOf, partialFacts, knownFacts, tableFault}
+use Rattle.model.specs.Outcome.{Outcomes, productSets}
+use Rattle.model.specs.Decision.{Decision, permits, denies}
+use Rattle.model.specs.Policy.{Policy, permit, deny, grant, all, any, orElse, stored, Policies, pnil, pcons}
+use Rattle.model.specs.Consulted.{Consulted}
+use Rattle.model.specs.Record.{Record, tree, evaluated, reduced, narrowed, completed}
+use Rattle.model.specs.Writing.{encodeR, shortD, short, shorts}
+use Rattle.model.specs.Reading.{Parsed, got, unless, levels, sheetLength, recordLength, whole, readPolicy, readSheet, readRecord}
+use Rattle.model.specs.Calls.{Answer, refusal, wrote, unlessLong, unlessFault, onRead, fits, write, evaluate, partialEvaluate, narrowResidual, completeResidual}
+use Rattle.laws.specs.Lists.{Every}
+use Rattle.laws.specs.FieldLaws.{Holds}
+use Rattle.laws.specs.Each.{Each, Agrees}
+use Rattle.laws.specs.Names.{each-of, of-each}
+use Rattle.laws.specs.Form.{FormD, Form, Forms, depth}
+use Rattle.laws.specs.Lengths.{length-encodeR}
+use Rattle.laws.specs.ReadBack.{Facts, back-R}
+use Rattle.laws.specs.ReadForm.{OkSheet, ok-sheet}
+use Rattle.laws.specs.Products.{Lawful, Written, lawfulProducts, InRange, writtenProducts}
+use Rattle.staging.specs.SizeLaws.{most}
+use Rattle.staging.specs.ConsultedLaws.{consultedFacts, log-length}
+use Rattle.staging.specs.Chain.{AllOf, all-map, run}
+use Rattle.staging.specs.Bound.{Fit, fit-narrowBody, fit-completeBody, fit-run, fit-reduce, fit-evaluate, roomy}
+use Rattle.staging.specs.Stages.{TreeStaged, staged}
+use Rattle.staging.specs.Statement.{Call, handedOn, ifWrote, AgreesOn, Settled, answerTo, after, accepted, Staged}
+
+and-is : (a b : Bool) → a ≡ true → b ≡ true → (a && b) ≡ true
+and-is a b p q = rw (p, q)
+
+-- ---- a tree of good form holds no fact list over 4,095
+module _ {O : Type 0} (G : O → Type 0) where
+  short-D : (d : Decision O) → FormD G d → shortD d ≡ true
+  short-D (permits p) h = le-leb (length (p .facts)) 4095 (h .3 .0)
+  short-D (denies d) h = le-leb (length (d .facts)) 4095 (h .1 .0)
+
+  mutual
+    short-T : (t : Policy O) → Form G t → short t ≡ true
+    short-T (permit o) h = refl
+    short-T deny h = refl
+    short-T (grant g c) h = refl
+    short-T (all ts) h = short-Ts ts (h .1)
+    short-T (any ts) h = short-Ts ts (h .1)
+    short-T (orElse a b) h = and-is (short a) (short b) (short-T a (h .0)) (short-T b (h .1))
+    short-T (stored d) h = short-D d h
+
+    short-Ts : (ts : Policies O) → Forms G ts → shorts ts ≡ true
+    short-Ts pnil h = refl
+    short-Ts (pcons t ts) h = and-is (short t) (shorts ts) (short-T t (h .0)) (short-Ts ts (h .1))
+
+facts-of : (l : Consulted) → Every (λ f. f < 1024) (consultedFacts l) → Facts l
+facts-of [] h = tt
+facts-of (e ∷ l) h = (h .0, facts-of l (h .1))
+
+-- ---- what a call's answer tells
+unless-got : {A : Type 0} (b : Bool) (q : Parsed A) (a : A) (vs : List ℕ) → unless b 1 q ≡ got a vs → b ≡ true
+unless-got true q a vs e = refl
+unless-got false q a vs e = cc
+
+wrote-what : (o : Option ℕ) (b : Bool) (u v : List ℕ) → unlessFault o (cond b (wrote u) (refusal 11)) ≡ wrote v → u ≡ v
+wrote-what none true u v e = cc
+wrote-what none false u v e = cc
+wrote-what (some n) b u v e = cc
+
+module _ (L : Outcomes) (lawful : Lawful L) (G : L .O → Type 0) (codec : Written L G) where
+  -- A call on words that are read: the table's fault, or what is written.
+  module _ {A : Type 0} (long : Bool) (fault : Option ℕ) (k : A → Answer) where
+    called : (q : Parsed A) (a : A) (vs : List ℕ) → long ≡ true → q ≡ got a vs → unlessLong long (unlessFault fault (onRead q k)) ≡ unlessFault fault (k a)
+    called q a vs h e = ap (λ b. unlessLong b (unlessFault fault (onRead q k))) h ∙ ap (λ p. unlessFault fault (onRead p k)) e
+
+  write-is : (room : ℕ) (r : Record (L .O)) (o : Option ℕ) → o ≡ none → fits L room r ≡ true → unlessFault o (write L room r) ≡ wrote (encodeR (L .number) r)
+  write-is room r o p e = ap (λ x. unlessFault x (write L room r)) p ∙ ap (λ b. cond b (wrote (encodeR (L .number) r)) (refusal 11)) e
+
+  -- ---- the sheet
+  module _ (sheet : List ℕ) (t : Policy (L .O)) (reads : readSheet (L .value) sheet ≡ got t []) where
+    good : OkSheet G (L .value) (codec .sound) sheet t []
+    good = subst (λ q. Holds (OkSheet G (L .value) (codec .sound) sheet) q) reads (ok-sheet G (L .value) (codec .sound) sheet) .it
+
+    long-enough : sheetLength sheet ≡ true
+    long-enough = unless-got (sheetLength sheet) (whole (readPolicy (L .value) false levels sheet)) t [] reads
+
+    -- ---- records that are within the bound of the sheet
+    abbrev Within : Record (L .O) → Type 0
+    Within r = Fit G (most t) (depth t) r
+
+    within-words : (r : Record (L .O)) → Within r → length (encodeR (L .number) r) ≤ 3 * length sheet + 513
+    within-words r h = omega (arith, length-encodeR (L .number) r, roomy L G (codec .meets) (codec .joins) t r (good .3) (good .1) h .room, good .2)
+
+    few : (r : Record (L .O)) → Within r → recordLength (encodeR (L .number) r) ≡ true
+    few r h =
+        let n = within-words r h in
+        let m = good .4 in
+        let e = good .2 in
+        and-is (leb 1 (length (encodeR (L .number) r))) (leb (length (encodeR (L .number) r)) 16384) (le-leb 1 (length (encodeR (L .number) r)) (omega (arith, length-encodeR (L .number) r)))
+          (le-leb (length (encodeR (L .number) r)) 16384 (omega arith))
+
+    fits-within : (r : Record (L .O)) (room : ℕ) → Within r → 3 * length sheet + 513 ≤ room → fits L room r ≡ true
+    fits-within r room h k =
+        and-is (leb (length (encodeR (L .number) r)) room && recordLength (encodeR (L .number) r)) (short (tree r))
+          (and-is (leb (length (encodeR (L .number) r)) room) (recordLength (encodeR (L .number) r)) (le-leb (length (encodeR (L .number) r)) room (omega (arith, within-words r h))) (few r h))
+          (short-T G (tree r) (h .form))
+
+    back : (r : Record (L .O)) → Within r → readRecord (L .value) (encodeR (L .number) r) ≡ got r []
+    back r h =
+        let y = roomy L G (codec .meets) (codec .joins) t r (good .3) (good .1) h in
+        let n = within-words r h in
+        let m = good .4 in
+        let e = good .2 in
+        back-R G (L .number) (L .value) (codec .small) (codec .again) r (omega (arith, log-length (r .log) (h .consulted))) (facts-of (r .log) (h .consulted .1)) (h .form) (y .nested) (omega arith)
+
+    -- ---- calls on such a record
+    narrow-is : (room : ℕ) (bs : List ℕ) (r : Record (L .O)) → Within r
+        → narrowResidual L (encodeR (L .number) r) bs room ≡ unlessFault (tableFault partialFacts bs) (write L room (narrowed L (tableOf bs) r))
+    narrow-is room bs r h =
+        called (recordLength (encodeR (L .number) r)) (tableFault partialFacts bs) (λ x. write L room (narrowed L (tableOf bs) x)) (readRecord (L .value) (encodeR (L .number) r)) r [] (few r h) (back r h)
+
+    complete-is : (room : ℕ) (bs : List ℕ) (r : Record (L .O)) → Within r
+        → completeResidual L (encodeR (L .number) r) bs room ≡ unlessFault (tableFault knownFacts bs) (write L room (completed L (tableOf bs) r))
+    complete-is room bs r h =
+        called (recordLength (encodeR (L .number) r)) (tableFault knownFacts bs) (λ x. write L room (completed L (tableOf bs) x)) (readRecord (L .value) (encodeR (L .number) r)) r [] (few r h) (back r h)
+
+    reduce-is : (room : ℕ) (bs : List ℕ) → partialEvaluate L sheet bs room ≡ unlessFault (tableFault partialFacts bs) (write L room (reduced L (tableOf bs) t))
+    reduce-is room bs = called (sheetLength sheet) (tableFault partialFacts bs) (λ x. write L room (reduced L (tableOf bs) x)) (readSheet (L .value) sheet) t [] long-enough reads
+
+    evaluate-is : (room : ℕ) (bs : List ℕ) → evaluate L sheet bs room ≡ unlessFault (tableFault knownFacts bs) (write L room (evaluated L (tableOf bs) t))
+    evaluate-is room bs = called (sheetLength sheet) (tableFault knownFacts bs) (λ x. write L room (evaluated L (tableOf bs) x)) (readSheet (L .value) sheet) t [] long-enough reads
+
+    -- ---- the list of calls: the record after it is the record narrowed by the accepted tables
+    within-narrowed : (P : Table) (r : Record (L .O)) → Within r → Within (narrowed L P r)
+    within-narrowed P r h = fit-narrowBody L G (codec .meets) (codec .joins) (most t) (depth t) P (r .body) (r .log) h
+
+    Runs : Record (L .O) → List Call → Type 0
+    Runs r cs = after L (encodeR (L .number) r) cs ≡ encodeR (L .number) (run L r (accepted L (encodeR (L .number) r) cs))
+
+    runs-by : (P : Table) (r : Record (L .O)) (cs : List Call) (o : Option ℕ) (b : Bool) (a : Answer) → a ≡ unlessFault o (cond b (wrote (encodeR (L .number) (narrowed L P r))) (refusal 11))
+        → Runs r cs → Runs (narrowed L P r) cs
+        → after L (handedOn a (encodeR (L .number) r)) cs ≡ encodeR (L .number) (run L r (ifWrote a P (accepted L (handedOn a (encodeR (L .number) r)) cs)))
+    unfolding Runs
+    runs-by P r cs (some n) b a e same more = rw e same
+    runs-by P r cs none false a e same more = rw e same
+    runs-by P r cs none true a e same more = rw e more
+
+    runs : (cs : List Call) (r : Record (L .O)) → Within r → Runs r cs
+    unfolding Runs
+    runs [] r h = refl
+    runs (c ∷ cs) r h =
+        let P = tableOf (c .facts) in
+        runs-by P r cs (tableFault partialFacts (c .facts)) (fits L (length (c .out)) (narrowed L P r)) (answerTo L (encodeR (L .number) r) c) (narrow-is (length (c .out)) (c .facts) r h)
+          (runs cs r h) (runs cs (narrowed L P r) (within-narrowed P r h))
+
+    -- ---- the theorem
+    module _ (known facts given : List ℕ) (calls : List Call) (room₀ : ℕ) (knows : tableFault knownFacts known ≡ none) (wrote-given : partialEvaluate L sheet facts room₀ ≡ wrote given)
+        (agrees : AgreesOn t (tableOf known) (tableOf facts)) (later : AllOf (AgreesOn t (tableOf known)) (accepted L given calls)) where
+      K : Table
+      K = tableOf known
+
+      P : Table
+      P = tableOf facts
+
+      r₀ : Record (L .O)
+      r₀ = reduced L P t
+
+      given-is : encodeR (L .number) r₀ ≡ given
+      unfolding r₀ P
+      given-is = wrote-what (tableFault partialFacts facts) (fits L room₀ r₀) (encodeR (L .number) r₀) given (sym (reduce-is room₀ facts) ∙ wrote-given)
+
+      Ps : List Table
+      Ps = accepted L given calls
+
+      lastly : Record (L .O)
+      lastly = run L r₀ Ps
+
+      fit₀ : Within r₀
+      unfolding r₀
+      fit₀ = fit-reduce L G (codec .meets) (codec .joins) P t (good .0)
+
+      fit : Within lastly
+      unfolding lastly
+      fit = fit-run L G (codec .meets) (codec .joins) (most t) (depth t) r₀ Ps fit₀
+
+      after-is : after L given calls ≡ encodeR (L .number) lastly
+      unfolding lastly Ps Runs
+      after-is = subst (λ v. after L v calls ≡ encodeR (L .number) (run L r₀ (accepted L v calls))) given-is (runs calls r₀ fit₀)
+
+      steps : TreeStaged L K P t Ps
+      unfolding K P Ps
+      steps = staged L lawful K P t Ps (each-of (Agrees K P) t agrees) (all-map (AgreesOn t K) (λ S. Each (Agrees K S) t) Ps (λ S h. each-of (Agrees K S) t h) later)
+
+      pub demand3-of : Staged L sheet known facts given calls t
+      unfolding K P r₀ Ps lastly
+      demand3-of = record {
+          last = lastly;
+          by-the-rules = refl;
+          as-words = after-is;
+          read-back = ap (readRecord (L .value)) after-is ∙ back lastly fit;
+          settled-first = of-each (λ n. P n ≡ unknown) (tree lastly) (steps .settled-first);
+          settled-later = all-map (λ S. Each (λ n. S n ≡ unknown) (tree lastly)) (Settled (tree lastly)) Ps (λ S h. of-each (λ n. S n ≡ unknown) (tree lastly) h) (steps .settled-later);
+          decision = steps .decision;
+          completion = λ room ws e. sym (wrote-what (tableFault knownFacts known) (fits L room (completed L K lastly)) (encodeR (L .number) (completed L K lastly)) ws (sym (complete-is room known lastly fit) ∙ sym (ap (λ v. completeResidual L v known room) after-is) ∙ e));
+          resolves = steps .completes;
+          same-products = steps .same-products;
+          room-evaluate = λ room h. evaluate-is room known ∙ write-is room (evaluated L K t) (tableFault knownFacts known) knows (fits-within (evaluated L K t) room (fit-evaluate L G (codec .meets) (codec .joins) K t (good .0)) h);
+          room-reduce = λ room bs h f. reduce-is room bs ∙ write-is room (reduced L (tableOf bs) t) (tableFault partialFacts bs) f (fits-within (reduced L (tableOf bs) t) room (fit-reduce L G (codec .meets) (codec .joins) (tableOf bs) t (good .0)) h);
+          room-narrow = λ room bs h f.
+            ap (λ v. narrowResidual L v bs room) after-is ∙ narrow-is room bs lastly fit
+            ∙ write-is room (narrowed L (tableOf bs) lastly) (tableFault partialFacts bs) f (fits-within (narrowed L (tableOf bs) lastly) room (within-narrowed (tableOf bs) lastly fit) h);
+          room-complete = λ room h.
+            ap (λ v. completeResidual L v known room) after-is ∙ complete-is room known lastly fit
+            ∙ write-is room (completed L K lastly) (tableFault knownFacts known) knows (fits-within (completed L K lastly) room (fit-completeBody L G (codec .meets) (codec .joins) (most t) (depth t) K (lastly .body) (lastly .log) fit) h)
+        }
+
+-- For every accepted sheet and known table, every reduction of the sheet that was accepted, and every list of narrowings:
+-- if the reduction's table and every accepted one agree with the known table, the whole list is as document 01's "Stages" says.
+pub demand3 : (L : Outcomes) → Lawful L → (G : L .O → Type 0) → Written L G
+    → (sheet known facts given : List ℕ) (calls : List Call) (t : Policy (L .O)) (room : ℕ)
+    → readSheet (L .value) sheet ≡ got t [] → tableFault knownFacts known ≡ none
+    → partialEvaluate L sheet facts room ≡ wrote given
+    → AgreesOn t (tableOf known) (tableOf facts)
+    → AllOf (AgreesOn t (tableOf known)) (accepted L given calls)
+    → Staged L sheet known facts given calls t
+demand3 L lawful G codec sheet known facts given calls t room reads knows first agrees later = demand3-of L lawful G codec sheet t reads known facts given calls room knows first agrees later
+
+-- The same for sets of products.
+pub demand3-products : (sheet known facts given : List ℕ) (calls : List Call) (t : Policy ℕ) (room : ℕ)
+    → readSheet (productSets .value) sheet ≡ got t [] → tableFault knownFacts known ≡ none
+    → partialEvaluate productSets sheet facts room ≡ wrote given
+    → AgreesOn t (tableOf known) (tableOf facts)
+    → AllOf (AgreesOn t (tableOf known)) (accepted productSets given calls)
+    → Staged productSets sheet known facts given calls t
+demand3-products = demand3 productSets lawfulProducts InRange writtenProducts

@@ -1,0 +1,10 @@
+pub mod ConditionLaws
+pub mod PolicyLaws
+pub mod SizeLaws
+pub mod FormLaws
+pub mod ConsultedLaws
+pub mod Chain
+pub mod Bound
+pub mod Stages
+pub mod Statement
+pub mod Demand3

@@ -1,0 +1,82 @@
+-- Demand 3: what is claimed of a list of calls. Document 01, "Stages". The proof is in Demand3.
+use mathlib.Core.Path.{_≡_}
+use mathlib.Core.Logic.{_⊎_}
+use mathlib.Core.Option.{Option, none}
+use mathlib.Core.List.{List, [], _∷_}
+use Prim.Native.Nat.{ℕ, _+_, _*_, _≤_}
+use lib.ListN.{length}
+use Rattle.model.specs.Facts.{unknown, Table, tableOf, partialFacts, tableFault}
+use Rattle.model.specs.Outcome.{Outcomes}
+use Rattle.model.specs.Decision.{Decision, products}
+use Rattle.model.specs.Policy.{Policy}
+use Rattle.model.specs.Evaluate.{evalPolicy}
+use Rattle.model.specs.Partial.{resolved}
+use Rattle.model.specs.Record.{Record, tree, evaluated, reduced, narrowed, completed}
+use Rattle.model.specs.Writing.{encodeR}
+use Rattle.model.specs.Reading.{got, readRecord}
+use Rattle.model.specs.Calls.{Answer, refusal, wrote, evaluate, partialEvaluate, narrowResidual, completeResidual}
+use Rattle.laws.specs.Names.{Names}
+use Rattle.staging.specs.Chain.{AllOf, run}
+
+-- A narrowing of the list: its table may be any bytes, and it has an output of its own, of any length.
+pub record Call : Type 0 where
+  pub facts : List ℕ
+  pub out : List ℕ
+
+-- A refused call hands on what it was given, an accepted one what it wrote.
+abbrev pub handedOn : Answer → List ℕ → List ℕ
+handedOn (refusal n) given = given
+handedOn (wrote ws) given = ws
+
+abbrev pub ifWrote : Answer → Table → List Table → List Table
+ifWrote (refusal n) P Ps = Ps
+ifWrote (wrote ws) P Ps = P ∷ Ps
+
+-- A table agrees if on every fact that the sheet names it reads Unknown or as the known one.
+abbrev pub AgreesOn : {O : Type 0} → Policy O → Table → Table → Type 0
+AgreesOn t K P = (f : ℕ) → Names f t → (P f ≡ unknown) ⊎ (P f ≡ K f)
+
+-- No condition of the tree names a fact that the table reads as Present or Absent.
+abbrev pub Settled : {O : Type 0} → Policy O → Table → Type 0
+Settled t P = (f : ℕ) → Names f t → P f ≡ unknown
+
+module _ (L : Outcomes) where
+  -- What a narrowing answers; the record after a list of them; and the tables of those that were accepted.
+  abbrev pub answerTo : List ℕ → Call → Answer
+  answerTo given c = narrowResidual L given (c .facts) (length (c .out))
+
+  abbrev pub after : List ℕ → List Call → List ℕ
+  after given [] = given
+  after given (c ∷ cs) = after (handedOn (answerTo given c) given) cs
+
+  abbrev pub accepted : List ℕ → List Call → List Table
+  accepted given [] = []
+  accepted given (c ∷ cs) = ifWrote (answerTo given c) (tableOf (c .facts)) (accepted (handedOn (answerTo given c) given) cs)
+
+  -- Room enough: three times the sheet's words plus 513.
+  abbrev pub Roomy : List ℕ → ℕ → Type 0
+  Roomy sheet room = 3 * length sheet + 513 ≤ room
+
+  -- An accepted sheet and known table, the reduction's table, the record that it wrote, and the narrowings; t is the sheet's tree.
+  pub record Staged (sheet known facts given : List ℕ) (calls : List Call) (t : Policy (L .O)) : Type 0 where
+    -- The record after the list is the one that the rules give for the accepted tables, one after the other;
+    -- so is every record on the way, since this holds of every list.
+    pub last : Record (L .O)
+    pub by-the-rules : last ≡ run L (reduced L (tableOf facts) t) (accepted given calls)
+    pub as-words : after given calls ≡ encodeR (L .number) last
+    pub read-back : readRecord (L .value) (after given calls) ≡ got last []
+    -- No condition in the residual names a fact that one of these tables reads as Present or Absent.
+    pub settled-first : Settled (tree last) (tableOf facts)
+    pub settled-later : AllOf (Settled (tree last)) (accepted given calls)
+    -- An accepted completion with the known table is Resolved, with direct evaluation's effect and products.
+    pub decision : Decision (L .O)
+    pub completion : (room : ℕ) (ws : List ℕ) → completeResidual L (after given calls) known room ≡ wrote ws → ws ≡ encodeR (L .number) (completed L (tableOf known) last)
+    pub resolves : completed L (tableOf known) last .body ≡ resolved decision
+    pub same-products : products decision ≡ products (evalPolicy L (tableOf known) t)
+    -- With room enough direct evaluation, a reduction of the sheet, a narrowing and the completion are accepted whenever their table is faultless.
+    pub room-evaluate : (room : ℕ) → Roomy sheet room → evaluate L sheet known room ≡ wrote (encodeR (L .number) (evaluated L (tableOf known) t))
+    pub room-reduce : (room : ℕ) (bs : List ℕ) → Roomy sheet room → tableFault partialFacts bs ≡ none
+        → partialEvaluate L sheet bs room ≡ wrote (encodeR (L .number) (reduced L (tableOf bs) t))
+    pub room-narrow : (room : ℕ) (bs : List ℕ) → Roomy sheet room → tableFault partialFacts bs ≡ none
+        → narrowResidual L (after given calls) bs room ≡ wrote (encodeR (L .number) (narrowed L (tableOf bs) last))
+    pub room-complete : (room : ℕ) → Roomy sheet room → completeResidual L (after given calls) known room ≡ wrote (encodeR (L .number) (completed L (tableOf known) last))

@@ -1,3 +1,3 @@
--- Laws of tables, which callers cite too.
+-- Laws that several proofs cite; those of fields are for callers too.
 pub mod Fields
-pub mod Faults
+mod Faults

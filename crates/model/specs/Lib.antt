@@ -13,3 +13,4 @@ pub mod Reading
 pub mod Calls
 pub mod Required
 pub mod Listing
+pub mod Worked

@@ -1,9 +1,8 @@
--- `facts::faultless` meets its contract. The loop's invariant: the table is faultless exactly where there is no mark yet and the bytes left are faultless. Assumes nothing.
-use mathlib.Core.Path.{_≡_, refl, sym, ap, _∙_}
+-- `facts::faultless` meets its contract. The loop's invariant: the table is faultless exactly where there is no mark so far and the bytes left
+-- are faultless. The measure is how many are left. Assumes nothing.
+use mathlib.Core.Path.{_≡_, sym, _∙_}
 use mathlib.Core.Bool.{_&&_, and-true}
-use mathlib.Core.List.{[]}
-use Prim.Native.Nat.{ℕ, _-_, _≤_}
-use native.Mathlib.Omega.{arith}
+use Prim.Native.Nat.{_-_, _≤_}
 use lib.Dec.{eqb}
 use lib.ListN.{length, drop, drop-of-length-le}
 use borrow.Author.Needs.{needs}
@@ -51,9 +50,9 @@ loop-again c =
 
 returns : tie.Need-returns Inv-loop μ-loop
 returns c =
-    let over : drop (c .before .loop .i) (c .before .before .before .args .facts .now) ≡ [] =
-        drop-of-length-le (c .before .before .before .args .facts .now) (c .loop-test .left) in
-    sym (c .before .loop .inv .1 ∙ rw (over, and-true))
+    sym
+    (c .before .loop .inv .1
+    ∙ rw (drop-of-length-le (c .before .before .before .args .facts .now) (c .loop-test .left), and-true))
 
 pub faultless-spec : {M : Type 1} → statement M
 faultless-spec =

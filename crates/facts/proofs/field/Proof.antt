@@ -3,7 +3,7 @@ use mathlib.Core.Path.{sym}
 use Prim.Native.Nat.{_/_}
 use native.Mathlib.Omega.{arith}
 use borrow.Author.Needs.{needs}
-use Rattle.facts.proofs.Fields.{by-shift, field-past-end}
+use Rattle.facts.proofs.Fields.{field-by-shift, field-past-end}
 use Rattle.facts.proofs.field.Statement.{statement}
 use Rattle.facts.proofs.field.Tie as tie
 
@@ -30,7 +30,7 @@ shr-result c = search needs
 
 returns-2 : tie.Need-returns-2
 returns-2 c =
-    by-shift (c .before .before .args .facts .now) (c .before .before .args .fact)
+    field-by-shift (c .before .before .args .facts .now) (c .before .before .args .fact)
     (omega (arith, c .shared-slice-known .given (c .before .before .args .fact / 4)))
 
 pub field-spec : {M : Type 1} → statement M

@@ -1,30 +1,30 @@
 -- `facts::field_fault` meets its contract. Assumes nothing.
-use mathlib.Core.Path.{_≡_, refl, sym, ap, _∙_}
+use mathlib.Core.Path.{_≡_, refl}
+use mathlib.Core.Option.{none, some}
 use Prim.Native.Nat.{ℕ, zero, suc, _<_}
 use native.Mathlib.Omega.{arith}
 use borrow.Author.Needs.{needs}
-use mathlib.Core.Option.{Option, none, some}
-use Rattle.model.specs.Facts.{TableKind, unknownFault, fieldFault}
+use Rattle.model.specs.Facts.{TableKind, fieldFault}
 use Rattle.facts.proofs.field_fault.Statement.{statement}
 use Rattle.facts.proofs.field_fault.Tie as tie
 
 module _ (k : TableKind) where
-  known-one : (field : ℕ) → field < 2 → none ≡ fieldFault k field
-  known-one zero h = refl
-  known-one (suc zero) h = refl
-  known-one (suc (suc field)) h = absurd (omega arith)
+  low : (field : ℕ) → field < 2 → none ≡ fieldFault k field
+  low zero h = refl
+  low (suc zero) h = refl
+  low (suc (suc field)) h = absurd (omega arith)
 
-  reserved : (field : ℕ) → 2 < field → some 3 ≡ fieldFault k field
-  reserved zero h = absurd (omega arith)
-  reserved (suc zero) h = absurd (omega arith)
-  reserved (suc (suc zero)) h = absurd (omega arith)
-  reserved (suc (suc (suc field))) h = refl
+  high : (field : ℕ) → 2 < field → some 3 ≡ fieldFault k field
+  high zero h = absurd (omega arith)
+  high (suc zero) h = absurd (omega arith)
+  high (suc (suc zero)) h = absurd (omega arith)
+  high (suc (suc (suc field))) h = refl
 
 returns : tie.Need-returns
-returns c = known-one _ _ (c .if1 .taken)
+returns c = low _ _ (c .if1 .taken)
 
 returns-2 : tie.Need-returns-2
-returns-2 c = reserved _ _ (c .if2 .taken)
+returns-2 c = high _ _ (c .if2 .taken)
 
 enum-told : tie.Need-enum-told
 enum-told c = search needs

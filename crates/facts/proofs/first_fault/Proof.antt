@@ -1,23 +1,44 @@
--- `facts::first_fault` meets its contract. The loop's invariant: no field passed is at fault. Assumes nothing.
-use mathlib.Core.Path.{_≡_, refl, sym, ap, _∙_}
-use Prim.Native.Nat.{ℕ, _+_, _*_, _-_, _≤_}
+-- `facts::first_fault` meets its contract. The loop's invariant: the first fault is that of the fields left.
+-- The measure is how many are left. Assumes nothing.
+use mathlib.Core.Path.{_≡_, sym, ap, _∙_}
+use Prim.Native.Nat.{_+_, _-_, _≤_}
 use native.Mathlib.Omega.{arith}
-use lib.ListN.{length, drop}
+use lib.ListN.{drop}
 use borrow.Author.Needs.{needs}
 use Rattle.model.specs.Facts.{tableFields, orFault, firstFault}
 use Rattle.facts.specs.Answers.{kindOf, faultOf}
 use Rattle.facts.specs.declared.TableFault.{TableFault}
+use Rattle.facts.specs.declared.TableFault.the-variants.{Faultless, Refused}
 use Rattle.facts.proofs.Faults.{pass-field, no-field-left}
 use Rattle.facts.proofs.first_fault.Statement.{statement}
 use Rattle.facts.proofs.first_fault.Tie as tie
 
 abbrev Inv-loop : tie.InvT-loop
 Inv-loop facts kind end fact₀ fact =
-    (fact ≤ end) × (end ≡ 4 * length facts) × (end ≤ 1024)
-    × (firstFault (kindOf kind) (tableFields facts) ≡ firstFault (kindOf kind) (drop fact (tableFields facts)))
+    (fact ≤ end) × (firstFault (kindOf kind) (tableFields facts) ≡ firstFault (kindOf kind) (drop fact (tableFields facts)))
 
 abbrev μ-loop : tie.MeasureT-loop
 μ-loop facts kind end fact₀ fact = end - fact
+
+-- In a turn: the fault of the field at hand, then those of the fields after it.
+turn :
+    (c : tie.After-field-fault Inv-loop μ-loop) (fault : TableFault) → c .field-fault .result ≡ fault →
+    firstFault (kindOf (c .before .before .before .before .before .args .kind)) (tableFields (c .before .before .before .before .before .args .facts .now)) ≡
+    orFault (faultOf fault)
+    (firstFault
+    (kindOf (c .before .before .before .before .before .args .kind))
+    (drop (c .before .before .before .loop .fact + 1) (tableFields (c .before .before .before .before .before .args .facts .now))))
+turn c fault e =
+    c .before .before .before .loop .inv .1
+    ∙ pass-field
+    (kindOf (c .before .before .before .before .before .args .kind))
+    (c .before .before .before .before .before .args .facts .now)
+    (c .before .before .before .loop .fact)
+    (c .before .field .result)
+    (faultOf fault)
+    (omega arith)
+    (c .before .field .ensures)
+    (ap faultOf (sym e) ∙ c .field-fault .ensures)
 
 cast-end : tie.Need-cast-end Inv-loop μ-loop
 cast-end c = search needs
@@ -44,47 +65,23 @@ loop-less : tie.Need-loop-less Inv-loop μ-loop
 loop-less c = search needs
 
 loop-again : tie.Need-loop-again Inv-loop μ-loop
-loop-again c =
-    let turn = c .before .before .before .before .before in
-    let after = firstFault (kindOf (turn .before .before .args .kind)) (drop (turn .loop .fact + 1) (tableFields (turn .before .before .args .facts .now))) in
-    (search needs, search needs, search needs,
-    turn .loop .inv .3
-    ∙ pass-field
-    (kindOf (turn .before .before .args .kind))
-    (turn .before .before .args .facts .now)
-    (turn .loop .fact)
-    (c .before .before .before .field .result)
-    (faultOf (c .before .before .field-fault .result))
-    (omega arith)
-    (c .before .before .before .field .ensures)
-    (c .before .before .field-fault .ensures)
-    ∙ ap (λ (r : TableFault). orFault (faultOf r) after) (c .enum-told .given .1))
+loop-again c = (search needs, turn (c .before .before) Faultless (c .enum-told .given .1))
 
 enum-known-number : tie.Need-enum-known-number Inv-loop μ-loop
 enum-known-number c = search needs
 
 returns : tie.Need-returns Inv-loop μ-loop
-returns c =
-    let turn = c .before .before .before .before .before .before in
-    let after = firstFault (kindOf (turn .before .before .args .kind)) (drop (turn .loop .fact + 1) (tableFields (turn .before .before .args .facts .now))) in
-    sym
-    (turn .loop .inv .3
-    ∙ pass-field
-    (kindOf (turn .before .before .args .kind))
-    (turn .before .before .args .facts .now)
-    (turn .loop .fact)
-    (c .before .before .before .before .field .result)
-    (faultOf (c .before .before .before .field-fault .result))
-    (omega arith)
-    (c .before .before .before .before .field .ensures)
-    (c .before .before .before .field-fault .ensures)
-    ∙ ap (λ (r : TableFault). orFault (faultOf r) after) (c .before .number .given .1))
+returns c = sym (turn (c .before .before .before) (Refused (c .before .number .given .0 .0)) (c .before .number .given .1))
 
 returns-2 : tie.Need-returns-2 Inv-loop μ-loop
 returns-2 c =
     sym
-    (c .before .loop .inv .3
-    ∙ no-field-left (kindOf (c .before .before .before .args .kind)) (c .before .before .before .args .facts .now) (c .before .loop .fact) (omega arith))
+    (c .before .loop .inv .1
+    ∙ no-field-left
+    (kindOf (c .before .before .before .args .kind))
+    (c .before .before .before .args .facts .now)
+    (c .before .loop .fact)
+    (omega arith))
 
 pub first-fault-spec : {M : Type 1} → statement M
 first-fault-spec =

@@ -1,0 +1,133 @@
+// Policies as words, after gatekeep's policy_model.rs: what one word says, whether words hold a sheet or a record, and how far a tree reaches.
+ghost use mathlib.Core.Path.{_≡_};
+ghost use Rattle.policy_model.specs.Heads.{conditionHead, permitHead, grantHead, permitTraceHead, denyTraceHead, policyHead};
+
+// What the first word of a condition says.
+pub enum ConditionHead {
+    Always,
+    Never,
+    Has(u32),
+    Not,
+    All(u32),
+    Any(u32),
+    // no kind of a condition
+    BadKind,
+    // a field that must be 0 isn't
+    BadField,
+}
+
+// What the first word of a policy says.
+pub enum PolicyHead {
+    Permit(u16),
+    Deny,
+    Grant { hidden: bool, obligations: u32, outcome: u16 },
+    All(u32),
+    Any(u32),
+    OrElse,
+    PermitWithTrace { obligations: u32, outcome: u16 },
+    DenyWithTrace { hidden: bool, denied: bool, outcome: u16 },
+    // no kind of a policy here
+    BadKind,
+    // a field that must be 0 isn't, or there are over 64 obligations
+    BadField,
+}
+
+// A condition's first word.
+pub fn condition_head(word: u32) -> ConditionHead
+    ensures { λ r. ⌜ r ≡ conditionHead word ⌝ }
+{
+    let rest = word % 268435456;
+    match word / 268435456 {
+        0 => if rest == 0 { ConditionHead::Always } else { ConditionHead::BadField },
+        1 => if rest == 0 { ConditionHead::Never } else { ConditionHead::BadField },
+        2 => if rest < 1024 { ConditionHead::Has(rest) } else { ConditionHead::BadField },
+        3 => if rest == 0 { ConditionHead::Not } else { ConditionHead::BadField },
+        4 => if rest < 4096 { ConditionHead::All(rest) } else { ConditionHead::BadField },
+        5 => if rest < 4096 { ConditionHead::Any(rest) } else { ConditionHead::BadField },
+        _ => ConditionHead::BadKind,
+    }
+}
+
+// Permit: zero (12), outcome (16).
+fn permit_head(rest: u32) -> PolicyHead
+    ensures { λ r. ⌜ r ≡ permitHead rest ⌝ }
+{
+    if rest / 65536 == 0 {
+        PolicyHead::Permit((rest % 65536) as u16)
+    } else {
+        PolicyHead::BadField
+    }
+}
+
+// Grant: shape (1), obligation count (7), zero (4), outcome (16).
+fn grant_head(rest: u32) -> PolicyHead
+    ensures { λ r. ⌜ r ≡ grantHead rest ⌝ }
+{
+    if rest / 1048576 % 128 > 64 {
+        return PolicyHead::BadField;
+    }
+    if rest / 65536 % 16 != 0 {
+        return PolicyHead::BadField;
+    }
+    PolicyHead::Grant {
+        hidden: rest / 134217728 == 1,
+        obligations: rest / 1048576 % 128,
+        outcome: (rest % 65536) as u16,
+    }
+}
+
+// PermitWithTrace: as Grant, shape 0.
+fn permit_trace_head(rest: u32) -> PolicyHead
+    ensures { λ r. ⌜ r ≡ permitTraceHead rest ⌝ }
+{
+    if rest / 134217728 != 0 {
+        return PolicyHead::BadField;
+    }
+    if rest / 1048576 % 128 > 64 {
+        return PolicyHead::BadField;
+    }
+    if rest / 65536 % 16 != 0 {
+        return PolicyHead::BadField;
+    }
+    PolicyHead::PermitWithTrace {
+        obligations: rest / 1048576 % 128,
+        outcome: (rest % 65536) as u16,
+    }
+}
+
+// DenyWithTrace: shape (1), denied present (1), zero (10), outcome (16; 0 if not present).
+fn deny_trace_head(rest: u32) -> PolicyHead
+    ensures { λ r. ⌜ r ≡ denyTraceHead rest ⌝ }
+{
+    let hidden = rest / 134217728 == 1;
+    let outcome = (rest % 65536) as u16;
+    if rest / 65536 % 1024 != 0 {
+        return PolicyHead::BadField;
+    }
+    if rest / 67108864 % 2 == 1 {
+        return PolicyHead::DenyWithTrace { hidden, denied: true, outcome };
+    }
+    if outcome == 0 {
+        PolicyHead::DenyWithTrace { hidden, denied: false, outcome }
+    } else {
+        PolicyHead::BadField
+    }
+}
+
+// A policy's first word. Kinds 12 and 13 stand in residuals only.
+pub fn policy_head(word: u32, residual: bool) -> PolicyHead
+    ensures { λ r. ⌜ r ≡ policyHead word residual ⌝ }
+{
+    let rest = word % 268435456;
+    match word / 268435456 {
+        6 => permit_head(rest),
+        7 => if rest == 0 { PolicyHead::Deny } else { PolicyHead::BadField },
+        8 => grant_head(rest),
+        9 => if rest < 4096 { PolicyHead::All(rest) } else { PolicyHead::BadField },
+        10 => if rest < 4096 { PolicyHead::Any(rest) } else { PolicyHead::BadField },
+        11 => if rest == 0 { PolicyHead::OrElse } else { PolicyHead::BadField },
+        12 => if residual { permit_trace_head(rest) } else { PolicyHead::BadKind },
+        13 => if residual { deny_trace_head(rest) } else { PolicyHead::BadKind },
+        _ => PolicyHead::BadKind,
+    }
+}

@@ -4,7 +4,8 @@ ghost use Prim.Native.Nat.{_≤_};
 ghost use lib.Dec.{eqb};
 ghost use lib.ListN.{length, getD};
 ghost use Rattle.model.specs.Fields.{split};
-ghost use Rattle.model.specs.Facts.{tableFields, tableOf, fieldFault, firstFault, tableFault, partialFacts, knownFacts};
+ghost use Rattle.model.specs.Facts.{tableFields, tableOf, fieldFault, firstFault, tableBytes, tableFault};
+ghost use Rattle.model.specs.Facts.{partialFacts, knownFacts};
 ghost use Rattle.facts.specs.Answers.{presenceOf, isPresent, kindOf, faultOf, noFault};
 
 // What a table says of a fact.
@@ -14,11 +15,14 @@ pub enum Presence {
     Unknown,
 }
 
-// The number for which a table is turned back, if it is.
+// Whether a table is turned back, and the number for which it is.
 pub enum TableFault {
     Faultless,
     Refused(u32),
 }
+
+// A table has at most this many bytes.
+const TABLE_BYTES: usize = 256;
 
 // A known table holds no Unknown.
 enum TableKind {
@@ -38,7 +42,7 @@ fn field(facts: &[u8], fact: u32) -> u8
 }
 
 impl Presence {
-    // What the table says of a fact.
+    // What the table says of a fact. A field of 3, which no accepted table holds, reads Unknown.
     pub fn of(facts: &[u8], fact: u32) -> Presence
         ensures { λ r. ⌜ presenceOf r ≡ tableOf (now (facts .entry)) fact ⌝ }
     {
@@ -75,7 +79,7 @@ fn field_fault(field: u8, kind: TableKind) -> TableFault
 
 // The first fault from fact 0 on.
 fn first_fault(facts: &[u8], kind: TableKind) -> TableFault
-    requires { ⌜ length (now facts) ≤ 256 ⌝ }
+    requires { ⌜ length (now facts) ≤ tableBytes ⌝ }
     ensures { λ r. ⌜ faultOf r ≡ firstFault (kindOf kind) (tableFields (now (facts .entry))) ⌝ }
 {
     let end = facts.len() as u32 * 4;
@@ -94,8 +98,8 @@ fn marks(byte: u8, kind: TableKind) -> u8
     ensures { λ r. ⌜ eqb r 0 ≡ noFault (firstFault (kindOf kind) (split 2 4 byte)) ⌝ }
 {
     match kind {
-        TableKind::Partial => byte & (byte / 2) & 85,
-        TableKind::Known => byte & 170,
+        TableKind::Partial => byte & (byte / 2) & 0b0101_0101,
+        TableKind::Known => byte & 0b1010_1010,
     }
 }
 
@@ -116,7 +120,7 @@ fn faultless(facts: &[u8], kind: TableKind) -> bool
 fn table_fault(facts: &[u8], kind: TableKind) -> TableFault
     ensures { λ r. ⌜ faultOf r ≡ tableFault (kindOf kind) (now (facts .entry)) ⌝ }
 {
-    if facts.len() > 256 {
+    if facts.len() > TABLE_BYTES {
         return TableFault::Refused(2);
     }
     if faultless(facts, kind) {

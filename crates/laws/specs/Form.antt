@@ -4,13 +4,15 @@ use mathlib.Core.Path.{_≡_}
 use mathlib.Core.Bool.{Bool, true, false, _&&_}
 use mathlib.Core.Option.{Option, none, some}
 use mathlib.Core.List.{List, [], _∷_}
-use Prim.Native.Nat.{ℕ, suc, _+_, _≤_, _<_, max}
+use Prim.Native.Nat.{ℕ, suc, _+_, _^_, _≤_, _<_, max}
 use lib.Dec.{leb}
 use lib.ListN.{length}
+use Rattle.model.specs.Facts.{factCount}
 use Rattle.model.specs.Condition.{Condition, always, never, has, notC, allC, anyC, Conditions, cnil, ccons}
 use Rattle.model.specs.Decision.{Permit, Denial, Decision, permits, denies}
 use Rattle.model.specs.Policy.{Grant, Policy, permit, deny, grant, all, any, orElse, stored, Policies, pnil, pcons}
-use Rattle.model.specs.Writing.{countC, count}
+use Rattle.model.specs.Writing.{markBits, countC, count, mostListed}
+use Rattle.model.specs.Reading.{obligationCount}
 use Rattle.laws.specs.Lists.{Distinct, Below}
 use Rattle.laws.specs.Size.{wordsC}
 
@@ -18,10 +20,10 @@ abbrev mutual
   pub FormC : Condition → Type 0
   FormC always = Unit {0}
   FormC never = Unit {0}
-  FormC (has f) = f < 1024
+  FormC (has f) = f < factCount
   FormC (notC c) = FormC c
-  FormC (allC cs) = (countC cs ≤ 4095) × FormCs cs
-  FormC (anyC cs) = (countC cs ≤ 4095) × FormCs cs
+  FormC (allC cs) = (countC cs ≤ mostListed) × FormCs cs
+  FormC (anyC cs) = (countC cs ≤ mostListed) × FormCs cs
 
   pub FormCs : Conditions → Type 0
   FormCs cnil = Unit {0}
@@ -34,15 +36,15 @@ IfThere Q (some a) = Q a
 
 -- A label or a reason.
 abbrev pub FormL : Option ℕ → Type 0
-FormL l = IfThere (λ n. n < 32768) l
+FormL l = IfThere (λ n. n < 2 ^ markBits) l
 
 -- Facts in a list: they may repeat.
 abbrev pub FormF : List ℕ → Type 0
-FormF fs = (length fs ≤ 4095) × Below 1024 fs
+FormF fs = (length fs ≤ mostListed) × Below factCount fs
 
 -- Obligations.
 abbrev pub FormO : List ℕ → Type 0
-FormO os = Distinct os × Below 64 os
+FormO os = Distinct os × Below obligationCount os
 
 -- G says which outcomes fit.
 module _ {O : Type 0} (G : O → Type 0) where
@@ -63,9 +65,9 @@ module _ {O : Type 0} (G : O → Type 0) where
     pub Form : Policy O → Type 0
     Form (permit o) = G o
     Form deny = Unit {0}
-    Form (grant g c) = FormG g × FormC c × (wordsC c ≤ 4095)
-    Form (all ts) = (count ts ≤ 4095) × Forms ts
-    Form (any ts) = (count ts ≤ 4095) × Forms ts
+    Form (grant g c) = FormG g × FormC c × (wordsC c ≤ mostListed)
+    Form (all ts) = (count ts ≤ mostListed) × Forms ts
+    Form (any ts) = (count ts ≤ mostListed) × Forms ts
     Form (orElse a b) = Form a × Form b
     Form (stored d) = FormD d
 

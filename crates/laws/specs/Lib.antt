@@ -9,3 +9,4 @@ pub mod ReadBack
 pub mod ReadForm
 pub mod Canon
 pub mod Products
+pub mod Folds

@@ -102,9 +102,3 @@ writtenProducts = record {
     sound = λ n. below-at (2 ^ outcomeBits) n InRange (ltb n (2 ^ outcomeBits)) (λ e. ltb-true n (2 ^ outcomeBits) e);
     only = λ n. below-at (2 ^ outcomeBits) n (λ o. o ≡ n) (ltb n (2 ^ outcomeBits)) (λ _. refl)
   }
-
--- ---- folds and units: the two ends are neutral, so what Any and All permit is one fold over the permits' outcomes
-abbrev pub outcomes : List (Decision ℕ) → List ℕ
-outcomes [] = []
-outcomes (permits p ∷ ds) = p .outcome ∷ outcomes ds
-outcomes (denies d ∷ ds) = outcomes ds

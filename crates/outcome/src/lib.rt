@@ -10,7 +10,8 @@ pub struct Products {
 impl Products {
     // The two ends: no product, and all sixteen.
     pub const NONE: Products = Products { bits: 0 };
-    pub const ALL: Products = Products { bits: 65535 };
+
+    pub const ALL: Products = Products { bits: 0xffff };
 
     // The least permissive outcome.
     pub fn bottom() -> Products

@@ -33,11 +33,11 @@ conditionHeads r =
     ∷ cond (ltb r (2 ^ countBits)) (condition.Any r) condition.BadField
     ∷ []
 
-abbrev pub conditionHead : ℕ → ConditionHead
+unfoldable pub conditionHead : ℕ → ConditionHead
 conditionHead w = getD (conditionHeads (restOf w)) (kindOf w) condition.BadKind
 
 -- The rest of a condition by its head, its arms read by p.
-abbrev pub conditionNode : (List ℕ → Parsed Condition) → ConditionHead → List ℕ → Parsed Condition
+unfoldable pub conditionNode : (List ℕ → Parsed Condition) → ConditionHead → List ℕ → Parsed Condition
 conditionNode p Always ws = got always ws
 conditionNode p Never ws = got never ws
 conditionNode p (Has f) ws = got (has f) ws
@@ -61,11 +61,11 @@ deepCondition condition.BadField = 7
 -- ---- policies
 
 -- 6 Permit: zero (12), outcome (16).
-abbrev pub permitHead : ℕ → PolicyHead
+unfoldable pub permitHead : ℕ → PolicyHead
 permitHead r = cond (eqb (r / 2 ^ outcomeBits) 0) (Permit (r % 2 ^ outcomeBits)) policy.BadField
 
 -- 8 Grant: shape (1), obligation count (7), zero (4), outcome (16).
-abbrev pub grantHead : ℕ → PolicyHead
+unfoldable pub grantHead : ℕ → PolicyHead
 grantHead r =
     cond (fewObligations (bits (4 + outcomeBits) 7 r))
       (cond (eqb (bits outcomeBits 4 r) 0)
@@ -74,7 +74,7 @@ grantHead r =
       policy.BadField
 
 -- 12 PermitWithTrace: shape 0 (1), obligation count (7), zero (4), outcome (16).
-abbrev pub permitTraceHead : ℕ → PolicyHead
+unfoldable pub permitTraceHead : ℕ → PolicyHead
 permitTraceHead r =
     cond (eqb (r / 2 ^ (7 + 4 + outcomeBits)) 0)
       (cond (fewObligations (bits (4 + outcomeBits) 7 r))
@@ -83,7 +83,7 @@ permitTraceHead r =
       policy.BadField
 
 -- 13 DenyWithTrace: shape (1), denied present (1), zero (10), outcome (16; 0 if not present).
-abbrev pub denyTraceHead : ℕ → PolicyHead
+unfoldable pub denyTraceHead : ℕ → PolicyHead
 denyTraceHead r =
     cond (eqb (bits outcomeBits 10 r) 0)
       (cond (eqb (bits (10 + outcomeBits) 1 r) 1)
@@ -106,7 +106,7 @@ policyHeads res r =
     ∷ cond res (denyTraceHead r) policy.BadKind
     ∷ []
 
-abbrev pub policyHead : ℕ → Bool → PolicyHead
+unfoldable pub policyHead : ℕ → Bool → PolicyHead
 policyHead w res = cond (leb 6 (kindOf w)) (getD (policyHeads res (restOf w)) (kindOf w - 6) policy.BadKind) policy.BadKind
 
 -- A flag as the bit that it stands for; the denied outcome, if present.
@@ -118,18 +118,18 @@ abbrev pub deniedBy : Bool → ℕ → Option ℕ
 deniedBy denied o = cond denied (some o) none
 
 -- The rest of a 12 and of a 13 by its head.
-abbrev pub permitTraceNode : ℕ → ℕ → List ℕ → Parsed (Decision ℕ)
+unfoldable pub permitTraceNode : ℕ → ℕ → List ℕ → Parsed (Decision ℕ)
 permitTraceNode n o ws = another ws (λ w vs. more12 (productSets .value) n o (w / 2 ^ (4 + countBits)) (w % 2 ^ (4 + countBits)) vs)
 
-abbrev pub denyTraceNode : Bool → Bool → ℕ → List ℕ → Parsed (Decision ℕ)
+unfoldable pub denyTraceNode : Bool → Bool → ℕ → List ℕ → Parsed (Decision ℕ)
 denyTraceNode hidden denied o ws =
     another ws (λ w vs. more13 (productSets .value) (bitOf hidden) (deniedBy denied o) (w / 2 ^ (1 + markBits)) (w % 2 ^ (1 + markBits)) vs)
 
-abbrev pub grantNode : (List ℕ → Parsed Condition) → Bool → ℕ → ℕ → List ℕ → Parsed (Policy ℕ)
+unfoldable pub grantNode : (List ℕ → Parsed Condition) → Bool → ℕ → ℕ → List ℕ → Parsed (Policy ℕ)
 grantNode pc hidden n o ws = another ws (λ w vs. grantMore (productSets .value) pc (bitOf hidden) n o (w / 2 ^ (1 + markBits)) (w % 2 ^ (1 + markBits)) vs)
 
 -- The rest of a policy by its head, a grant's condition read by pc and arms by p.
-abbrev pub policyNode : (List ℕ → Parsed Condition) → (List ℕ → Parsed (Policy ℕ)) → PolicyHead → List ℕ → Parsed (Policy ℕ)
+unfoldable pub policyNode : (List ℕ → Parsed Condition) → (List ℕ → Parsed (Policy ℕ)) → PolicyHead → List ℕ → Parsed (Policy ℕ)
 policyNode pc p (Permit o) ws = got (permit o) ws
 policyNode pc p Deny ws = got deny ws
 policyNode pc p (Grant hidden n o) ws = grantNode pc hidden n o ws

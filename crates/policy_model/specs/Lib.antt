@@ -1,2 +1,4 @@
 pub mod Heads
 pub mod HeadLaws
+pub mod Lists
+pub mod Answers

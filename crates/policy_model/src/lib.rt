@@ -1,6 +1,19 @@
 // Policies as words, after gatekeep's policy_model.rs: what one word says, whether words hold a sheet or a record, and how far a tree reaches.
 ghost use mathlib.Core.Path.{_≡_};
-ghost use Rattle.policy_model.specs.Heads.{conditionHead, permitHead, grantHead, permitTraceHead, denyTraceHead, policyHead};
+ghost use Prim.Native.Nat.{_+_, _<_, _≤_};
+ghost use mathlib.Core.Bool.{Bool};
+ghost use Prim.Native.Nat.{ℕ};
+ghost use lib.ListN.{length, drop};
+ghost use Rattle.model.specs.Fields.{split};
+ghost use Rattle.model.specs.Outcome.{productSets};
+ghost use Rattle.model.specs.Condition.{cnil, ccons};
+ghost use Rattle.model.specs.Policy.{pnil, pcons};
+ghost use Rattle.model.specs.Writing.{obligationBits, entryBits};
+ghost use Rattle.model.specs.Reading.{many, readList, obligation, listed, consulted, readCondition, readPolicy};
+ghost use Rattle.laws.specs.Size.{quads, pairs, wordsC, wordsCs, wordsD, words as wordsP, wordss as wordsPs};
+ghost use Rattle.policy_model.specs.Lists.{seenOne, seenAll, entryFits, pairFits, markFits};
+ghost use Rattle.policy_model.specs.Answers.{checked};
+ghost use Rattle.policy_model.specs.Heads.{deepCondition, deepPolicy, grantNode, permitTraceNode, denyTraceNode, conditionHead, permitHead, grantHead, permitTraceHead, denyTraceHead, policyHead};
 
 // What the first word of a condition says.
 pub enum ConditionHead {
@@ -129,5 +142,103 @@ pub fn policy_head(word: u32, residual: bool) -> PolicyHead
         12 => if residual { permit_trace_head(rest) } else { PolicyHead::BadKind },
         13 => if residual { deny_trace_head(rest) } else { PolicyHead::BadKind },
         _ => PolicyHead::BadKind,
+    }
+}
+
+// What a check finds: the position after what was checked, or the number of the refusal.
+pub enum Checked {
+    Next(usize),
+    Refused(u32),
+}
+
+// A list of obligations as far as it is checked: those seen, one bit each, and how many are to come.
+enum Obligations {
+    Seen { mask: u64, left: u32 },
+    Refused(u32),
+}
+
+// One more field of the list. After the last obligation a field must be 0.
+fn with_field(seen: Obligations, field: u32) -> Obligations
+    ensures { λ r. ⌜ r ≡ seenOne seen field ⌝ }
+{
+    match seen {
+        Obligations::Refused(number) => Obligations::Refused(number),
+        Obligations::Seen { mask, left } => {
+            if left == 0 {
+                return if field == 0 {
+                    Obligations::Seen { mask, left }
+                } else {
+                    Obligations::Refused(8)
+                };
+            }
+            if field >= 64 {
+                return Obligations::Refused(8);
+            }
+            if (mask >> field) % 2 == 1 {
+                return Obligations::Refused(9);
+            }
+            Obligations::Seen {
+                mask: mask | (1u64 << field),
+                left: left - 1,
+            }
+        }
+    }
+}
+
+// The four fields of a word, from the left.
+fn with_word(seen: Obligations, word: u32) -> Obligations
+    ensures { λ r. ⌜ r ≡ seenAll seen (split obligationBits 4 word) ⌝ }
+{
+    let first = with_field(seen, word / 16777216);
+    let second = with_field(first, word % 16777216 / 65536);
+    let third = with_field(second, word % 65536 / 256);
+    with_field(third, word % 256)
+}
+
+// Checks a list of `count` obligations from `at`.
+pub fn check_obligations(words: &[u32], at: usize, count: u32) -> Checked
+    ensures { λ r. ⌜ r ≡ checked quads at (readList obligation obligationBits count (drop at (now (words .entry)))) ⌝ }
+{
+    let mut next = at;
+    let mut mask: u64 = 0;
+    let mut left = count;
+    while left != 0 {
+        if words.len() <= next {
+            return Checked::Refused(6);
+        }
+        match with_word(Obligations::Seen { mask, left }, words[next]) {
+            Obligations::Seen { mask: seen, left: more } => {
+                mask = seen;
+                left = more;
+                next += 1;
+            }
+            Obligations::Refused(number) => return Checked::Refused(number),
+        }
+    }
+    Checked::Next(next)
+}
+
+// Whether a field is an entry whose presence is below `presences`: presence (2), zero (4), fact (10).
+fn entry_fits(field: u32, presences: u32) -> bool
+    ensures { λ r. ⌜ r ≡ entryFits presences field ⌝ }
+{
+    if field / 16384 < presences {
+        field % 16384 < 1024
+    } else {
+        false
+    }
+}
+
+// Whether the two fields of a word are such entries, of which `left` are to come. After the last one a field must be 0.
+fn pair_fits(word: u32, left: u32, presences: u32) -> bool
+    ensures { λ r. ⌜ r ≡ pairFits presences left word ⌝ }
+{
+    if !entry_fits(word / 65536, presences) {
+        return false;
+    }
+    if left == 1 {
+        word % 65536 == 0
+    } else {
+        entry_fits(word % 65536, presences)
     }
 }

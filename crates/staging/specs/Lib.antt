@@ -8,3 +8,4 @@ pub mod Bound
 pub mod Stages
 pub mod Statement
 pub mod Demand3
+pub mod Witness

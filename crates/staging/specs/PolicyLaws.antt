@@ -7,12 +7,13 @@ use Prim.Native.Nat.{ℕ}
 use Rattle.model.specs.Facts.{Table, asKnown}
 use Rattle.model.specs.Outcome.{Outcomes}
 use Rattle.model.specs.Condition.{Condition, ConditionEval, satisfied, unsatisfied, evalCondition}
-use Rattle.model.specs.Decision.{Permit, Denial, Decision, permits, denies, combined, products, unionObligations, meetPermit, joinPermit, meetIn, joinIn}
+use Rattle.model.specs.Decision.{Permit, Denial, Decision, permits, denies, products, meetIn, joinIn}
 use Rattle.model.specs.Policy.{Grant, Policy, permit, deny, grant, all, any, orElse, stored, Policies, pnil, pcons}
 use Rattle.model.specs.Evaluate.{evalGrant, firstOf, firstDeny, allEnd, allFrom, anyEnd, anyFrom, evalPolicy, evalPolicies}
 use Rattle.model.specs.Partial.{ReducedCondition, known, pendingC, reduceCondition, ReducedPolicy, resolved, pending, asResidual, arms, kept, AllWalk, stop, go, stepAll, AnyWalk, parts, stepAny, reduceGrant, reduceOrElse, endAll, endAny, reducePolicy, reduceAll, reduceAny}
 use Rattle.laws.specs.Each.{Each, Eachs, Agrees}
 use Rattle.laws.specs.Products.{Lawful}
+use Rattle.laws.specs.Folds.{meetPermit-outcome, joinPermit-outcome}
 use Rattle.staging.specs.ConditionLaws.{isSatisfied, truthR, redC-sound, known-again}
 
 -- ---- an operation with a unit put on
@@ -61,31 +62,7 @@ module _ {A : Type 0} (op : A → A → A) where
     times-assoc (some a) (some b) none = refl
     times-assoc (some a) (some b) (some c) = ap some (assoc a b c)
 
--- A choice has a value that both branches have, where the first has it if the test is true.
-pick-value : {A B : Type 0} (f : A → B) (v : B) (b : Bool) (x y : A) → (b ≡ true → f x ≡ v) → f y ≡ v → f (cond b x y) ≡ v
-pick-value f v true x y h k = h refl
-pick-value f v false x y h k = k
-
 module _ (L : Outcomes) (lawful : Lawful L) where
-  -- the products of a permit so far, and of one that may not be there yet
-  abbrev out : Permit (L .O) → L .O
-  out p = p .outcome
-
-  meetP-out : (p q : Permit (L .O)) → meetPermit L p q .outcome ≡ L .meet (p .outcome) (q .outcome)
-  meetP-out p q =
-      let o = L .meet (p .outcome) (q .outcome) in
-      pick-value out o (L .same o (p .outcome)) p (cond (L .same o (q .outcome)) q (combined o [])) (λ e. sym (lawful .same-sound o (p .outcome) e))
-        (pick-value out o (L .same o (q .outcome)) q (combined o []) (λ e. sym (lawful .same-sound o (q .outcome) e)) refl)
-
-  joinP-out : (p q : Permit (L .O)) → joinPermit L p q .outcome ≡ L .join (p .outcome) (q .outcome)
-  joinP-out p q =
-      let o = L .join (p .outcome) (q .outcome) in
-      let os = unionObligations (p .obligations) (q .obligations) in
-      let pw : Permit (L .O) = record { outcome = p .outcome; obligations = os; label = p .label; facts = p .facts } in
-      pick-value out o (L .same o (p .outcome)) (cond (L .same o (q .outcome)) pw p) (cond (L .same o (q .outcome)) q (combined o os))
-        (λ e. pick-value out o (L .same o (q .outcome)) pw p (λ _. sym (lawful .same-sound o (p .outcome) e)) (sym (lawful .same-sound o (p .outcome) e)))
-        (pick-value out o (L .same o (q .outcome)) q (combined o os) (λ e. sym (lawful .same-sound o (q .outcome) e)) refl)
-
   -- ---- Any as a sum of products
   abbrev _⊕_ : Option (L .O) → Option (L .O) → Option (L .O)
   _⊕_ x y = plus (L .join) x y
@@ -101,7 +78,7 @@ module _ (L : Outcomes) (lawful : Lawful L) where
 
   joinIn-out : (sofar : Option (Permit (L .O))) (q : Permit (L .O)) → some (joinIn L sofar q .outcome) ≡ outs sofar ⊕ some (q .outcome)
   joinIn-out none q = refl
-  joinIn-out (some p) q = ap some (joinP-out p q)
+  joinIn-out (some p) q = ap some (joinPermit-outcome L lawful p q)
 
   anyEnd-sum : (sofar : Option (Permit (L .O))) (first : Option (Denial (L .O))) → products (anyEnd L sofar first) ≡ outs sofar ⊕ none
   anyEnd-sum (some p) first = refl
@@ -142,7 +119,7 @@ module _ (L : Outcomes) (lawful : Lawful L) where
 
   meetIn-out : (sofar : Option (Permit (L .O))) (q : Permit (L .O)) → some (some (meetIn L sofar q .outcome)) ≡ outs₂ sofar ⊗ some (some (q .outcome))
   meetIn-out none q = refl
-  meetIn-out (some p) q = ap (λ o. some (some o)) (meetP-out p q)
+  meetIn-out (some p) q = ap (λ o. some (some o)) (meetPermit-outcome L lawful p q)
 
   allEnd-sum : (sofar : Option (Permit (L .O))) → products (allEnd L sofar) ≡ close (outs₂ sofar ⊗ none)
   allEnd-sum none = refl

@@ -36,17 +36,18 @@ loop-less : tie.Need-loop-less Inv-loop μ-loop
 loop-less c = search needs
 
 loop-again : tie.Need-loop-again Inv-loop μ-loop
-loop-again c =
-    (search needs,
-    c .before .before .before .loop .inv .1
-    ∙ pass-byte
-    (kindOf (c .before .before .before .before .before .args .kind))
-    (c .before .before .before .before .before .args .facts .now)
-    (c .before .before .before .loop .i)
-    (c .before .before .before .loop .marked)
-    (c .marks .result)
-    (c .before .before .loop-test .taken)
-    (c .marks .ensures))
+loop-again c = (
+  search needs,
+  c .before .before .before .loop .inv .1
+      ∙ pass-byte
+      (kindOf (c .before .before .before .before .before .args .kind))
+      (c .before .before .before .before .before .args .facts .now)
+      (c .before .before .before .loop .i)
+      (c .before .before .before .loop .marked)
+      (c .marks .result)
+      (c .before .before .loop-test .taken)
+      (c .marks .ensures),
+)
 
 returns : tie.Need-returns Inv-loop μ-loop
 returns c =

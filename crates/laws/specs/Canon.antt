@@ -81,7 +81,7 @@ TookO n us os vs = (pack obligationBits os ++ vs ≡ us) × (length os ≡ n)
 same-obligations : (n : ℕ) (us : List ℕ) → Holds (TookO n us) (readList obligation obligationBits n us)
 same-obligations n us =
     weaker (readList obligation obligationBits n us) (λ os vs h. (ap (λ l. pack obligationBits l ++ vs) (sym (map-id os)) ∙ h .were, h .long))
-      (same-list (λ o. o) obligation same-obligation obligationBits 3 n us refl)
+    (same-list (λ o. o) obligation same-obligation obligationBits 3 n us refl)
 
 abbrev TookF : ℕ → List ℕ → List ℕ → List ℕ → Type 0
 TookF n us fs vs = (pack entryBits fs ++ vs ≡ us) × (length fs ≡ n)
@@ -89,7 +89,7 @@ TookF n us fs vs = (pack entryBits fs ++ vs ≡ us) × (length fs ≡ n)
 same-facts : (n : ℕ) (us : List ℕ) → Holds (TookF n us) (readList listed entryBits n us)
 same-facts n us =
     weaker (readList listed entryBits n us) (λ fs vs h. (ap (λ l. pack entryBits l ++ vs) (sym (map-id fs)) ∙ h .were, h .long))
-      (same-list (λ f. f) listed same-listed entryBits 1 n us refl)
+    (same-list (λ f. f) listed same-listed entryBits 1 n us refl)
 
 abbrev TookE : ℕ → List ℕ → Consulted → List ℕ → Type 0
 TookE n us es vs = (pack entryBits (map entryField es) ++ vs ≡ us) × (length es ≡ n)
@@ -161,7 +161,7 @@ module _ {O : Type 0} (number : O → ℕ) (value : ℕ → Option O) (only : (v
       let head : shapeBit (shapeOf sh) * 134217728 + length os * 1048576 + number o ≡ r = omega arith in
       let second : marked l * 65536 + marked m ≡ w = omega arith in
       fine (ap₂ (λ x y. word 8 x ∷ y) head
-        (ap₂ (λ x y. x ∷ y) second (append-assoc (pack obligationBits os) (encodeC c) ss ∙ ap (λ y. pack obligationBits os ++ y) ec ∙ eos .0) ∙ sym ew))))))))))
+      (ap₂ (λ x y. x ∷ y) second (append-assoc (pack obligationBits os) (encodeC c) ss ∙ ap (λ y. pack obligationBits os ++ y) ec ∙ eos .0) ∙ sym ew))))))))))
 
   same-12 : (r : ℕ) → r < 268435456 → (us : List ℕ) → Holds (SameD (word 12 r ∷ us)) (at12 value r us)
   same-12 r hr us =
@@ -187,7 +187,7 @@ module _ {O : Type 0} (number : O → ℕ) (value : ℕ → Option O) (only : (v
       let head : length os * 1048576 + number o ≡ r = omega arith in
       let second : marked l * 65536 + length fs ≡ w = omega arith in
       fine (ap₂ (λ x y. word 12 x ∷ y) head
-        (ap₂ (λ x y. x ∷ y) second (append-assoc (pack obligationBits os) (pack entryBits fs) ss ∙ ap (λ y. pack obligationBits os ++ y) (efs .0) ∙ eos .0) ∙ sym ew)))))))))))
+      (ap₂ (λ x y. x ∷ y) second (append-assoc (pack obligationBits os) (pack entryBits fs) ss ∙ ap (λ y. pack obligationBits os ++ y) (efs .0) ∙ eos .0) ∙ sym ew)))))))))))
 
   -- a denied outcome of which the present bit is h
   same-denied : {B : Type 0} {R : B → List ℕ → Type 0} (h v : ℕ) (k : Option O → Parsed B) → h ≤ 1 → ((x : Option O) → deniedField number x ≡ h * 67108864 + v → Holds R (k x)) → Holds R (deniedOf value h v k)
@@ -215,7 +215,7 @@ module _ {O : Type 0} (number : O → ℕ) (value : ℕ → Option O) (only : (v
       let head : shapeBit (shapeOf sh) * 134217728 + deniedField number den ≡ r = omega arith in
       let second : marked l * 65536 + marked m ≡ w = omega arith in
       fine (ap₂ (λ x y. word 13 x ∷ y) head
-        (ap₂ (λ x y. x ∷ y) second (ap₂ (λ x y. x ∷ y) (efs .1) (efs .0) ∙ sym en) ∙ sym ew))))))))))
+      (ap₂ (λ x y. x ∷ y) second (ap₂ (λ x y. x ∷ y) (efs .1) (efs .0) ∙ sym en) ∙ sym ew))))))))))
 
   abbrev SameTs : ℕ → List ℕ → Policies O → List ℕ → Type 0
   SameTs n us ts vs = (encodes number ts ++ vs ≡ us) × (count ts ≡ n)
@@ -267,7 +267,7 @@ module _ {O : Type 0} (number : O → ℕ) (value : ℕ → Option O) (only : (v
       let h : 6 ≤ k = leb→le 6 k (subst T (sym e) tt) in
       let j : word (6 + (k - 6)) r ≡ w = omega arith in
       weaker (nodeP value res (λ vs. readCondition d vs) (λ vs. readPolicy value res d vs) (k - 6) r us) (λ t vs s. s ∙ ap (λ x. x ∷ us) j)
-        (same-nodeP res (λ vs. readPolicy value res d vs) (λ vs. same-T res d vs) (λ vs. readCondition d vs) (λ vs. same-C d vs) (k - 6) r (omega arith) us))
+      (same-nodeP res (λ vs. readPolicy value res d vs) (λ vs. same-T res d vs) (λ vs. readCondition d vs) (λ vs. same-C d vs) (k - 6) r (omega arith) us))
 
   -- ---- records: the tree's words, and the lead's kind
   abbrev SameB : ℕ → List ℕ → ReducedPolicy O → List ℕ → Type 0
@@ -325,9 +325,9 @@ module _ {O : Type 0} (number : O → ℕ) (value : ℕ → Option O) (only : (v
   pub same-sheet : (ws : List ℕ) (t : Policy O) (vs : List ℕ) → readSheet value ws ≡ got t vs → encode number t ≡ ws
   same-sheet ws t vs e =
       subst (Holds (λ x _. encode number x ≡ ws)) e
-        (if-holds (leb 1 (length ws) && leb (length ws) 4096) 1 (whole (readPolicy value false 32 ws)) (λ _. whole-same (encode number) ws (readPolicy value false 32 ws) (same-T false 32 ws))) .it
+      (if-holds (leb 1 (length ws) && leb (length ws) 4096) 1 (whole (readPolicy value false 32 ws)) (λ _. whole-same (encode number) ws (readPolicy value false 32 ws) (same-T false 32 ws))) .it
 
   pub same-record : (ws : List ℕ) (r : Record O) (vs : List ℕ) → readRecord value ws ≡ got r vs → encodeR number r ≡ ws
   same-record ws r vs e =
       subst (Holds (λ x _. encodeR number x ≡ ws)) e
-        (if-holds (leb 1 (length ws) && leb (length ws) 16384) 1 (whole (readLead value ws)) (λ _. whole-same (encodeR number) ws (readLead value ws) (same-lead ws))) .it
+      (if-holds (leb 1 (length ws) && leb (length ws) 16384) 1 (whole (readLead value ws)) (λ _. whole-same (encodeR number) ws (readLead value ws) (same-lead ws))) .it

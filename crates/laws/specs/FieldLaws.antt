@@ -37,7 +37,7 @@ split-le (suc n) (suc k) f g = split-le n k (λ h. f (omega arith)) (λ h. g (om
 pub wordsFor-more : (n k : ℕ) → wordsFor (suc n) (suc k) ≡ suc (wordsFor (suc n) (k - n))
 wordsFor-more n k =
     split-le n k (words-more n k)
-      (λ h. words-last n k (omega arith) ∙ ap suc (sym (ap (wordsFor (suc n)) (let z : k - n ≡ 0 = omega arith in z) ∙ wordsFor-none n)))
+    (λ h. words-last n k (omega arith) ∙ ap suc (sym (ap (wordsFor (suc n)) (let z : k - n ≡ 0 = omega arith in z) ∙ wordsFor-none n)))
 
 -- ---- one word
 -- The first n values, 0 where there are fewer.
@@ -238,7 +238,7 @@ module _ {A : Type 0} (e : A → ℕ) (chk : List A → ℕ → Parsed A) (same 
         all = t .all ∙ append-assoc s (a ∷ []) (t .new);
         were = ap₂ (λ x l. x ∷ l) h (t .were);
         few = omega arith;
-        to-come = omega arith
+        to-come = omega arith;
       }
 
   a-zero : (s : List A) (b : ℕ) (bs : List ℕ) → b ≡ 0 → (xs : List A) (m : ℕ) → Since s 0 bs xs m → Since s 0 (b ∷ bs) xs m
@@ -251,7 +251,7 @@ module _ {A : Type 0} (e : A → ℕ) (chk : List A → ℕ → Parsed A) (same 
         all = t .all ∙ ap (λ l. s ++ l) none;
         were = ap₂ (λ x l. x ∷ l) (sym h) (ap (λ l. padded (length bs) (map e l)) (sym none) ∙ t .were);
         few = omega arith;
-        to-come = omega arith
+        to-come = omega arith;
       }
 
   took-zero : (bs : List ℕ) (s : List A) (b : ℕ) (t : Bool) → eqb b 0 ≡ t → Taken (Since s 0 bs) (takeFields chk (ok s zero) bs)
@@ -293,8 +293,8 @@ module _ {A : Type 0} (e : A → ℕ) (chk : List A → ℕ → Parsed A) (same 
         same-front : padded (suc n) (map e (ys ++ zs)) ≡ padded (suc n) (map e ys)
         same-front =
             short-or-full
-              (λ f. ap (padded (suc n)) (map-append e ys zs) ∙ padded-front (suc n) (map e ys) (map e zs) (omega (arith, length-map ys e)))
-              (λ z f. ap (λ l. padded (suc n) (map e (ys ++ l))) z ∙ ap (λ l. padded (suc n) (map e l)) (append-nil ys))
+            (λ f. ap (padded (suc n)) (map-append e ys zs) ∙ padded-front (suc n) (map e ys) (map e zs) (omega (arith, length-map ys e)))
+            (λ z f. ap (λ l. padded (suc n) (map e (ys ++ l))) z ∙ ap (λ l. padded (suc n) (map e l)) (append-nil ys))
 
         whole-word : joined width (suc n) (map e (ys ++ zs)) ≡ w
         whole-word =
@@ -306,8 +306,8 @@ module _ {A : Type 0} (e : A → ℕ) (chk : List A → ℕ → Parsed A) (same 
         others =
             map-drop e (suc n) (ys ++ zs)
             ∙ ap (map e) (short-or-full
-                (λ f. ap (λ i. drop i (ys ++ zs)) (sym f) ∙ drop-append-seam ys zs)
-                (λ z f. ap (λ l. drop (suc n) (ys ++ l)) z ∙ ap (drop (suc n)) (append-nil ys) ∙ drop-of-length-le ys f ∙ sym z))
+            (λ f. ap (λ i. drop i (ys ++ zs)) (sym f) ∙ drop-append-seam ys zs)
+            (λ z f. ap (λ l. drop (suc n) (ys ++ l)) z ∙ ap (drop (suc n)) (append-nil ys) ∙ drop-of-length-le ys f ∙ sym z))
 
     bad-words : (vs : List ℕ) (m : ℕ) → readWords chk width (suc n) vs (bad m) ≡ refuse m
     bad-words [] m = refl
@@ -321,20 +321,20 @@ module _ {A : Type 0} (e : A → ℕ) (chk : List A → ℕ → Parsed A) (same 
         let g = h .it in
         let l = length-split width (suc n) w in
         weaker (readWords chk width (suc n) us (ok xs m)) (λ zs vs r.
-          let e₁ : length (g .new) ≡ min (suc k) (suc n) = g .few ∙ ap (min (suc k)) l in
-          let e₂ : m ≡ suc k - suc n = g .to-come ∙ ap (λ x. suc k - x) l in
-          let e₃ : padded (suc n) (map e (g .new)) ≡ split width (suc n) w = ap (λ x. padded x (map e (g .new))) (sym l) ∙ g .were in
-          let e₄ : m ≡ k - n = e₂ ∙ omega arith in
-          record {
-            new = g .new ++ r .new;
-            all = r .all ∙ ap (λ x. x ++ r .new) (g .all) ∙ append-assoc s (g .new) (r .new);
-            long = length-append (g .new) (r .new) ∙ omega (arith, r .long);
-            were =
+        let e₁ : length (g .new) ≡ min (suc k) (suc n) = g .few ∙ ap (min (suc k)) l in
+        let e₂ : m ≡ suc k - suc n = g .to-come ∙ ap (λ x. suc k - x) l in
+        let e₃ : padded (suc n) (map e (g .new)) ≡ split width (suc n) w = ap (λ x. padded x (map e (g .new))) (sym l) ∙ g .were in
+        let e₄ : m ≡ k - n = e₂ ∙ omega arith in
+        record {
+          new = g .new ++ r .new;
+          all = r .all ∙ ap (λ x. x ++ r .new) (g .all) ∙ append-assoc s (g .new) (r .new);
+          long = length-append (g .new) (r .new) ∙ omega (arith, r .long);
+          were =
               ap (λ x. x ++ vs) (front-word w k (g .new) (r .new) e₃ e₁ (r .long ∙ e₂))
               ∙ ap (λ x. w ∷ (packed width (suc n) (wordsFor (suc n) x) (map e (r .new)) ++ vs)) (sym e₄)
-              ∙ ap (λ x. w ∷ x) (r .were)
-          })
-          (ih xs m)
+              ∙ ap (λ x. w ∷ x) (r .were);
+        })
+        (ih xs m)
 
     -- What was read is written again as the same words.
     same-words : (us : List ℕ) (s : List A) (k : ℕ) → Holds (Read s k us) (readWords chk width (suc n) us (ok s k))
@@ -353,16 +353,16 @@ module _ {A : Type 0} (e : A → ℕ) (chk : List A → ℕ → Parsed A) (same 
   pub same-list : (width n k : ℕ) (us : List ℕ) → perWord width ≡ suc n → Holds (ReadList width k us) (readList chk width k us)
   same-list width n k us h =
       subst (λ i. Holds (ReadList width k us) (readWords chk width i us (ok [] k))) (sym h)
-        (weaker (readWords chk width (suc n) us (ok [] k)) (λ xs vs r.
-          let e₁ : length xs ≡ k = ap length (r .all) ∙ r .long in
-          let e₂ : pack width (map e xs) ++ vs ≡ us = (λ i. packed width (h i) (wordsFor (h i) (length-map xs e i)) (map e xs) ++ vs) ∙ ap₂ (λ x l. packed width (suc n) (wordsFor (suc n) x) (map e l) ++ vs) e₁ (r .all) ∙ r .were in
-          let e₃ : wordsFor (perWord width) k + length vs ≡ length us =
-              ap (λ x. wordsFor x k + length vs) h
-              ∙ ap (λ x. x + length vs) (sym (length-packed width (suc n) (wordsFor (suc n) k) (map e (r .new))))
-              ∙ sym (length-append (packed width (suc n) (wordsFor (suc n) k) (map e (r .new))) vs)
-              ∙ ap length (r .were) in
-          record { long = e₁; were = e₂; took-words = e₃ })
-          (same-words width n us [] k))
+      (weaker (readWords chk width (suc n) us (ok [] k)) (λ xs vs r.
+      let e₁ : length xs ≡ k = ap length (r .all) ∙ r .long in
+      let e₂ : pack width (map e xs) ++ vs ≡ us = (λ i. packed width (h i) (wordsFor (h i) (length-map xs e i)) (map e xs) ++ vs) ∙ ap₂ (λ x l. packed width (suc n) (wordsFor (suc n) x) (map e l) ++ vs) e₁ (r .all) ∙ r .were in
+      let e₃ : wordsFor (perWord width) k + length vs ≡ length us =
+      ap (λ x. wordsFor x k + length vs) h
+      ∙ ap (λ x. x + length vs) (sym (length-packed width (suc n) (wordsFor (suc n) k) (map e (r .new))))
+      ∙ sym (length-append (packed width (suc n) (wordsFor (suc n) k) (map e (r .new))) vs)
+      ∙ ap length (r .were) in
+      record { long = e₁; were = e₂; took-words = e₃ })
+      (same-words width n us [] k))
 
 -- What holds of the fields so far and is kept by each check holds of the list that was read.
 module _ {A : Type 0} (chk : List A → ℕ → Parsed A) (I : List A → Type 0) (keeps : (xs : List A) (b : ℕ) → I xs → Holds (λ a _. I (xs ++ a ∷ [])) (chk xs b)) where

@@ -27,7 +27,7 @@ module _ (L : Outcomes) (lawful : Lawful L) where
   meetPermit-outcome p q =
       let o = L .meet (p .outcome) (q .outcome) in
       pick-value out o (L .same o (p .outcome)) p (cond (L .same o (q .outcome)) q (combined o [])) (λ e. sym (lawful .same-sound o (p .outcome) e))
-        (pick-value out o (L .same o (q .outcome)) q (combined o []) (λ e. sym (lawful .same-sound o (q .outcome) e)) refl)
+      (pick-value out o (L .same o (q .outcome)) q (combined o []) (λ e. sym (lawful .same-sound o (q .outcome) e)) refl)
 
   pub joinPermit-outcome : (p q : Permit (L .O)) → joinPermit L p q .outcome ≡ L .join (p .outcome) (q .outcome)
   joinPermit-outcome p q =
@@ -35,8 +35,8 @@ module _ (L : Outcomes) (lawful : Lawful L) where
       let os = unionObligations (p .obligations) (q .obligations) in
       let pw : Permit (L .O) = record { outcome = p .outcome; obligations = os; label = p .label; facts = p .facts } in
       pick-value out o (L .same o (p .outcome)) (cond (L .same o (q .outcome)) pw p) (cond (L .same o (q .outcome)) q (combined o os))
-        (λ e. pick-value out o (L .same o (q .outcome)) pw p (λ _. sym (lawful .same-sound o (p .outcome) e)) (sym (lawful .same-sound o (p .outcome) e)))
-        (pick-value out o (L .same o (q .outcome)) q (combined o os) (λ e. sym (lawful .same-sound o (q .outcome) e)) refl)
+      (λ e. pick-value out o (L .same o (q .outcome)) pw p (λ _. sym (lawful .same-sound o (p .outcome) e)) (sym (lawful .same-sound o (p .outcome) e)))
+      (pick-value out o (L .same o (q .outcome)) q (combined o os) (λ e. sym (lawful .same-sound o (q .outcome) e)) refl)
 
 -- ---- sets of products
 

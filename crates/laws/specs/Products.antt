@@ -75,12 +75,12 @@ or-assoc-to (suc n) a b c h = or-assoc-up a b c (or-assoc-to n (a / 2) (b / 2) (
 
 pub lawfulProducts : Lawful productSets
 lawfulProducts = record {
-    same-sound = eqb-true;
-    meet-comm = and-comm;
-    join-comm = or-comm;
-    meet-assoc = λ a b c. and-assoc-to a a b c (omega arith);
-    join-assoc = λ a b c. or-assoc-to a a b c (omega arith)
-  }
+  same-sound = eqb-true;
+  meet-comm = and-comm;
+  join-comm = or-comm;
+  meet-assoc = λ a b c. and-assoc-to a a b c (omega arith);
+  join-assoc = λ a b c. or-assoc-to a a b c (omega arith);
+}
 
 -- The products that there are.
 abbrev pub InRange : ℕ → Type 0
@@ -95,10 +95,10 @@ below-at n o Q false q = tt
 
 pub writtenProducts : Written productSets InRange
 writtenProducts = record {
-    meets = λ a b h k. and-lt outcomeBits a b h k;
-    joins = λ a b h k. or-lt outcomeBits a b h k;
-    small = λ o h. h;
-    again = λ o h. below-again (2 ^ outcomeBits) o h;
-    sound = λ n. below-at (2 ^ outcomeBits) n InRange (ltb n (2 ^ outcomeBits)) (λ e. ltb-true n (2 ^ outcomeBits) e);
-    only = λ n. below-at (2 ^ outcomeBits) n (λ o. o ≡ n) (ltb n (2 ^ outcomeBits)) (λ _. refl)
-  }
+  meets = λ a b h k. and-lt outcomeBits a b h k;
+  joins = λ a b h k. or-lt outcomeBits a b h k;
+  small = λ o h. h;
+  again = λ o h. below-again (2 ^ outcomeBits) o h;
+  sound = λ n. below-at (2 ^ outcomeBits) n InRange (ltb n (2 ^ outcomeBits)) (λ e. ltb-true n (2 ^ outcomeBits) e);
+  only = λ n. below-at (2 ^ outcomeBits) n (λ o. o ≡ n) (ltb n (2 ^ outcomeBits)) (λ _. refl);
+}

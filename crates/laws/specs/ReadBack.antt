@@ -173,7 +173,6 @@ shape-small hidden = omega arith
 -- ---- policies. `number` writes an outcome in 16 number, `value` reads it.
 module _ {O : Type 0} (G : O → Type 0) (number : O → ℕ) (value : ℕ → Option O)
     (small : (o : O) → G o → number o < 65536) (again : (o : O) → G o → value (number o) ≡ some o) where
-
   outcome-back : {A : Type 0} (o : O) → G o → (k : O → Parsed A) → outcomeOf value (value (number o)) k ≡ k o
   outcome-back o h k = ap (λ x. outcomeOf value x k) (again o h)
 

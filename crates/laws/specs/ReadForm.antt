@@ -36,8 +36,8 @@ module _ (d : ℕ) (p : List ℕ → Parsed Condition) (hp : (ws : List ℕ) →
   many-C zero ws = fine (tt, omega arith, omega arith, omega arith)
   many-C (suc k) ws =
       then-holds (p ws) (λ a vs. next (many cnil ccons p k vs) (λ xs us. got (ccons a xs) us)) (hp ws)
-        (λ a vs h. then-holds (many cnil ccons p k vs) (λ xs us. got (ccons a xs) us) (many-C k vs)
-          (λ xs us g. fine ((h .0, g .0), omega arith, omega arith, omega arith)))
+      (λ a vs h. then-holds (many cnil ccons p k vs) (λ xs us. got (ccons a xs) us) (many-C k vs)
+      (λ xs us g. fine ((h .0, g .0), omega arith, omega arith, omega arith)))
 
   node-C : (k r : ℕ) (ws : List ℕ) → Holds (OkC (suc d) (suc (length ws))) (nodeC p k r ws)
   node-C zero r ws = if-holds (eqb r 0) 8 (got always ws) (λ e. fine (tt, omega arith, omega arith))
@@ -47,10 +47,10 @@ module _ (d : ℕ) (p : List ℕ → Parsed Condition) (hp : (ws : List ℕ) →
       if-holds (eqb r 0) 8 (next (p ws) (λ c vs. got (notC c) vs)) (λ e. then-holds (p ws) (λ c vs. got (notC c) vs) (hp ws) (λ c vs h. fine (h .0, omega arith, omega arith)))
   node-C (suc (suc (suc (suc zero)))) r ws =
       if-holds (ltb r 4096) 8 (next (many cnil ccons p r ws) (λ cs vs. got (allC cs) vs))
-        (λ e. then-holds (many cnil ccons p r ws) (λ cs vs. got (allC cs) vs) (many-C r ws) (λ cs vs h. fine ((omega (arith, ltb-true r 4096 e), h .0), omega arith, omega arith)))
+      (λ e. then-holds (many cnil ccons p r ws) (λ cs vs. got (allC cs) vs) (many-C r ws) (λ cs vs h. fine ((omega (arith, ltb-true r 4096 e), h .0), omega arith, omega arith)))
   node-C (suc (suc (suc (suc (suc zero))))) r ws =
       if-holds (ltb r 4096) 8 (next (many cnil ccons p r ws) (λ cs vs. got (anyC cs) vs))
-        (λ e. then-holds (many cnil ccons p r ws) (λ cs vs. got (anyC cs) vs) (many-C r ws) (λ cs vs h. fine ((omega (arith, ltb-true r 4096 e), h .0), omega arith, omega arith)))
+      (λ e. then-holds (many cnil ccons p r ws) (λ cs vs. got (anyC cs) vs) (many-C r ws) (λ cs vs h. fine ((omega (arith, ltb-true r 4096 e), h .0), omega arith, omega arith)))
   node-C (suc (suc (suc (suc (suc (suc k)))))) r ws = nothing
 
 pub ok-C : (d : ℕ) (ws : List ℕ) → Holds (OkC d (length ws)) (readCondition d ws)
@@ -69,7 +69,7 @@ same-listed fs b = if-holds (ltb b 1024) 8 (got b []) (λ _. fine refl)
 obligation-keeps : (os : List ℕ) (b : ℕ) → FormO os → Holds (λ a _. FormO (os ++ a ∷ [])) (obligation os b)
 obligation-keeps os b f =
     if-holds (ltb b 64) 8 (unless (not (held b os)) 9 (got b [])) (λ e. if-holds (not (held b os)) 9 (got b [])
-      (λ g. fine (distinct-end os b (f .0) (not-true (held b os) g), every-end (λ o. o < 64) os b (f .1) (ltb-true b 64 e))))
+    (λ g. fine (distinct-end os b (f .0) (not-true (held b os) g), every-end (λ o. o < 64) os b (f .1) (ltb-true b 64 e))))
 
 listed-keeps : (fs : List ℕ) (b : ℕ) → Below 1024 fs → Holds (λ a _. Below 1024 (fs ++ a ∷ [])) (listed fs b)
 listed-keeps fs b f = if-holds (ltb b 1024) 8 (got b []) (λ e. fine (every-end (λ o. o < 1024) fs b f (ltb-true b 1024 e)))
@@ -80,8 +80,8 @@ OkOs n l os vs = FormO os × (length os ≡ n) × (wordsFor (perWord obligationB
 pub ok-obligations : (n : ℕ) (ws : List ℕ) → Holds (OkOs n (length ws)) (readList obligation obligationBits n ws)
 ok-obligations n ws =
     weaker (readList obligation obligationBits n ws) (λ os vs h. (h .0, h .1 .long, h .1 .took-words))
-      (both-hold (readList obligation obligationBits n ws) (kept-list obligation FormO obligation-keeps obligationBits n ws (tt, tt))
-        (same-list (λ o. o) obligation same-obligation obligationBits 3 n ws refl))
+    (both-hold (readList obligation obligationBits n ws) (kept-list obligation FormO obligation-keeps obligationBits n ws (tt, tt))
+    (same-list (λ o. o) obligation same-obligation obligationBits 3 n ws refl))
 
 abbrev pub OkFs : ℕ → ℕ → List ℕ → List ℕ → Type 0
 OkFs n l fs vs = Below 1024 fs × (length fs ≡ n) × (wordsFor (perWord entryBits) n + length vs ≡ l)
@@ -89,8 +89,8 @@ OkFs n l fs vs = Below 1024 fs × (length fs ≡ n) × (wordsFor (perWord entryB
 pub ok-facts : (n : ℕ) (ws : List ℕ) → Holds (OkFs n (length ws)) (readList listed entryBits n ws)
 ok-facts n ws =
     weaker (readList listed entryBits n ws) (λ fs vs h. (h .0, h .1 .long, h .1 .took-words))
-      (both-hold (readList listed entryBits n ws) (kept-list listed (Below 1024) listed-keeps entryBits n ws tt)
-        (same-list (λ f. f) listed same-listed entryBits 1 n ws refl))
+    (both-hold (readList listed entryBits n ws) (kept-list listed (Below 1024) listed-keeps entryBits n ws tt)
+    (same-list (λ f. f) listed same-listed entryBits 1 n ws refl))
 
 -- ---- labels and reasons
 mark-at : (h : ℕ) (b : Bool) → ltb h 32768 ≡ b → Holds (λ l _. FormL l) (cond b (unless (eqb h 0) 8 (got none [])) (unless (ltb h 65536) 8 (got (some (h - 32768)) [])))
@@ -138,15 +138,15 @@ module _ {O : Type 0} (G : O → Type 0) (value : ℕ → Option O) (sound : (n 
       outcome-holds (value v) (λ o. another ws (λ w vs. grantMore value p sh n o (w / 65536) (w % 65536) vs)) (sound v) (λ o g.
       another-holds ws (λ w vs. grantMore value p sh n o (w / 65536) (w % 65536) vs) (λ w vs e.
       weaker (grantMore value p sh n o (w / 65536) (w % 65536) vs) (λ t us h. (h .0, h .1, h .2 ∙ ap suc (sym e), h .3))
-        (ok-grantMore d p hp sh n o (w / 65536) (w % 65536) vs g (omega arith))))))
+      (ok-grantMore d p hp sh n o (w / 65536) (w % 65536) vs g (omega arith))))))
 
   module _ (d : ℕ) (p : List ℕ → Parsed (Policy O)) (hp : (ws : List ℕ) → length ws ≤ 4096 → Holds (OkT d (length ws)) (p ws)) where
     many-T : (k : ℕ) (ws : List ℕ) → length ws ≤ 4096 → Holds (OkTs d (length ws) k) (many pnil pcons p k ws)
     many-T zero ws room = fine (tt, omega arith, omega arith, omega arith, tt)
     many-T (suc k) ws room =
         then-holds (p ws) (λ a vs. next (many pnil pcons p k vs) (λ xs us. got (pcons a xs) us)) (hp ws room)
-          (λ a vs h. then-holds (many pnil pcons p k vs) (λ xs us. got (pcons a xs) us) (many-T k vs (omega arith))
-            (λ xs us g. fine ((h .0, g .0), omega arith, omega arith, omega arith, (h .3, g .4))))
+        (λ a vs h. then-holds (many pnil pcons p k vs) (λ xs us. got (pcons a xs) us) (many-T k vs (omega arith))
+        (λ xs us g. fine ((h .0, g .0), omega arith, omega arith, omega arith, (h .3, g .4))))
 
     node-T : (pc : List ℕ → Parsed Condition) → ((ws : List ℕ) → Holds (OkC d (length ws)) (pc ws)) → (k r : ℕ) (ws : List ℕ) → length ws ≤ 4095
         → Holds (OkT (suc d) (suc (length ws))) (nodeP value false pc p k r ws)

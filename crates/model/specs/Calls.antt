@@ -56,19 +56,19 @@ module _ (L : Outcomes) where
   abbrev pub evaluate : List ℕ → List ℕ → ℕ → Answer
   evaluate sheet facts room =
       unlessLong (sheetLength sheet) (unlessFault (tableFault knownFacts facts)
-        (onRead (readSheet (L .value) sheet) (λ t. write room (evaluated L (tableOf facts) t))))
+      (onRead (readSheet (L .value) sheet) (λ t. write room (evaluated L (tableOf facts) t))))
 
   abbrev pub partialEvaluate : List ℕ → List ℕ → ℕ → Answer
   partialEvaluate sheet facts room =
       unlessLong (sheetLength sheet) (unlessFault (tableFault partialFacts facts)
-        (onRead (readSheet (L .value) sheet) (λ t. write room (reduced L (tableOf facts) t))))
+      (onRead (readSheet (L .value) sheet) (λ t. write room (reduced L (tableOf facts) t))))
 
   abbrev pub narrowResidual : List ℕ → List ℕ → ℕ → Answer
   narrowResidual rec facts room =
       unlessLong (recordLength rec) (unlessFault (tableFault partialFacts facts)
-        (onRead (readRecord (L .value) rec) (λ r. write room (narrowed L (tableOf facts) r))))
+      (onRead (readRecord (L .value) rec) (λ r. write room (narrowed L (tableOf facts) r))))
 
   abbrev pub completeResidual : List ℕ → List ℕ → ℕ → Answer
   completeResidual rec facts room =
       unlessLong (recordLength rec) (unlessFault (tableFault knownFacts facts)
-        (onRead (readRecord (L .value) rec) (λ r. write room (completed L (tableOf facts) r))))
+      (onRead (readRecord (L .value) rec) (λ r. write room (completed L (tableOf facts) r))))

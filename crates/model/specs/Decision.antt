@@ -67,8 +67,8 @@ module _ (L : Outcomes) where
       let o = L .join (p .outcome) (q .outcome) in
       let os = unionObligations (p .obligations) (q .obligations) in
       cond (L .same o (p .outcome))
-        (cond (L .same o (q .outcome)) (record { outcome = p .outcome; obligations = os; label = p .label; facts = p .facts }) p)
-        (cond (L .same o (q .outcome)) q (combined o os))
+      (cond (L .same o (q .outcome)) (record { outcome = p .outcome; obligations = os; label = p .label; facts = p .facts }) p)
+      (cond (L .same o (q .outcome)) q (combined o os))
 
   -- The permit so far, if any, and one more.
   abbrev pub meetIn : Option (Permit (L .O)) → Permit (L .O) → Permit (L .O)

@@ -127,14 +127,14 @@ many nil cons p (suc n) ws = next (p ws) (λ a vs. next (many nil cons p n vs) (
 abbrev pub nodeC : (List ℕ → Parsed Condition) → ℕ → ℕ → List ℕ → Parsed Condition
 nodeC p k r ws =
     byKind
-      ( plain r (got always ws)
-      ∷ plain r (got never ws)
-      ∷ unless (ltb r factCount) 8 (got (has r) ws)
-      ∷ plain r (next (p ws) (λ c vs. got (notC c) vs))
-      ∷ counted r (next (many cnil ccons p r ws) (λ cs vs. got (allC cs) vs))
-      ∷ counted r (next (many cnil ccons p r ws) (λ cs vs. got (anyC cs) vs))
-      ∷ [])
-      k
+    (plain r (got always ws)
+    ∷ plain r (got never ws)
+    ∷ unless (ltb r factCount) 8 (got (has r) ws)
+    ∷ plain r (next (p ws) (λ c vs. got (notC c) vs))
+    ∷ counted r (next (many cnil ccons p r ws) (λ cs vs. got (allC cs) vs))
+    ∷ counted r (next (many cnil ccons p r ws) (λ cs vs. got (anyC cs) vs))
+    ∷ [])
+    k
 
 -- With so many levels left.
 abbrev pub readCondition : ℕ → List ℕ → Parsed Condition
@@ -166,8 +166,8 @@ whole (got a (w ∷ ws)) = refuse 10
 abbrev pub mark : ℕ → Parsed (Option ℕ)
 mark h =
     cond (ltb h (2 ^ markBits))
-      (unless (eqb h 0) 8 (got none []))
-      (unless (ltb h (2 ^ (1 + markBits))) 8 (got (some (h - 2 ^ markBits)) []))
+    (unless (eqb h 0) 8 (got none []))
+    (unless (ltb h (2 ^ (1 + markBits))) 8 (got (some (h - 2 ^ markBits)) []))
 
 abbrev pub shapeOf : ℕ → Shape
 shapeOf zero = forbidden
@@ -254,16 +254,16 @@ module _ {O : Type 0} (value : ℕ → Option O) where
   abbrev pub nodeP : Bool → (List ℕ → Parsed Condition) → (List ℕ → Parsed (Policy O)) → ℕ → ℕ → List ℕ → Parsed (Policy O)
   nodeP res pc p k r ws =
       byKind
-        ( permitAt r ws
-        ∷ plain r (got deny ws)
-        ∷ grantAt pc r ws
-        ∷ counted r (next (many pnil pcons p r ws) (λ ts vs. got (all ts) vs))
-        ∷ counted r (next (many pnil pcons p r ws) (λ ts vs. got (any ts) vs))
-        ∷ plain r (next (p ws) (λ a vs. next (p vs) (λ b us. got (orElse a b) us)))
-        ∷ inResidual res (asStored (at12 r ws))
-        ∷ inResidual res (asStored (at13 r ws))
-        ∷ [])
-        k
+      (permitAt r ws
+      ∷ plain r (got deny ws)
+      ∷ grantAt pc r ws
+      ∷ counted r (next (many pnil pcons p r ws) (λ ts vs. got (all ts) vs))
+      ∷ counted r (next (many pnil pcons p r ws) (λ ts vs. got (any ts) vs))
+      ∷ plain r (next (p ws) (λ a vs. next (p vs) (λ b us. got (orElse a b) us)))
+      ∷ inResidual res (asStored (at12 r ws))
+      ∷ inResidual res (asStored (at13 r ws))
+      ∷ [])
+      k
 
   abbrev pub node : Bool → (List ℕ → Parsed Condition) → (List ℕ → Parsed (Policy O)) → ℕ → ℕ → List ℕ → Parsed (Policy O)
   node res pc p k r ws = unless (leb 6 k) 5 (nodeP res pc p (k - 6) r ws)

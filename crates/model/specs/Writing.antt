@@ -16,16 +16,16 @@ use Rattle.model.specs.Consulted.{Entry}
 use Rattle.model.specs.Record.{Record, tree}
 
 -- Widths, in bits.
-abbrev pub restBits : ℕ      -- a word but for its kind (4)
+abbrev pub restBits : ℕ  -- a word but for its kind (4)
 restBits = 28
 
-abbrev pub countBits : ℕ     -- a count of arms, of facts or of consulted entries
+abbrev pub countBits : ℕ  -- a count of arms, of facts or of consulted entries
 countBits = 12
 
-abbrev pub markBits : ℕ      -- a label or a reason
+abbrev pub markBits : ℕ  -- a label or a reason
 markBits = 15
 
-abbrev pub obligationBits : ℕ   -- an obligation's field in a list, and a listed fact's or a consulted entry's
+abbrev pub obligationBits : ℕ  -- an obligation's field in a list, and a listed fact's or a consulted entry's
 obligationBits = 8
 
 abbrev pub entryBits : ℕ

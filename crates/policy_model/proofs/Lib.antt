@@ -1,2 +1,4 @@
 pub mod Words
 pub mod Checking
+pub mod Fields
+pub mod Masks

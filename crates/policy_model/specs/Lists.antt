@@ -15,7 +15,7 @@ unfoldable pub seenOne : Obligations → ℕ → Obligations
 seenOne (Refused n) b = Refused n
 seenOne (Seen mask left) b =
     cond (eqb left 0) (cond (eqb b 0) (Seen mask left) (Refused 8))
-      (cond (leb obligationCount b) (Refused 8) (cond (eqb (mask / 2 ^ b % 2) 1) (Refused 9) (Seen (bitOr mask (2 ^ b)) (left - 1))))
+      (cond (ltb b obligationCount) (cond (eqb (mask / 2 ^ b % 2) 1) (Refused 9) (Seen (bitOr mask (2 ^ b)) (left - 1))) (Refused 8))
 
 unfoldable pub seenAll : Obligations → List ℕ → Obligations
 seenAll seen [] = seen

@@ -73,7 +73,7 @@ module _ (L : Outcomes) (G : L .O → Type 0) (meets : (a b : L .O) → G a → 
           small = omega (arith, red-most L P t, h .small);
           form = form-red L G meets joins P t (h .form);
           deep = omega (arith, depth-red L P t, h .deep);
-          consulted = good-walk (λ f. f < 1024) L P t (once l) (small-T G t (h .form)) (good-once (λ f. f < 1024) l (h .consulted .1))
+          consulted = good-walk (λ f. f < 1024) L P t (once l) (small-T G t (h .form)) (good-once (λ f. f < 1024) l (h .consulted .1));
         }
 
     pub fit-completeBody : (K : Table) (b : ReducedPolicy (L .O)) (l : Consulted) → Fit G n d (record { body = b; log = l }) → Fit G n d (completedFrom L K b l)
@@ -83,7 +83,7 @@ module _ (L : Outcomes) (G : L .O → Type 0) (meets : (a b : L .O) → G a → 
           small = omega (arith, eval-words L K t, h .small);
           form = form-eval L G meets joins K t (h .form);
           deep = omega (arith, depth-pos t, h .deep);
-          consulted = good-read (λ f. f < 1024) L K t (once l) (small-T G t (h .form)) (good-once (λ f. f < 1024) l (h .consulted .1))
+          consulted = good-read (λ f. f < 1024) L K t (once l) (small-T G t (h .form)) (good-once (λ f. f < 1024) l (h .consulted .1));
         }
 
     pub fit-run : (r : Record (L .O)) (Ps : List Table) → Fit G n d r → Fit G n d (run L r Ps)
@@ -96,7 +96,7 @@ module _ (L : Outcomes) (G : L .O → Type 0) (meets : (a b : L .O) → G a → 
         small = red-most L P t;
         form = form-red L G meets joins P t h;
         deep = depth-red L P t;
-        consulted = good-walk (λ f. f < 1024) L P t [] (small-T G t h) (tt, tt)
+        consulted = good-walk (λ f. f < 1024) L P t [] (small-T G t h) (tt, tt);
       }
 
   pub fit-evaluate : (K : Table) (t : Policy (L .O)) → Form G t → Fit G (most t) (depth t) (evaluated L K t)
@@ -105,7 +105,7 @@ module _ (L : Outcomes) (G : L .O → Type 0) (meets : (a b : L .O) → G a → 
         small = eval-words L K t;
         form = form-eval L G meets joins K t h;
         deep = depth-pos t;
-        consulted = good-read (λ f. f < 1024) L K t [] (small-T G t h) (tt, tt)
+        consulted = good-read (λ f. f < 1024) L K t [] (small-T G t h) (tt, tt);
       }
 
   fit-words : (t : Policy (L .O)) (d : ℕ) (r : Record (L .O)) → IsSheet t → Fit G (most t) d r → wordsR r ≤ 3 * words t + 513

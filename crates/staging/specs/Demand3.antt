@@ -100,13 +100,13 @@ module _ (L : Outcomes) (lawful : Lawful L) (G : L .O → Type 0) (codec : Writt
         let m = good .4 in
         let e = good .2 in
         and-is (leb 1 (length (encodeR (L .number) r))) (leb (length (encodeR (L .number) r)) 16384) (le-leb 1 (length (encodeR (L .number) r)) (omega (arith, length-encodeR (L .number) r)))
-          (le-leb (length (encodeR (L .number) r)) 16384 (omega arith))
+        (le-leb (length (encodeR (L .number) r)) 16384 (omega arith))
 
     fits-within : (r : Record (L .O)) (room : ℕ) → Within r → 3 * length sheet + 513 ≤ room → fits L room r ≡ true
     fits-within r room h k =
         and-is (leb (length (encodeR (L .number) r)) room && recordLength (encodeR (L .number) r)) (short (tree r))
-          (and-is (leb (length (encodeR (L .number) r)) room) (recordLength (encodeR (L .number) r)) (le-leb (length (encodeR (L .number) r)) room (omega (arith, within-words r h))) (few r h))
-          (short-T G (tree r) (h .form))
+        (and-is (leb (length (encodeR (L .number) r)) room) (recordLength (encodeR (L .number) r)) (le-leb (length (encodeR (L .number) r)) room (omega (arith, within-words r h))) (few r h))
+        (short-T G (tree r) (h .form))
 
     back : (r : Record (L .O)) → Within r → readRecord (L .value) (encodeR (L .number) r) ≡ got r []
     back r h =
@@ -154,7 +154,7 @@ module _ (L : Outcomes) (lawful : Lawful L) (G : L .O → Type 0) (codec : Writt
     runs (c ∷ cs) r h =
         let P = tableOf (c .facts) in
         runs-by P r cs (tableFault partialFacts (c .facts)) (fits L (length (c .out)) (narrowed L P r)) (answerTo L (encodeR (L .number) r) c) (narrow-is (length (c .out)) (c .facts) r h)
-          (runs cs r h) (runs cs (narrowed L P r) (within-narrowed P r h))
+        (runs cs r h) (runs cs (narrowed L P r) (within-narrowed P r h))
 
     -- ---- the theorem
     module _ (known facts given : List ℕ) (calls : List Call) (room₀ : ℕ) (knows : tableFault knownFacts known ≡ none) (wrote-given : partialEvaluate L sheet facts room₀ ≡ wrote given)
@@ -197,25 +197,25 @@ module _ (L : Outcomes) (lawful : Lawful L) (G : L .O → Type 0) (codec : Writt
       pub demand3-of : Staged L sheet known facts given calls t
       unfolding K P r₀ Ps lastly
       demand3-of = record {
-          last = lastly;
-          by-the-rules = refl;
-          as-words = after-is;
-          read-back = ap (readRecord (L .value)) after-is ∙ back lastly fit;
-          settled-first = of-each (λ n. P n ≡ unknown) (tree lastly) (steps .settled-first);
-          settled-later = all-map (λ S. Each (λ n. S n ≡ unknown) (tree lastly)) (Settled (tree lastly)) Ps (λ S h. of-each (λ n. S n ≡ unknown) (tree lastly) h) (steps .settled-later);
-          decision = steps .decision;
-          completion = λ room ws e. sym (wrote-what (tableFault knownFacts known) (fits L room (completed L K lastly)) (encodeR (L .number) (completed L K lastly)) ws (sym (complete-is room known lastly fit) ∙ sym (ap (λ v. completeResidual L v known room) after-is) ∙ e));
-          resolves = steps .completes;
-          same-products = steps .same-products;
-          room-evaluate = λ room h. evaluate-is room known ∙ write-is room (evaluated L K t) (tableFault knownFacts known) knows (fits-within (evaluated L K t) room (fit-evaluate L G (codec .meets) (codec .joins) K t (good .0)) h);
-          room-reduce = λ room bs h f. reduce-is room bs ∙ write-is room (reduced L (tableOf bs) t) (tableFault partialFacts bs) f (fits-within (reduced L (tableOf bs) t) room (fit-reduce L G (codec .meets) (codec .joins) (tableOf bs) t (good .0)) h);
-          room-narrow = λ room bs h f.
+        last = lastly;
+        by-the-rules = refl;
+        as-words = after-is;
+        read-back = ap (readRecord (L .value)) after-is ∙ back lastly fit;
+        settled-first = of-each (λ n. P n ≡ unknown) (tree lastly) (steps .settled-first);
+        settled-later = all-map (λ S. Each (λ n. S n ≡ unknown) (tree lastly)) (Settled (tree lastly)) Ps (λ S h. of-each (λ n. S n ≡ unknown) (tree lastly) h) (steps .settled-later);
+        decision = steps .decision;
+        completion = λ room ws e. sym (wrote-what (tableFault knownFacts known) (fits L room (completed L K lastly)) (encodeR (L .number) (completed L K lastly)) ws (sym (complete-is room known lastly fit) ∙ sym (ap (λ v. completeResidual L v known room) after-is) ∙ e));
+        resolves = steps .completes;
+        same-products = steps .same-products;
+        room-evaluate = λ room h. evaluate-is room known ∙ write-is room (evaluated L K t) (tableFault knownFacts known) knows (fits-within (evaluated L K t) room (fit-evaluate L G (codec .meets) (codec .joins) K t (good .0)) h);
+        room-reduce = λ room bs h f. reduce-is room bs ∙ write-is room (reduced L (tableOf bs) t) (tableFault partialFacts bs) f (fits-within (reduced L (tableOf bs) t) room (fit-reduce L G (codec .meets) (codec .joins) (tableOf bs) t (good .0)) h);
+        room-narrow = λ room bs h f.
             ap (λ v. narrowResidual L v bs room) after-is ∙ narrow-is room bs lastly fit
             ∙ write-is room (narrowed L (tableOf bs) lastly) (tableFault partialFacts bs) f (fits-within (narrowed L (tableOf bs) lastly) room (within-narrowed (tableOf bs) lastly fit) h);
-          room-complete = λ room h.
+        room-complete = λ room h.
             ap (λ v. completeResidual L v known room) after-is ∙ complete-is room known lastly fit
-            ∙ write-is room (completed L K lastly) (tableFault knownFacts known) knows (fits-within (completed L K lastly) room (fit-completeBody L G (codec .meets) (codec .joins) (most t) (depth t) K (lastly .body) (lastly .log) fit) h)
-        }
+            ∙ write-is room (completed L K lastly) (tableFault knownFacts known) knows (fits-within (completed L K lastly) room (fit-completeBody L G (codec .meets) (codec .joins) (most t) (depth t) K (lastly .body) (lastly .log) fit) h);
+      }
 
 -- For every accepted sheet and known table, every reduction of the sheet that was accepted, and every list of narrowings:
 -- if the reduction's table and every accepted one agree with the known table, the whole list is as document 01's "Stages" says.

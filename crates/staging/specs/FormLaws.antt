@@ -227,7 +227,7 @@ module _ (L : Outcomes) (G : L .O → Type 0) (meets : (a b : L .O) → G a → 
   form-meetP p q h k =
       let o = L .meet (p .outcome) (q .outcome) in
       pick-has (FormP G) (L .same o (p .outcome)) p (cond (L .same o (q .outcome)) q (combined o [])) h
-        (pick-has (FormP G) (L .same o (q .outcome)) q (combined o []) k (meets (p .outcome) (q .outcome) (h .0) (k .0), (tt, tt), tt, few))
+      (pick-has (FormP G) (L .same o (q .outcome)) q (combined o []) k (meets (p .outcome) (q .outcome) (h .0) (k .0), (tt, tt), tt, few))
 
   form-unite : (os ps : List ℕ) → FormO os → FormO ps → FormO (unionObligations os ps)
   form-unite os ps h k = (unite-distinct os ps (h .0), unite-every (λ o. o < 64) os ps (h .1) (k .1))
@@ -239,8 +239,8 @@ module _ (L : Outcomes) (G : L .O → Type 0) (meets : (a b : L .O) → G a → 
       let u = form-unite (p .obligations) (q .obligations) (h .1) (k .1) in
       let pw : Permit (L .O) = record { outcome = p .outcome; obligations = os; label = p .label; facts = p .facts } in
       pick-has (FormP G) (L .same o (p .outcome)) (cond (L .same o (q .outcome)) pw p) (cond (L .same o (q .outcome)) q (combined o os))
-        (pick-has (FormP G) (L .same o (q .outcome)) pw p (h .0, u, h .2, h .3) h)
-        (pick-has (FormP G) (L .same o (q .outcome)) q (combined o os) k (joins (p .outcome) (q .outcome) (h .0) (k .0), u, tt, few))
+      (pick-has (FormP G) (L .same o (q .outcome)) pw p (h .0, u, h .2, h .3) h)
+      (pick-has (FormP G) (L .same o (q .outcome)) q (combined o os) k (joins (p .outcome) (q .outcome) (h .0) (k .0), u, tt, few))
 
   abbrev FormPO : Option (Permit (L .O)) → Type 0
   FormPO p = IfThere (FormP G) p

@@ -66,8 +66,8 @@ module _ (L : Outcomes) (lawful : Lawful L) where
   -- ---- Any as a sum of products
   abbrev _⊕_ : Option (L .O) → Option (L .O) → Option (L .O)
   _⊕_ x y = plus (L .join) x y
-  infixr 40 _⊕_
 
+  infixr 40 _⊕_
   abbrev anySum : List (Decision (L .O)) → Option (L .O)
   anySum [] = none
   anySum (d ∷ ds) = products d ⊕ anySum ds
@@ -96,8 +96,8 @@ module _ (L : Outcomes) (lawful : Lawful L) where
   -- ---- All as a sum: nothing yet, or the products so far
   abbrev _⊗_ : Option (Option (L .O)) → Option (Option (L .O)) → Option (Option (L .O))
   _⊗_ x y = plus (times (L .meet)) x y
-  infixr 40 _⊗_
 
+  infixr 40 _⊗_
   ⊗-assoc : (x y z : Option (Option (L .O))) → (x ⊗ y) ⊗ z ≡ x ⊗ (y ⊗ z)
   ⊗-assoc = plus-assoc (times (L .meet)) (times-comm (L .meet) (lawful .meet-comm) (lawful .meet-assoc)) (times-assoc (L .meet) (lawful .meet-comm) (lawful .meet-assoc))
 

@@ -157,7 +157,7 @@ module _ (L : Outcomes) where
   meetP-words p q =
       let o = L .meet (p .outcome) (q .outcome) in
       pick-le wordsP (wordsP p + wordsP q) (L .same o (p .outcome)) p (cond (L .same o (q .outcome)) q (combined o [])) (omega arith)
-        (pick-le wordsP (wordsP p + wordsP q) (L .same o (q .outcome)) q (combined o []) (omega arith) (omega arith))
+      (pick-le wordsP (wordsP p + wordsP q) (L .same o (q .outcome)) q (combined o []) (omega arith) (omega arith))
 
   joinP-words : (p q : Permit (L .O)) → wordsP (joinPermit L p q) ≤ wordsP p + wordsP q
   joinP-words p q =
@@ -166,8 +166,8 @@ module _ (L : Outcomes) where
       let pw : Permit (L .O) = record { outcome = p .outcome; obligations = os; label = p .label; facts = p .facts } in
       let u = unite-length (p .obligations) (q .obligations) in
       pick-le wordsP (wordsP p + wordsP q) (L .same o (p .outcome)) (cond (L .same o (q .outcome)) pw p) (cond (L .same o (q .outcome)) q (combined o os))
-        (pick-le wordsP (wordsP p + wordsP q) (L .same o (q .outcome)) pw p (omega arith) (omega arith))
-        (pick-le wordsP (wordsP p + wordsP q) (L .same o (q .outcome)) q (combined o os) (omega arith) (omega arith))
+      (pick-le wordsP (wordsP p + wordsP q) (L .same o (q .outcome)) pw p (omega arith) (omega arith))
+      (pick-le wordsP (wordsP p + wordsP q) (L .same o (q .outcome)) q (combined o os) (omega arith) (omega arith))
 
   abbrev wordsO : Option (Permit (L .O)) → ℕ
   wordsO none = 0

@@ -197,5 +197,5 @@ staged L lawful K P t Ps h hs =
       completes = c .1;
       same-products = c .2 ∙ run-sound L lawful K (reduced L P t) Ps (accepted-left L K P t Ps hs) ∙ red-sound L lawful K P t h;
       settled-first = run-keeps L (λ f. P f ≡ unknown) (reduced L P t) Ps (each-map (λ n x. x .1) (asResidual (reducePolicy L P t)) (red-left L (Agrees K P) P t h));
-      settled-later = run-settles L (reduced L P t) Ps
+      settled-later = run-settles L (reduced L P t) Ps;
     }

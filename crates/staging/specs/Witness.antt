@@ -64,7 +64,7 @@ sheetR = 0xA0000002 ∷ 0x80000001 ∷ 0 ∷ 0x20000000 ∷ 0x80000002 ∷ 0 ∷
 abbrev treeR : Policy ℕ
 treeR =
     any (pcons (grant (record { outcome = 1; obligations = []; label = none; reason = none; shape = forbidden }) (has 0))
-      (pcons (grant (record { outcome = 2; obligations = []; label = none; reason = none; shape = forbidden }) (has 1)) pnil))
+    (pcons (grant (record { outcome = 2; obligations = []; label = none; reason = none; shape = forbidden }) (has 1)) pnil))
 
 abbrev relay : List ℕ
 relay = 0xA0 ∷ []

@@ -10,3 +10,4 @@ pub mod ReadForm
 pub mod Canon
 pub mod Products
 pub mod Folds
+pub mod Deeper

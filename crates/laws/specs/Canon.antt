@@ -18,10 +18,10 @@ use Rattle.model.specs.Partial.{ReducedPolicy, resolved, pending, asResidual}
 use Rattle.model.specs.Consulted.{Consulted}
 use Rattle.model.specs.Record.{Record}
 use Rattle.model.specs.Writing.{obligationBits, entryBits, word, shapeBit, marked, entryField, countC, count, encodeC, encodeCs, deniedField, encodeD, encode, encodes, leadKind, encodeR}
-use Rattle.model.specs.Reading.{Parsed, refuse, got, next, unless, another, readList, obligation, listed, entry, consulted, many, nodeC, readCondition, whole, mark, shapeOf, outcomeOf, deniedOf, grantMore, grantAt, more12, at12, more13, at13, asStored, inResidual, nodeP, lastKind, readPolicy, readSheet, node14, parse14, parse15, rest, leads, readLead, readRecord}
+use Rattle.model.specs.Reading.{Parsed, refuse, got, next, unless, another, readList, obligation, listed, consulted, many, nodeC, readCondition, whole, mark, shapeOf, outcomeOf, deniedOf, grantMore, grantAt, more12, at12, more13, at13, asStored, inResidual, nodeP, lastKind, readPolicy, readSheet, node14, parse14, parse15, rest, leads, readLead, readRecord}
 use Rattle.laws.specs.FieldLaws.{Holds, fine, nothing, if-holds, weaker, then-holds, same-list}
 use Rattle.laws.specs.Form.{IfThere}
-use Rattle.laws.specs.ReadForm.{same-obligation, same-listed}
+use Rattle.laws.specs.ReadForm.{same-obligation, same-listed, same-consulted}
 
 word-split : (w : ℕ) → word (w / 268435456) (w % 268435456) ≡ w
 word-split w = omega arith
@@ -66,15 +66,6 @@ same-C (suc d) (w ∷ us) =
     weaker (nodeC (λ vs. readCondition d vs) k r us) (λ c vs s. s ∙ ap (λ x. x ∷ us) (word-split w)) (same-node (λ vs. readCondition d vs) (λ vs. same-C d vs) k r us)
 
 -- ---- obligations, facts, entries
-same-entry : (k f b : ℕ) → k * 16384 + f ≡ b → Holds (λ a _. entryField a ≡ b) (entry k f)
-same-entry zero f b h = fine h
-same-entry (suc zero) f b h = fine h
-same-entry (suc (suc zero)) f b h = fine h
-same-entry (suc (suc (suc k))) f b h = nothing
-
-same-consulted : (es : Consulted) (b : ℕ) → Holds (λ a _. entryField a ≡ b) (consulted es b)
-same-consulted es b = if-holds (ltb (b % 16384) 1024) 8 (entry (b / 16384) (b % 16384)) (λ _. same-entry (b / 16384) (b % 16384) b (omega arith))
-
 abbrev TookO : ℕ → List ℕ → List ℕ → List ℕ → Type 0
 TookO n us os vs = (pack obligationBits os ++ vs ≡ us) × (length os ≡ n)
 

@@ -61,19 +61,34 @@ module _ {O : Type 0} (G : O → Type 0) where
   abbrev pub FormG : Grant O → Type 0
   FormG g = G (g .outcome) × FormO (g .obligations) × FormL (g .label) × FormL (g .reason)
 
+-- B says what is asked of a grant's condition.
+module _ {O : Type 0} (G : O → Type 0) (B : Condition → Type 0) where
   abbrev mutual
-    pub Form : Policy O → Type 0
-    Form (permit o) = G o
-    Form deny = Unit {0}
-    Form (grant g c) = FormG g × FormC c × (wordsC c ≤ mostListed)
-    Form (all ts) = (count ts ≤ mostListed) × Forms ts
-    Form (any ts) = (count ts ≤ mostListed) × Forms ts
-    Form (orElse a b) = Form a × Form b
-    Form (stored d) = FormD d
+    pub FormOf : Policy O → Type 0
+    FormOf (permit o) = G o
+    FormOf deny = Unit {0}
+    FormOf (grant g c) = FormG G g × FormC c × B c
+    FormOf (all ts) = (count ts ≤ mostListed) × FormsOf ts
+    FormOf (any ts) = (count ts ≤ mostListed) × FormsOf ts
+    FormOf (orElse a b) = FormOf a × FormOf b
+    FormOf (stored d) = FormD G d
 
-    pub Forms : Policies O → Type 0
-    Forms pnil = Unit {0}
-    Forms (pcons t ts) = Form t × Forms ts
+    pub FormsOf : Policies O → Type 0
+    FormsOf pnil = Unit {0}
+    FormsOf (pcons t ts) = FormOf t × FormsOf ts
+
+-- In a sheet, and in what comes of one, a condition names at most 4,095 facts, so that their list can be counted. In a record nothing is asked.
+abbrev pub Few : Condition → Type 0
+Few c = wordsC c ≤ mostListed
+
+abbrev pub Free : Condition → Type 0
+Free c = Unit {0}
+
+abbrev pub Form : {O : Type 0} → (O → Type 0) → Policy O → Type 0
+Form G t = FormOf G Few t
+
+abbrev pub Forms : {O : Type 0} → (O → Type 0) → Policies O → Type 0
+Forms G ts = FormsOf G Few ts
 
 -- Nesting, grant and condition together.
 abbrev mutual

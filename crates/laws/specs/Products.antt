@@ -10,7 +10,6 @@ use borrow.Author.Tests.{eqb-true, eq-eqb, lt-ltb, ltb-true}
 use lib.Dec.{eqb, ltb}
 use lib.Bits.{bitAnd, bitOr, and-step, or-step, and-zero-l, or-zero-l, and-comm, or-comm, and-lt, or-lt}
 use Rattle.model.specs.Outcome.{Outcomes, outcomeBits, below, productSets}
-use Rattle.model.specs.Decision.{Decision, permits, denies}
 use Rattle.laws.specs.Form.{IfThere}
 
 -- What the theory asks of outcomes: a sound test for equality, and a meet and a join that are commutative and associative.

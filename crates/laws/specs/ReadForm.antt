@@ -1,6 +1,6 @@
 -- What is read is of good form: a sheet or record that is accepted has fields that fit, lists that repeat no obligation,
 -- the nesting that was allowed, and as many words as were read.
-use mathlib.Core.Path.{_≡_, refl, sym, _∙_, ap, subst}
+use mathlib.Core.Path.{_≡_, refl, sym, _∙_, ap, ap₂, subst}
 use mathlib.Core.Bool.{Bool, true, false, cond, not, _&&_}
 use mathlib.Core.Option.{Option, none, some}
 use mathlib.Core.List.{List, [], _∷_, _++_}
@@ -10,15 +10,20 @@ use borrow.Author.Tests.{ltb-true, leb-true, eqb-true, not-true, lt-ltb, le-ltb,
 use lib.Dec.{eqb, ltb, leb, ltb→lt, leb→le, eqb→eq, T}
 use lib.ListN.{length, length-append}
 use Rattle.model.specs.Fields.{wordsFor, perWord}
+use Rattle.model.specs.Facts.{absent, present, unknown, factCount}
 use Rattle.model.specs.Condition.{Condition, always, never, has, notC, allC, anyC, Conditions, cnil, ccons}
-use Rattle.model.specs.Decision.{held}
-use Rattle.model.specs.Policy.{Policy, permit, deny, grant, all, any, orElse, Policies, pnil, pcons}
-use Rattle.model.specs.Writing.{obligationBits, entryBits, countC, count}
-use Rattle.model.specs.Reading.{Parsed, refuse, got, next, unless, another, readList, obligation, listed, many, nodeC, readCondition, whole, mark, shapeOf, outcomeOf, deniedOf, grantMore, parseGrant, nodeP, readPolicy, readSheet}
+use Rattle.model.specs.Decision.{Decision, permits, denies, held}
+use Rattle.model.specs.Policy.{Policy, permit, deny, grant, all, any, orElse, stored, Policies, pnil, pcons}
+use Rattle.model.specs.Partial.{ReducedPolicy, resolved, pending, asResidual}
+use Rattle.model.specs.Consulted.{Entry, Consulted}
+use Rattle.model.specs.Record.{Record, tree}
+use Rattle.model.specs.Writing.{obligationBits, entryBits, entryField, countC, count, mostListed}
+use Rattle.model.specs.Reading.{Parsed, refuse, got, next, unless, another, readList, obligation, listed, entry, consulted, kindOf, restOf, counted, many, nodeC, readCondition, recordLength, whole, mark, shapeOf, outcomeOf, deniedOf, grantMore, parseGrant, more12, at12, more13, at13, asStored, inResidual, nodeP, lastKind, readPolicy, readSheet, node14, parse14, parse15, rest, leads, readLead, readRecord}
+use Rattle.model.specs.Calls.{fits}
 use Rattle.laws.specs.Lists.{Below, distinct-end, every-end}
 use Rattle.laws.specs.FieldLaws.{Holds, fine, nothing, if-holds, weaker, then-holds, both-hold, same-list, kept-list}
-use Rattle.laws.specs.Size.{wordsC, wordsCs, words, wordss, IsSheet, AreSheets}
-use Rattle.laws.specs.Form.{FormC, FormCs, IfThere, FormL, FormO, Form, Forms, depthC, depthCs, depth, depths}
+use Rattle.laws.specs.Size.{wordsC, wordsCs, wordsD, words, wordss, wordsR, IsSheet, AreSheets}
+use Rattle.laws.specs.Form.{FormC, FormCs, IfThere, FormL, FormO, FormD, FormOf, FormsOf, Few, Free, Form, depthC, depthCs, depth, depths}
 
 and-right : (a b : Bool) → (a && b) ≡ true → b ≡ true
 and-right true b e = e
@@ -92,6 +97,42 @@ ok-facts n ws =
     (both-hold (readList listed entryBits n ws) (kept-list listed (Below 1024) listed-keeps entryBits n ws tt)
     (same-list (λ f. f) listed same-listed entryBits 1 n ws refl))
 
+-- Entries name facts.
+abbrev pub Named : Consulted → Type 0
+Named [] = Unit {0}
+Named (e ∷ es) = (e .fact < factCount) × Named es
+
+named-end : (es : Consulted) (e : Entry) → Named es → e .fact < factCount → Named (es ++ e ∷ [])
+named-end [] e h k = (k, tt)
+named-end (x ∷ es) e h k = (h .0, named-end es e (h .1) k)
+
+entry-keeps : (es : Consulted) (k f : ℕ) → Named es → f < factCount → Holds (λ a _. Named (es ++ a ∷ [])) (entry k f)
+entry-keeps es zero f h n = fine (named-end es (record { fact = f; seen = absent }) h n)
+entry-keeps es (suc zero) f h n = fine (named-end es (record { fact = f; seen = present }) h n)
+entry-keeps es (suc (suc zero)) f h n = fine (named-end es (record { fact = f; seen = unknown }) h n)
+entry-keeps es (suc (suc (suc k))) f h n = nothing
+
+consulted-keeps : (es : Consulted) (b : ℕ) → Named es → Holds (λ a _. Named (es ++ a ∷ [])) (consulted es b)
+consulted-keeps es b h = if-holds (ltb (b % 16384) 1024) 8 (entry (b / 16384) (b % 16384)) (λ e. entry-keeps es (b / 16384) (b % 16384) h (ltb-true (b % 16384) 1024 e))
+
+same-entry : (k f b : ℕ) → k * 16384 + f ≡ b → Holds (λ a _. entryField a ≡ b) (entry k f)
+same-entry zero f b h = fine h
+same-entry (suc zero) f b h = fine h
+same-entry (suc (suc zero)) f b h = fine h
+same-entry (suc (suc (suc k))) f b h = nothing
+
+pub same-consulted : (es : Consulted) (b : ℕ) → Holds (λ a _. entryField a ≡ b) (consulted es b)
+same-consulted es b = if-holds (ltb (b % 16384) 1024) 8 (entry (b / 16384) (b % 16384)) (λ _. same-entry (b / 16384) (b % 16384) b (omega arith))
+
+abbrev OkEs : ℕ → ℕ → Consulted → List ℕ → Type 0
+OkEs n l es vs = Named es × (length es ≡ n) × (wordsFor (perWord entryBits) n + length vs ≡ l)
+
+ok-entries : (n : ℕ) (ws : List ℕ) → Holds (OkEs n (length ws)) (readList consulted entryBits n ws)
+ok-entries n ws =
+    weaker (readList consulted entryBits n ws) (λ es vs h. (h .0, h .1 .long, h .1 .took-words))
+      (both-hold (readList consulted entryBits n ws) (kept-list consulted Named consulted-keeps entryBits n ws tt)
+        (same-list entryField consulted same-consulted entryBits 1 n ws refl))
+
 -- ---- labels and reasons
 mark-at : (h : ℕ) (b : Bool) → ltb h 32768 ≡ b → Holds (λ l _. FormL l) (cond b (unless (eqb h 0) 8 (got none [])) (unless (ltb h 65536) 8 (got (some (h - 32768)) [])))
 mark-at h true e = if-holds (eqb h 0) 8 (got none []) (λ _. fine tt)
@@ -114,68 +155,167 @@ module _ {O : Type 0} (G : O → Type 0) (value : ℕ → Option O) (sound : (n 
   another-holds [] k f = nothing
   another-holds (w ∷ ws) k f = f w ws refl
 
-  -- the form, the levels, the words there were
-  abbrev OkT : ℕ → ℕ → Policy O → List ℕ → Type 0
-  OkT d n t ws = Form G t × (depth t ≤ d) × (words t + length ws ≡ n) × IsSheet t
+  -- ---- nodes 12 and 13
+  abbrev OkD : ℕ → Decision O → List ℕ → Type 0
+  OkD n d ws = FormD G d × (wordsD d + length ws ≡ n)
 
-  abbrev OkTs : ℕ → ℕ → ℕ → Policies O → List ℕ → Type 0
-  OkTs d n k ts ws = Forms G ts × (depths ts ≤ d) × (wordss ts + length ws ≡ n) × (count ts ≡ k) × AreSheets ts
+  ok-more12 : (n : ℕ) (o : O) (lab m : ℕ) (ws : List ℕ) → G o → Holds (OkD (2 + length ws)) (more12 value n o lab m ws)
+  ok-more12 n o lab m ws g =
+      let made : Option ℕ → List ℕ → List ℕ → List ℕ → Parsed (Decision O) = λ l os fs us. got (permits (record { outcome = o; obligations = os; label = l; facts = fs })) us in
+      then-holds (mark lab) (λ l _. counted m (next (readList obligation obligationBits n ws) (λ os vs. next (readList listed entryBits m vs) (made l os)))) (ok-mark lab) (λ l _ fl.
+      if-holds (ltb m 4096) 8 (next (readList obligation obligationBits n ws) (λ os vs. next (readList listed entryBits m vs) (made l os))) (λ e.
+      then-holds (readList obligation obligationBits n ws) (λ os vs. next (readList listed entryBits m vs) (made l os)) (ok-obligations n ws) (λ os vs fo.
+      then-holds (readList listed entryBits m vs) (made l os) (ok-facts m vs) (λ fs us ff.
+      let h : m < 4096 = ltb-true m 4096 e in
+      let k : length os ≡ n = fo .1 in
+      let j : length fs ≡ m = ff .1 in
+      let u = fo .2 in
+      let v = ff .2 in
+      fine ((g, fo .0, fl, (omega arith, ff .0)), ap₂ (λ x y. 2 + wordsFor (perWord obligationBits) x + wordsFor (perWord entryBits) y + length us) k j ∙ omega arith)))))
 
-  ok-grantMore : (d : ℕ) (p : List ℕ → Parsed Condition) → ((ws : List ℕ) → Holds (OkC d (length ws)) (p ws)) → (sh n : ℕ) (o : O) (lab rea : ℕ) (ws : List ℕ) → G o → length ws ≤ 4095
-      → Holds (OkT (suc d) (suc (suc (length ws)))) (grantMore value p sh n o lab rea ws)
-  ok-grantMore d p hp sh n o lab rea ws g room =
-      then-holds (mark lab) (λ l _. next (mark rea) (λ m _. next (readList obligation obligationBits n ws) (λ os vs. next (p vs) (λ c us. got (grant (record { outcome = o; obligations = os; label = l; reason = m; shape = shapeOf sh }) c) us)))) (ok-mark lab) (λ l _ fl.
-      then-holds (mark rea) (λ m _. next (readList obligation obligationBits n ws) (λ os vs. next (p vs) (λ c us. got (grant (record { outcome = o; obligations = os; label = l; reason = m; shape = shapeOf sh }) c) us))) (ok-mark rea) (λ m _ fm.
-      then-holds (readList obligation obligationBits n ws) (λ os vs. next (p vs) (λ c us. got (grant (record { outcome = o; obligations = os; label = l; reason = m; shape = shapeOf sh }) c) us)) (ok-obligations n ws) (λ os vs fo.
-      then-holds (p vs) (λ c us. got (grant (record { outcome = o; obligations = os; label = l; reason = m; shape = shapeOf sh }) c) us) (hp vs) (λ c us fc.
-      fine (((g, fo .0, fl, fm), fc .0, omega arith), omega arith, omega arith, tt)))))
+  ok-12 : (r : ℕ) (ws : List ℕ) → Holds (OkD (suc (length ws))) (at12 value r ws)
+  ok-12 r ws =
+      let sh = r / 134217728 in
+      let n = r / 1048576 % 128 in
+      let more : O → ℕ → List ℕ → Parsed (Decision O) = λ o w vs. more12 value n o (w / 65536) (w % 65536) vs in
+      if-holds (eqb sh 0) 8 (unless (leb n 64) 8 (unless (eqb (r / 65536 % 16) 0) 8 (outcomeOf value (value (r % 65536)) (λ o. another ws (more o))))) (λ _.
+      if-holds (leb n 64) 8 (unless (eqb (r / 65536 % 16) 0) 8 (outcomeOf value (value (r % 65536)) (λ o. another ws (more o)))) (λ _.
+      if-holds (eqb (r / 65536 % 16) 0) 8 (outcomeOf value (value (r % 65536)) (λ o. another ws (more o))) (λ _.
+      outcome-holds (value (r % 65536)) (λ o. another ws (more o)) (sound (r % 65536)) (λ o g.
+      another-holds ws (more o) (λ w vs e.
+      weaker (more o w vs) (λ d us h. (h .0, h .1 ∙ omega arith)) (ok-more12 n o (w / 65536) (w % 65536) vs g))))))
 
-  ok-grant : (d : ℕ) (p : List ℕ → Parsed Condition) → ((ws : List ℕ) → Holds (OkC d (length ws)) (p ws)) → (sh n z v : ℕ) (ws : List ℕ) → length ws ≤ 4095
-      → Holds (OkT (suc d) (suc (length ws))) (parseGrant value p sh n z v ws)
-  ok-grant d p hp sh n z v ws room =
-      if-holds (leb n 64) 8 (unless (eqb z 0) 8 (outcomeOf value (value v) (λ o. another ws (λ w vs. grantMore value p sh n o (w / 65536) (w % 65536) vs)))) (λ _.
-      if-holds (eqb z 0) 8 (outcomeOf value (value v) (λ o. another ws (λ w vs. grantMore value p sh n o (w / 65536) (w % 65536) vs))) (λ _.
-      outcome-holds (value v) (λ o. another ws (λ w vs. grantMore value p sh n o (w / 65536) (w % 65536) vs)) (sound v) (λ o g.
-      another-holds ws (λ w vs. grantMore value p sh n o (w / 65536) (w % 65536) vs) (λ w vs e.
-      weaker (grantMore value p sh n o (w / 65536) (w % 65536) vs) (λ t us h. (h .0, h .1, h .2 ∙ ap suc (sym e), h .3))
-      (ok-grantMore d p hp sh n o (w / 65536) (w % 65536) vs g (omega arith))))))
+  ok-more13 : (sh : ℕ) (den : Option O) (lab rea : ℕ) (ws : List ℕ) → IfThere G den → Holds (OkD (2 + length ws)) (more13 value sh den lab rea ws)
+  ok-more13 sh den lab rea ws g =
+      let made : Option ℕ → Option ℕ → List ℕ → List ℕ → Parsed (Decision O) = λ l e fs us. got (denies (record { denied = den; facts = fs; label = l; reason = e; shape = shapeOf sh })) us in
+      then-holds (mark lab) (λ l _. next (mark rea) (λ e _. another ws (λ n vs. counted n (next (readList listed entryBits n vs) (made l e))))) (ok-mark lab) (λ l _ fl.
+      then-holds (mark rea) (λ e _. another ws (λ n vs. counted n (next (readList listed entryBits n vs) (made l e)))) (ok-mark rea) (λ e _ fm.
+      another-holds ws (λ n vs. counted n (next (readList listed entryBits n vs) (made l e))) (λ n vs more.
+      if-holds (ltb n 4096) 8 (next (readList listed entryBits n vs) (made l e)) (λ fits.
+      then-holds (readList listed entryBits n vs) (made l e) (ok-facts n vs) (λ fs us ff.
+      let h : n < 4096 = ltb-true n 4096 fits in
+      let j : length fs ≡ n = ff .1 in
+      let v = ff .2 in
+      fine ((g, (omega arith, ff .0), fl, fm), ap (λ y. 3 + wordsFor (perWord entryBits) y + length us) j ∙ omega arith))))))
 
-  module _ (d : ℕ) (p : List ℕ → Parsed (Policy O)) (hp : (ws : List ℕ) → length ws ≤ 4096 → Holds (OkT d (length ws)) (p ws)) where
-    many-T : (k : ℕ) (ws : List ℕ) → length ws ≤ 4096 → Holds (OkTs d (length ws) k) (many pnil pcons p k ws)
-    many-T zero ws room = fine (tt, omega arith, omega arith, omega arith, tt)
-    many-T (suc k) ws room =
-        then-holds (p ws) (λ a vs. next (many pnil pcons p k vs) (λ xs us. got (pcons a xs) us)) (hp ws room)
-        (λ a vs h. then-holds (many pnil pcons p k vs) (λ xs us. got (pcons a xs) us) (many-T k vs (omega arith))
-        (λ xs us g. fine ((h .0, g .0), omega arith, omega arith, omega arith, (h .3, g .4))))
+  ok-13 : (r : ℕ) (ws : List ℕ) → Holds (OkD (suc (length ws))) (at13 value r ws)
+  ok-13 r ws =
+      let sh = r / 134217728 in
+      let more : Option O → ℕ → List ℕ → Parsed (Decision O) = λ den w vs. more13 value sh den (w / 65536) (w % 65536) vs in
+      if-holds (eqb (r / 65536 % 1024) 0) 8 (deniedOf value (r / 67108864 % 2) (r % 65536) (λ den. another ws (more den))) (λ _.
+      denied-holds (r / 67108864 % 2) (r % 65536) (λ den. another ws (more den)) (λ den g.
+      another-holds ws (more den) (λ w vs e.
+      weaker (more den w vs) (λ d us h. (h .0, h .1 ∙ omega arith)) (ok-more13 sh den (w / 65536) (w % 65536) vs g))))
 
-    node-T : (pc : List ℕ → Parsed Condition) → ((ws : List ℕ) → Holds (OkC d (length ws)) (pc ws)) → (k r : ℕ) (ws : List ℕ) → length ws ≤ 4095
-        → Holds (OkT (suc d) (suc (length ws))) (nodeP value false pc p k r ws)
-    node-T pc hc zero r ws room =
-        if-holds (eqb (r / 65536) 0) 8 (outcomeOf value (value (r % 65536)) (λ o. got (permit o) ws)) (λ _.
-        outcome-holds (value (r % 65536)) (λ o. got (permit o) ws) (sound (r % 65536)) (λ o g. fine (g, omega arith, omega arith, tt)))
-    node-T pc hc (suc zero) r ws room = if-holds (eqb r 0) 8 (got deny ws) (λ _. fine (tt, omega arith, omega arith, tt))
-    node-T pc hc (suc (suc zero)) r ws room = ok-grant d pc hc (r / 134217728) (r / 1048576 % 128) (r / 65536 % 16) (r % 65536) ws room
-    node-T pc hc (suc (suc (suc zero))) r ws room =
-        if-holds (ltb r 4096) 8 (next (many pnil pcons p r ws) (λ ts vs. got (all ts) vs)) (λ e.
-        then-holds (many pnil pcons p r ws) (λ ts vs. got (all ts) vs) (many-T r ws (omega arith)) (λ ts vs h. fine ((omega (arith, ltb-true r 4096 e), h .0), omega arith, omega arith, h .4)))
-    node-T pc hc (suc (suc (suc (suc zero)))) r ws room =
-        if-holds (ltb r 4096) 8 (next (many pnil pcons p r ws) (λ ts vs. got (any ts) vs)) (λ e.
-        then-holds (many pnil pcons p r ws) (λ ts vs. got (any ts) vs) (many-T r ws (omega arith)) (λ ts vs h. fine ((omega (arith, ltb-true r 4096 e), h .0), omega arith, omega arith, h .4)))
-    node-T pc hc (suc (suc (suc (suc (suc zero))))) r ws room =
-        if-holds (eqb r 0) 8 (next (p ws) (λ a vs. next (p vs) (λ b us. got (orElse a b) us))) (λ _.
-        then-holds (p ws) (λ a vs. next (p vs) (λ b us. got (orElse a b) us)) (hp ws (omega arith)) (λ a vs h.
-        then-holds (p vs) (λ b us. got (orElse a b) us) (hp vs (omega arith)) (λ b us g. fine ((h .0, g .0), omega arith, omega arith, (h .3, g .3)))))
-    node-T pc hc (suc (suc (suc (suc (suc (suc zero)))))) r ws room = nothing
-    node-T pc hc (suc (suc (suc (suc (suc (suc (suc zero))))))) r ws room = nothing
-    node-T pc hc (suc (suc (suc (suc (suc (suc (suc (suc k)))))))) r ws room = nothing
+  -- ---- trees. Where nodes 12 and 13 aren't allowed, there is none.
+  abbrev pub SheetIf : Bool → Policy O → Type 0
+  SheetIf true t = Unit {0}
+  SheetIf false t = IsSheet t
 
-  ok-T : (d : ℕ) (ws : List ℕ) → length ws ≤ 4096 → Holds (OkT d (length ws)) (readPolicy value false d ws)
-  ok-T zero [] room = nothing
-  ok-T zero (w ∷ ws) room = if-holds (leb 6 (w / 268435456) && leb (w / 268435456) 11) 5 (refuse 7) (λ _. nothing)
-  ok-T (suc d) [] room = nothing
-  ok-T (suc d) (w ∷ ws) room =
-      if-holds (leb 6 (w / 268435456)) 5 (nodeP value false (λ vs. readCondition d vs) (λ vs. readPolicy value false d vs) (w / 268435456 - 6) (w % 268435456) ws) (λ _.
-      node-T d (λ vs. readPolicy value false d vs) (λ vs h. ok-T d vs h) (λ vs. readCondition d vs) (λ vs. ok-C d vs) (w / 268435456 - 6) (w % 268435456) ws (omega arith))
+  abbrev SheetsIf : Bool → Policies O → Type 0
+  SheetsIf true ts = Unit {0}
+  SheetsIf false ts = AreSheets ts
+
+  sheet-if : (res : Bool) (t : Policy O) → IsSheet t → SheetIf res t
+  sheet-if true t h = tt
+  sheet-if false t h = h
+
+  nil-if : (res : Bool) → SheetsIf res pnil
+  nil-if true = tt
+  nil-if false = tt
+
+  cons-if : (res : Bool) (t : Policy O) (ts : Policies O) → SheetIf res t → SheetsIf res ts → SheetsIf res (pcons t ts)
+  cons-if true t ts h k = tt
+  cons-if false t ts h k = (h, k)
+
+  all-if : (res : Bool) (ts : Policies O) → SheetsIf res ts → SheetIf res (all ts)
+  all-if true ts h = tt
+  all-if false ts h = h
+
+  any-if : (res : Bool) (ts : Policies O) → SheetsIf res ts → SheetIf res (any ts)
+  any-if true ts h = tt
+  any-if false ts h = h
+
+  else-if : (res : Bool) (a b : Policy O) → SheetIf res a → SheetIf res b → SheetIf res (orElse a b)
+  else-if true a b h k = tt
+  else-if false a b h k = (h, k)
+
+  -- What is asked of a grant's condition holds of one of at most m words.
+  module _ (res : Bool) (B : Condition → Type 0) (m : ℕ) (bound : (c : Condition) → wordsC c ≤ m → B c) where
+    -- the form, the levels, the words there were
+    abbrev OkT : ℕ → ℕ → Policy O → List ℕ → Type 0
+    OkT d n t ws = FormOf G B t × (depth t ≤ d) × (words t + length ws ≡ n) × SheetIf res t
+
+    abbrev OkTs : ℕ → ℕ → ℕ → Policies O → List ℕ → Type 0
+    OkTs d n k ts ws = FormsOf G B ts × (depths ts ≤ d) × (wordss ts + length ws ≡ n) × (count ts ≡ k) × SheetsIf res ts
+
+    ok-grantMore : (d : ℕ) (p : List ℕ → Parsed Condition) → ((ws : List ℕ) → Holds (OkC d (length ws)) (p ws)) → (sh n : ℕ) (o : O) (lab rea : ℕ) (ws : List ℕ) → G o → length ws ≤ m
+        → Holds (OkT (suc d) (suc (suc (length ws)))) (grantMore value p sh n o lab rea ws)
+    ok-grantMore d p hp sh n o lab rea ws g room =
+        let made : Option ℕ → Option ℕ → List ℕ → Condition → List ℕ → Parsed (Policy O) = λ l e os c us. got (grant (record { outcome = o; obligations = os; label = l; reason = e; shape = shapeOf sh }) c) us in
+        then-holds (mark lab) (λ l _. next (mark rea) (λ e _. next (readList obligation obligationBits n ws) (λ os vs. next (p vs) (made l e os)))) (ok-mark lab) (λ l _ fl.
+        then-holds (mark rea) (λ e _. next (readList obligation obligationBits n ws) (λ os vs. next (p vs) (made l e os))) (ok-mark rea) (λ e _ fm.
+        then-holds (readList obligation obligationBits n ws) (λ os vs. next (p vs) (made l e os)) (ok-obligations n ws) (λ os vs fo.
+        then-holds (p vs) (made l e os) (hp vs) (λ c us fc.
+        let k : length os ≡ n = fo .1 in
+        let u = fo .2 in
+        let v = fc .2 in
+        fine (((g, fo .0, fl, fm), fc .0, bound c (omega arith)), omega arith, ap (λ x. 2 + wordsFor (perWord obligationBits) x + wordsC c + length us) k ∙ omega arith, sheet-if res (grant (record { outcome = o; obligations = os; label = l; reason = e; shape = shapeOf sh }) c) tt)))))
+
+    ok-grant : (d : ℕ) (p : List ℕ → Parsed Condition) → ((ws : List ℕ) → Holds (OkC d (length ws)) (p ws)) → (sh n z v : ℕ) (ws : List ℕ) → length ws ≤ m
+        → Holds (OkT (suc d) (suc (length ws))) (parseGrant value p sh n z v ws)
+    ok-grant d p hp sh n z v ws room =
+        let more : O → ℕ → List ℕ → Parsed (Policy O) = λ o w vs. grantMore value p sh n o (w / 65536) (w % 65536) vs in
+        if-holds (leb n 64) 8 (unless (eqb z 0) 8 (outcomeOf value (value v) (λ o. another ws (more o)))) (λ _.
+        if-holds (eqb z 0) 8 (outcomeOf value (value v) (λ o. another ws (more o))) (λ _.
+        outcome-holds (value v) (λ o. another ws (more o)) (sound v) (λ o g.
+        another-holds ws (more o) (λ w vs e.
+        weaker (more o w vs) (λ t us h. (h .0, h .1, h .2 ∙ ap suc (sym e), h .3))
+          (ok-grantMore d p hp sh n o (w / 65536) (w % 65536) vs g (omega arith))))))
+
+    module _ (d : ℕ) (p : List ℕ → Parsed (Policy O)) (hp : (ws : List ℕ) → length ws ≤ suc m → Holds (OkT d (length ws)) (p ws)) where
+      many-T : (k : ℕ) (ws : List ℕ) → length ws ≤ suc m → Holds (OkTs d (length ws) k) (many pnil pcons p k ws)
+      many-T zero ws room = fine (tt, omega arith, omega arith, omega arith, nil-if res)
+      many-T (suc k) ws room =
+          then-holds (p ws) (λ a vs. next (many pnil pcons p k vs) (λ xs us. got (pcons a xs) us)) (hp ws room)
+            (λ a vs h. then-holds (many pnil pcons p k vs) (λ xs us. got (pcons a xs) us) (many-T k vs (omega arith))
+              (λ xs us g. fine ((h .0, g .0), omega arith, omega arith, omega arith, cons-if res a xs (h .3) (g .4))))
+
+      stored-T : (b : Bool) (n : ℕ) (q : Parsed (Decision O)) → (b ≡ true → (t : Policy O) → SheetIf res t) → Holds (OkD n) q → Holds (OkT (suc d) n) (inResidual value b (asStored value q))
+      stored-T false n q f h = nothing
+      stored-T true n q f h = then-holds q (λ e ws. got (stored e) ws) h (λ e ws k. fine (k .0, omega arith, k .1, f refl (stored e)))
+
+      free-if : (b : Bool) → res ≡ b → b ≡ true → (t : Policy O) → SheetIf res t
+      free-if b e f t = rw (e ∙ f) tt
+
+      node-T : (pc : List ℕ → Parsed Condition) → ((ws : List ℕ) → Holds (OkC d (length ws)) (pc ws)) → (k r : ℕ) (ws : List ℕ) → length ws ≤ m
+          → Holds (OkT (suc d) (suc (length ws))) (nodeP value res pc p k r ws)
+      node-T pc hc zero r ws room =
+          if-holds (eqb (r / 65536) 0) 8 (outcomeOf value (value (r % 65536)) (λ o. got (permit o) ws)) (λ _.
+          outcome-holds (value (r % 65536)) (λ o. got (permit o) ws) (sound (r % 65536)) (λ o g. fine (g, omega arith, omega arith, sheet-if res (permit o) tt)))
+      node-T pc hc (suc zero) r ws room = if-holds (eqb r 0) 8 (got deny ws) (λ _. fine (tt, omega arith, omega arith, sheet-if res deny tt))
+      node-T pc hc (suc (suc zero)) r ws room = ok-grant d pc hc (r / 134217728) (r / 1048576 % 128) (r / 65536 % 16) (r % 65536) ws room
+      node-T pc hc (suc (suc (suc zero))) r ws room =
+          if-holds (ltb r 4096) 8 (next (many pnil pcons p r ws) (λ ts vs. got (all ts) vs)) (λ e.
+          then-holds (many pnil pcons p r ws) (λ ts vs. got (all ts) vs) (many-T r ws (omega arith)) (λ ts vs h. fine ((omega (arith, ltb-true r 4096 e), h .0), omega arith, omega arith, all-if res ts (h .4))))
+      node-T pc hc (suc (suc (suc (suc zero)))) r ws room =
+          if-holds (ltb r 4096) 8 (next (many pnil pcons p r ws) (λ ts vs. got (any ts) vs)) (λ e.
+          then-holds (many pnil pcons p r ws) (λ ts vs. got (any ts) vs) (many-T r ws (omega arith)) (λ ts vs h. fine ((omega (arith, ltb-true r 4096 e), h .0), omega arith, omega arith, any-if res ts (h .4))))
+      node-T pc hc (suc (suc (suc (suc (suc zero))))) r ws room =
+          if-holds (eqb r 0) 8 (next (p ws) (λ a vs. next (p vs) (λ b us. got (orElse a b) us))) (λ _.
+          then-holds (p ws) (λ a vs. next (p vs) (λ b us. got (orElse a b) us)) (hp ws (omega arith)) (λ a vs h.
+          then-holds (p vs) (λ b us. got (orElse a b) us) (hp vs (omega arith)) (λ b us g. fine ((h .0, g .0), omega arith, omega arith, else-if res a b (h .3) (g .3)))))
+      node-T pc hc (suc (suc (suc (suc (suc (suc zero)))))) r ws room = stored-T res (suc (length ws)) (at12 value r ws) (free-if res refl) (ok-12 r ws)
+      node-T pc hc (suc (suc (suc (suc (suc (suc (suc zero))))))) r ws room = stored-T res (suc (length ws)) (at13 value r ws) (free-if res refl) (ok-13 r ws)
+      node-T pc hc (suc (suc (suc (suc (suc (suc (suc (suc k)))))))) r ws room = nothing
+
+    pub ok-T : (d : ℕ) (ws : List ℕ) → length ws ≤ suc m → Holds (OkT d (length ws)) (readPolicy value res d ws)
+    ok-T zero [] room = nothing
+    ok-T zero (w ∷ ws) room = if-holds (leb 6 (kindOf w) && leb (kindOf w) (lastKind value res)) 5 (refuse 7) (λ _. nothing)
+    ok-T (suc d) [] room = nothing
+    ok-T (suc d) (w ∷ ws) room =
+        if-holds (leb 6 (kindOf w)) 5 (nodeP value res (λ vs. readCondition d vs) (λ vs. readPolicy value res d vs) (kindOf w - 6) (restOf w) ws) (λ _.
+        node-T d (λ vs. readPolicy value res d vs) (λ vs h. ok-T d vs h) (λ vs. readCondition d vs) (λ vs. ok-C d vs) (kindOf w - 6) (restOf w) ws (omega arith))
 
   whole-holds : {A : Type 0} {Q R : A → List ℕ → Type 0} (q : Parsed A) → ((a : A) → Q a [] → R a []) → Holds Q q → Holds R (whole q)
   whole-holds (refuse n) f h = nothing
@@ -190,4 +330,61 @@ module _ {O : Type 0} (G : O → Type 0) (value : ℕ → Option O) (sound : (n 
   ok-sheet ws =
       if-holds (leb 1 (length ws) && leb (length ws) 4096) 1 (whole (readPolicy value false 32 ws)) (λ e.
       let room : length ws ≤ 4096 = leb-true (length ws) 4096 (and-right (leb 1 (length ws)) (leb (length ws) 4096) e) in
-      whole-holds (readPolicy value false 32 ws) (λ t h. (h .0, h .1, omega arith, h .3, omega arith)) (ok-T 32 ws room))
+      whole-holds (readPolicy value false 32 ws) (λ t h. (h .0, h .1, omega arith, h .3, omega arith)) (ok-T false Few 4095 (λ c h. h) 32 ws room))
+
+  -- ---- records
+  -- A record that is read: a tree of good form, nested at most 32 deep, entries that name facts, and as many words as were given.
+  pub record OkRecord (n : ℕ) (r : Record O) : Type 0 where
+    pub form : FormOf G Free (tree r)
+    pub deep : depth (tree r) ≤ 32
+    pub entries : Named (r .log)
+    pub few : length (r .log) ≤ mostListed
+    pub long : wordsR r ≡ n
+
+  abbrev OkB : ℕ → ReducedPolicy O → List ℕ → Type 0
+  OkB n b ws = FormOf G Free (asResidual b) × (depth (asResidual b) ≤ 32) × (words (asResidual b) + length ws ≡ n)
+
+  ok-node14 : (k r : ℕ) (ws : List ℕ) → Holds (OkB (suc (length ws))) (node14 value k r ws)
+  ok-node14 zero r ws = then-holds (at12 value r ws) (λ d vs. got (resolved d) vs) (ok-12 r ws) (λ d vs h. fine (h .0, omega arith, h .1))
+  ok-node14 (suc zero) r ws = then-holds (at13 value r ws) (λ d vs. got (resolved d) vs) (ok-13 r ws) (λ d vs h. fine (h .0, omega arith, h .1))
+  ok-node14 (suc (suc k)) r ws = nothing
+
+  ok-14 : (ws : List ℕ) → Holds (OkB (length ws)) (parse14 value ws)
+  ok-14 ws =
+      another-holds ws (λ w vs. unless (leb 12 (kindOf w)) 5 (node14 value (kindOf w - 12) (restOf w) vs)) (λ w vs e.
+      if-holds (leb 12 (kindOf w)) 5 (node14 value (kindOf w - 12) (restOf w) vs) (λ _.
+      weaker (node14 value (kindOf w - 12) (restOf w) vs) (λ b us h. (h .0, h .1, h .2 ∙ omega arith)) (ok-node14 (kindOf w - 12) (restOf w) vs)))
+
+  ok-15 : (ws : List ℕ) → Holds (OkB (length ws)) (parse15 value ws)
+  ok-15 ws = then-holds (readPolicy value true 32 ws) (λ t vs. got (pending t) vs) (ok-T true Free (length ws) (λ c h. tt) 32 ws (omega arith)) (λ t vs h. fine (h .0, h .1, h .2))
+
+  ok-rest : (p : List ℕ → Parsed (ReducedPolicy O)) → ((ws : List ℕ) → Holds (OkB (length ws)) (p ws)) → (r : ℕ) (ws : List ℕ) → Holds (λ x vs. (vs ≡ [] → OkRecord (suc (length ws)) x)) (rest value p r ws)
+  ok-rest p hp r ws =
+      if-holds (ltb r 4096) 8 (next (readList consulted entryBits r ws) (λ es vs. next (p vs) (λ b us. got (record { body = b; log = es }) us))) (λ fits.
+      then-holds (readList consulted entryBits r ws) (λ es vs. next (p vs) (λ b us. got (record { body = b; log = es }) us)) (ok-entries r ws) (λ es vs he.
+      then-holds (p vs) (λ b us. got (record { body = b; log = es }) us) (hp vs) (λ b us hb.
+      let n : length es ≡ r = he .1 in
+      let h : r < 4096 = ltb-true r 4096 fits in
+      let u = he .2 in
+      let v = hb .2 in
+      fine (λ none. record {
+        form = hb .0;
+        deep = hb .1;
+        entries = he .0;
+        few = omega arith;
+        long = ap (λ x. 1 + wordsFor (perWord entryBits) x + words (asResidual b)) n ∙ omega (arith, ap length none)
+      }))))
+
+  ok-leads : (k r : ℕ) (ws : List ℕ) → Holds (λ x vs. (vs ≡ [] → OkRecord (suc (length ws)) x)) (leads value k r ws)
+  ok-leads zero r ws = ok-rest (parse14 value) ok-14 r ws
+  ok-leads (suc zero) r ws = ok-rest (parse15 value) ok-15 r ws
+  ok-leads (suc (suc k)) r ws = nothing
+
+  ok-lead : (ws : List ℕ) → Holds (λ x vs. (vs ≡ [] → OkRecord (length ws) x)) (readLead value ws)
+  ok-lead ws =
+      another-holds ws (λ w vs. unless (leb 14 (kindOf w)) 5 (leads value (kindOf w - 14) (restOf w) vs)) (λ w vs e.
+      if-holds (leb 14 (kindOf w)) 5 (leads value (kindOf w - 14) (restOf w) vs) (λ _.
+      weaker (leads value (kindOf w - 14) (restOf w) vs) (λ x us h none. subst (λ n. OkRecord n x) (sym e) (h none)) (ok-leads (kindOf w - 14) (restOf w) vs)))
+
+  pub ok-record : (ws : List ℕ) → Holds (λ r _. OkRecord (length ws) r) (readRecord value ws)
+  ok-record ws = if-holds (recordLength ws) 1 (whole (readLead value ws)) (λ _. whole-holds (readLead value ws) (λ r h. h refl) (ok-lead ws))

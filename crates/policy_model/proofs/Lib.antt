@@ -2,3 +2,4 @@ pub mod Words
 pub mod Checking
 pub mod Fields
 pub mod Masks
+pub mod Pairs

@@ -3,25 +3,30 @@ use mathlib.Core.Path.{_≡_, refl, sym, _∙_, ap, ap₂}
 use mathlib.Core.Bool.{Bool, true, false, cond, not, _||_, or-false, or-assoc}
 use mathlib.Core.List.{List, [], _∷_, _++_}
 use Prim.Native.Nat.{ℕ, zero, suc, _+_, _-_, _*_, _/_, _%_, _^_, _≤_, _<_}
-use native.Mathlib.Nat.{pow-suc, div-one, div-eq-of-lt, mul-div-mul-right, mod-lt}
+use native.Mathlib.Nat.{one-mul, zero-div, pow-suc, mul-mod-left, div-one, div-eq-of-lt, mul-div-mul-right, mod-lt}
 use native.Mathlib.Numerals.{sub-one}
 use native.Mathlib.Omega.{arith}
-use lib.Dec.{eqb, ltb, eqb·suc-zero, eqb·suc-suc}
-use lib.Pow.{pow-lt}
+use lib.Dec.{eqb, ltb, eqb·zero-suc, eqb·suc-zero, eqb·suc-suc}
+use lib.ListN.{length, drop, getD}
+use lib.Pow.{pow-lt, shl-exact}
 use lib.Bits.{bitOr, or-shr, or-mod}
 use Rattle.model.specs.Fields.{split, wordsFor}
 use Rattle.model.specs.Decision.{held}
 use Rattle.model.specs.Writing.{obligationBits}
 use Rattle.model.specs.Reading.{Parsed, refuse, got, unless, Fields, bad, ok, put, takeField, takeFields, readWords, readList, obligation}
+use Rattle.laws.specs.Size.{quads}
 use Rattle.laws.specs.FieldLaws.{wordsFor-none, wordsFor-more}
+use Rattle.laws.specs.ReadForm.{same-obligation}
 use Rattle.policy_model.specs.declared.Checked.{Checked}
 use Rattle.policy_model.specs.declared.Checked.the-variants.{Next}
 use Rattle.policy_model.specs.declared.Checked.the-variants as check
 use Rattle.policy_model.specs.declared.Obligations.{Obligations}
 use Rattle.policy_model.specs.declared.Obligations.the-variants.{Seen, Refused}
+use Rattle.policy_model.specs.Answers.{checked}
 use Rattle.policy_model.specs.Heads.{bitOf}
 use Rattle.policy_model.specs.Lists.{seenOne, seenAll}
-use Rattle.policy_model.proofs.Fields.{upTo, bad-words, Left, left, length-split}
+use Rattle.policy_model.proofs.Checking.{word-at, no-word, Leaves}
+use Rattle.policy_model.proofs.Fields.{upTo, bad-words, Left, left, list-ends, list-leaves}
 
 -- ---- bits
 abbrev bitAt : ℕ → ℕ → ℕ
@@ -30,7 +35,7 @@ bitAt m b = m / 2 ^ b % 2
 power-bit : (x b : ℕ) → bitAt (2 ^ x) b ≡ bitOf (eqb b x)
 power-bit zero zero = refl
 power-bit zero (suc b) = ap (λ n. n % 2) (div-eq-of-lt {n = 1} {m = 2 ^ suc b} (pow-lt {i = 0} {j = suc b} (omega arith))) ∙ sym (ap bitOf (eqb·suc-zero b))
-power-bit (suc x) zero = ap (λ n. n % 2) (div-one (2 ^ suc x) ∙ pow-suc 2 x) ∙ omega arith
+power-bit (suc x) zero = ap (λ n. n % 2) (div-one (2 ^ suc x) ∙ pow-suc 2 x) ∙ mul-mod-left (2 ^ x) 2 ∙ sym (ap bitOf (eqb·zero-suc x))
 power-bit (suc x) (suc b) =
     ap₂ (λ m n. m / n % 2) (pow-suc 2 x) (pow-suc 2 b)
     ∙ ap (λ n. n % 2) (mul-div-mul-right {m = 2} (2 ^ x) (2 ^ b) (omega arith))
@@ -63,6 +68,13 @@ mask-held m b (x ∷ xs) =
     ∙ ap (λ t. t || held b xs) (ap (λ n. eqb n 1) (or-bit m x b) ∙ or-test (bitAt m b) (eqb b x) (mod-lt (m / 2 ^ b) (omega arith)))
     ∙ or-assoc (eqb (bitAt m b) 1) (eqb b x) (held b xs)
 
+mask-of : (b : ℕ) (xs : List ℕ) → eqb (bitAt (maskFrom 0 xs) b) 1 ≡ held b xs
+mask-of b xs = mask-held 0 b xs ∙ ap (λ n. eqb (n % 2) 1 || held b xs) (zero-div (2 ^ b))
+
+-- A bit that is shifted to its place.
+pub one-shifted : (b : ℕ) → b < 64 → (1 * 2 ^ b) % 2 ^ 64 ≡ 2 ^ b
+one-shifted b h = shl-exact {a = 1} 1 b 64 (omega arith) (omega arith) ∙ one-mul (2 ^ b)
+
 -- ---- fields
 -- What was taken, with the mask for the list.
 abbrev stateOf : Fields ℕ → Obligations
@@ -84,7 +96,7 @@ unfolding seenOne
 seen-one (bad n) b = refl
 seen-one (ok xs zero) b = last-zero xs (eqb b 0)
 seen-one (ok xs (suc k)) b =
-    rw (eqb·suc-zero k, sub-one, mask-held 0 b xs) (one-seen xs k b (ltb b 64) (held b xs))
+    rw (eqb·suc-zero k, sub-one, mask-of b xs) (one-seen xs k b (ltb b 64) (held b xs))
 
 pub seen-all : (bs : List ℕ) (t : Fields ℕ) → seenAll (stateOf t) bs ≡ stateOf (takeFields obligation t bs)
 unfolding seenAll
@@ -130,8 +142,62 @@ walk-is (w ∷ ws) at (ok xs (suc k)) =
     let t = takeFields obligation (ok xs (suc k)) bs in
     ap (walk (at + 1) ws) (seen-all bs (ok xs (suc k))) ∙ walk-is ws (at + 1) t ∙ same-end at k ws t (left obligation bs xs (suc k))
 
--- From one word to the next, and at the end.
-pub walk-word : (at w k m n : ℕ) (ws : List ℕ) (s : Obligations) → (k ≡ 0 → ⊥) → s ≡ seenAll (Seen m k) (split obligationBits 4 w) → walk (at + 1) ws s ≡ walk at (w ∷ ws) (Seen m k)
+-- The loop over the words: a word more, and its three ends.
+one-word : (at w k m : ℕ) (ws : List ℕ) → (k ≡ 0 → ⊥) → walk (at + 1) ws (seenAll (Seen m k) (split obligationBits 4 w)) ≡ walk at (w ∷ ws) (Seen m k)
 unfolding walk
-walk-word at w zero m n ws s f e = absurd (f refl)
-walk-word at w (suc k) m n ws s f e = ap (walk (at + 1) ws) e
+one-word at w zero m ws f = absurd (f refl)
+one-word at w (suc k) m ws f = refl
+
+no-word-left : (at k m : ℕ) → (k ≡ 0 → ⊥) → check.Refused 6 ≡ walk at [] (Seen m k)
+unfolding walk
+no-word-left at zero m f = absurd (f refl)
+no-word-left at (suc k) m f = refl
+
+all-seen : (at m : ℕ) (ws : List ℕ) → Next at ≡ walk at ws (Seen m 0)
+unfolding walk
+all-seen at m [] = refl
+all-seen at m (w ∷ ws) = refl
+
+refused-at : (at n : ℕ) (ws : List ℕ) → check.Refused n ≡ walk at ws (Refused n)
+unfolding walk
+refused-at at n [] = refl
+refused-at at n (w ∷ ws) = refl
+
+module _ (words : List ℕ) (at mask left : ℕ) where
+  pub walk-word : (s : Obligations) → at < length words → (left ≡ 0 → ⊥) → s ≡ seenAll (Seen mask left) (split obligationBits 4 (getD words at 0)) →
+      walk (at + 1) (drop (at + 1) words) s ≡ walk at (drop at words) (Seen mask left)
+  walk-word s h f e =
+      ap (walk (at + 1) (drop (at + 1) words)) e
+      ∙ one-word at (getD words at 0) left mask (drop (at + 1) words) f
+      ∙ ap (λ us. walk at us (Seen mask left)) (sym (word-at words at h))
+
+  pub walk-refused : (n : ℕ) → at < length words → (left ≡ 0 → ⊥) → Refused n ≡ seenAll (Seen mask left) (split obligationBits 4 (getD words at 0)) →
+      check.Refused n ≡ walk at (drop at words) (Seen mask left)
+  walk-refused n h f e = refused-at (at + 1) n (drop (at + 1) words) ∙ walk-word (Refused n) h f e
+
+  pub walk-short : length words ≤ at → (left ≡ 0 → ⊥) → check.Refused 6 ≡ walk at (drop at words) (Seen mask left)
+  walk-short h f = no-word-left at left mask f ∙ ap (λ us. walk at us (Seen mask left)) (sym (no-word words at h))
+
+  pub walk-done : left ≡ 0 → Next at ≡ walk at (drop at words) (Seen mask left)
+  walk-done e = all-seen at mask (drop at words) ∙ ap (λ k. walk at (drop at words) (Seen mask k)) (sym e)
+
+-- The walk from the first word on is the check of the list.
+pub walk-list : (words : List ℕ) (at k : ℕ) → walk at (drop at words) (Seen 0 k) ≡ checked quads at (readList obligation obligationBits k (drop at words))
+walk-list words at k = walk-is (drop at words) at (ok [] k) ∙ sym (list-ends (λ o. o) obligation same-obligation obligationBits 3 refl at k (drop at words))
+
+pub obligations-leave : (k : ℕ) (us : List ℕ) → Leaves quads us (readList obligation obligationBits k us)
+obligations-leave k us = list-leaves (λ o. o) obligation same-obligation obligationBits 3 refl k us
+
+-- The four fields of a word.
+four-fields : (w : ℕ) → split obligationBits 4 w ≡ w / 16777216 ∷ w % 16777216 / 65536 ∷ w % 65536 / 256 ∷ w % 256 ∷ []
+four-fields w =
+    let a : w % 16777216 % 65536 ≡ w % 65536 = omega arith in
+    let b : w % 16777216 % 65536 % 256 ≡ w % 256 = omega arith in
+    ap₂ (λ x y. w / 16777216 ∷ w % 16777216 / 65536 ∷ x ∷ y ∷ []) (ap (λ n. n / 256) a) (div-one (w % 16777216 % 65536 % 256) ∙ b)
+
+pub four-seen : (w : ℕ) (s s₁ s₂ s₃ r : Obligations) → s₁ ≡ seenOne s (w / 16777216) → s₂ ≡ seenOne s₁ (w % 16777216 / 65536) → s₃ ≡ seenOne s₂ (w % 65536 / 256) →
+    r ≡ seenOne s₃ (w % 256) → r ≡ seenAll s (split obligationBits 4 w)
+unfolding seenAll
+four-seen w s s₁ s₂ s₃ r e₁ e₂ e₃ e₄ =
+    let all : r ≡ seenOne (seenOne (seenOne (seenOne s (w / 16777216)) (w % 16777216 / 65536)) (w % 65536 / 256)) (w % 256) = cc in
+    all ∙ ap (seenAll s) (sym (four-fields w))

@@ -1,12 +1,15 @@
 -- Lists of fields as the checks see them: obligations by a mask, entries by tests. Document 01, "How a request is turned back".
 use mathlib.Core.Bool.{Bool, false, cond, _||_}
 use mathlib.Core.List.{List, [], _∷_}
-use Prim.Native.Nat.{ℕ, _+_, _-_, _/_, _%_, _^_}
+use Prim.Native.Nat.{ℕ, zero, suc, _+_, _-_, _/_, _%_, _^_}
 use lib.Dec.{eqb, ltb, leb}
 use lib.Bits.{bitOr}
 use Rattle.model.specs.Facts.{factBits, factCount}
 use Rattle.model.specs.Writing.{markBits, entryBits}
 use Rattle.model.specs.Reading.{obligationCount}
+use Rattle.policy_model.specs.declared.Checked.{Checked}
+use Rattle.policy_model.specs.declared.Checked.the-variants.{Next}
+use Rattle.policy_model.specs.declared.Checked.the-variants as check
 use Rattle.policy_model.specs.declared.Obligations.{Obligations}
 use Rattle.policy_model.specs.declared.Obligations.the-variants.{Seen, Refused}
 
@@ -33,3 +36,13 @@ pairFits presences left w =
 -- A label or reason: present (1), then 15 bits; an absent one is 0.
 unfoldable pub markFits : ℕ → Bool
 markFits h = eqb h 0 || leb (2 ^ markBits) h
+
+unfoldable pub marksFit : ℕ → Bool
+marksFit w = cond (markFits (w / 2 ^ (1 + markBits))) (markFits (w % 2 ^ (1 + markBits))) false
+
+-- A list of entries, two a word, word by word.
+unfoldable pub checkedPairs : ℕ → ℕ → List ℕ → ℕ → Checked
+checkedPairs presences at [] zero = Next at
+checkedPairs presences at [] (suc k) = check.Refused 6
+checkedPairs presences at (w ∷ ws) zero = Next at
+checkedPairs presences at (w ∷ ws) (suc k) = cond (pairFits presences (suc k) w) (checkedPairs presences (at + 1) ws (k - 1)) (check.Refused 8)

@@ -11,7 +11,7 @@ ghost use Rattle.model.specs.Policy.{pnil, pcons};
 ghost use Rattle.model.specs.Writing.{obligationBits, entryBits};
 ghost use Rattle.model.specs.Reading.{many, readList, obligation, listed, consulted, readCondition, readPolicy};
 ghost use Rattle.laws.specs.Size.{quads, pairs, wordsC, wordsCs, wordsD, words as wordsP, wordss as wordsPs};
-ghost use Rattle.policy_model.specs.Lists.{seenOne, seenAll, entryFits, pairFits, markFits};
+ghost use Rattle.policy_model.specs.Lists.{seenOne, seenAll, entryFits, pairFits, markFits, marksFit, checkedPairs};
 ghost use Rattle.policy_model.specs.Answers.{checked};
 ghost use Rattle.policy_model.specs.Heads.{deepCondition, deepPolicy, grantNode, permitTraceNode, denyTraceNode, conditionHead, permitHead, grantHead, permitTraceHead, denyTraceHead, policyHead};
 
@@ -241,4 +241,118 @@ fn pair_fits(word: u32, left: u32, presences: u32) -> bool
     } else {
         entry_fits(word % 65536, presences)
     }
+}
+
+// Checks a list of `count` such entries from `at`, two a word.
+fn check_pairs(words: &[u32], at: usize, count: u32, presences: u32) -> Checked
+    ensures { λ r. ⌜ r ≡ checkedPairs presences at (drop at (now (words .entry))) count ⌝ }
+{
+    let mut next = at;
+    let mut left = count;
+    while left != 0 {
+        if words.len() <= next {
+            return Checked::Refused(6);
+        }
+        if !pair_fits(words[next], left, presences) {
+            return Checked::Refused(8);
+        }
+        next += 1;
+        if left == 1 {
+            return Checked::Next(next);
+        }
+        left -= 2;
+    }
+    Checked::Next(next)
+}
+
+// Checks a list of `count` facts from `at`: entries with presence 0.
+pub fn check_facts(words: &[u32], at: usize, count: u32) -> Checked
+    ensures { λ r. ⌜ r ≡ checked pairs at (readList listed entryBits count (drop at (now (words .entry)))) ⌝ }
+{
+    check_pairs(words, at, count, 1)
+}
+
+// Checks a list of `count` consulted entries from `at`.
+pub fn check_entries(words: &[u32], at: usize, count: u32) -> Checked
+    ensures { λ r. ⌜ r ≡ checked pairs at (readList consulted entryBits count (drop at (now (words .entry)))) ⌝ }
+{
+    check_pairs(words, at, count, 3)
+}
+
+// Whether 16 bits are a label or a reason: present (1), then 15 bits; an absent one is 0.
+fn mark_fits(half: u32) -> bool
+    ensures { λ r. ⌜ r ≡ markFits half ⌝ }
+{
+    if half == 0 {
+        return true;
+    }
+    half >= 32768
+}
+
+// Whether a word is a label and a reason.
+fn marks_fit(word: u32) -> bool
+    ensures { λ r. ⌜ r ≡ marksFit word ⌝ }
+{
+    if mark_fits(word / 65536) {
+        mark_fits(word % 65536)
+    } else {
+        false
+    }
+}
+
+// The refusal of a condition below the last level.
+fn deep_condition(head: ConditionHead) -> u32
+    ensures { λ r. ⌜ r ≡ deepCondition head ⌝ }
+{
+    match head {
+        ConditionHead::Always => 7,
+        ConditionHead::Never => 7,
+        ConditionHead::Has(_) => 7,
+        ConditionHead::Not => 7,
+        ConditionHead::All(_) => 7,
+        ConditionHead::Any(_) => 7,
+        ConditionHead::BadKind => 5,
+        ConditionHead::BadField => 7,
+    }
+}
+
+// Checks the condition at `at`, of at most `depth` levels.
+pub fn check_condition(words: &[u32], at: usize, depth: usize) -> Checked
+    ensures { λ r. ⌜ r ≡ checked wordsC at (readCondition depth (drop at (now (words .entry)))) ⌝ }
+{
+    if words.len() <= at {
+        return Checked::Refused(6);
+    }
+    let head = condition_head(words[at]);
+    if depth == 0 {
+        return Checked::Refused(deep_condition(head));
+    }
+    match head {
+        ConditionHead::Always => Checked::Next(at + 1),
+        ConditionHead::Never => Checked::Next(at + 1),
+        ConditionHead::Has(_) => Checked::Next(at + 1),
+        ConditionHead::Not => check_condition(words, at + 1, depth - 1),
+        ConditionHead::All(count) => check_conditions(words, at + 1, depth - 1, count),
+        ConditionHead::Any(count) => check_conditions(words, at + 1, depth - 1, count),
+        ConditionHead::BadKind => Checked::Refused(5),
+        ConditionHead::BadField => Checked::Refused(8),
+    }
+}
+
+// Checks `count` conditions, one after the other, from `at`.
+pub fn check_conditions(words: &[u32], at: usize, depth: usize, count: u32) -> Checked
+    ensures { λ r. ⌜ r ≡ checked wordsCs at (many cnil ccons (readCondition depth) count (drop at (now (words .entry)))) ⌝ }
+{
+    let mut next = at;
+    let mut left = count;
+    while left != 0 {
+        match check_condition(words, next, depth) {
+            Checked::Next(after) => {
+                next = after;
+                left -= 1;
+            }
+            Checked::Refused(number) => return Checked::Refused(number),
+        }
+    }
+    Checked::Next(next)
 }

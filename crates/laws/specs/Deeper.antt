@@ -51,7 +51,7 @@ module _ {A B : Type 0} where
     follows-many zero ws = equal (got nil ws)
     follows-many (suc n) ws =
         follows-next (p ws) (q ws) (λ a vs. next (many nil cons p n vs) (λ xs us. got (cons a xs) us)) (λ a vs. next (many nil cons q n vs) (λ xs us. got (cons a xs) us)) (f ws)
-          (λ a vs. follows-next′ (many nil cons p n vs) (many nil cons q n vs) a (follows-many n vs))
+        (λ a vs. follows-next′ (many nil cons p n vs) (many nil cons q n vs) a (follows-many n vs))
       where
         follows-next′ : (x y : Parsed B) (a : A) → Follows x y → Follows (next x (λ xs us. got (cons a xs) us)) (next y (λ xs us. got (cons a xs) us))
         follows-next′ (refuse n) y a h = refused
@@ -62,7 +62,7 @@ module _ (p q : List ℕ → Parsed Condition) (f : (ws : List ℕ) → Follows 
   list-C : (make : Conditions → Condition) (r : ℕ) (ws : List ℕ) → Follows (counted r (next (many cnil ccons p r ws) (λ cs vs. got (make cs) vs))) (counted r (next (many cnil ccons q r ws) (λ cs vs. got (make cs) vs)))
   list-C make r ws =
       follows-unless (ltb r (2 ^ countBits)) 8 (next (many cnil ccons p r ws) (λ cs vs. got (make cs) vs)) (next (many cnil ccons q r ws) (λ cs vs. got (make cs) vs))
-        (follows-next (many cnil ccons p r ws) (many cnil ccons q r ws) (λ cs vs. got (make cs) vs) (λ cs vs. got (make cs) vs) (follows-many cnil ccons p q f r ws) (λ cs vs. equal (got (make cs) vs)))
+      (follows-next (many cnil ccons p r ws) (many cnil ccons q r ws) (λ cs vs. got (make cs) vs) (λ cs vs. got (make cs) vs) (follows-many cnil ccons p q f r ws) (λ cs vs. equal (got (make cs) vs)))
 
   node-C : (k r : ℕ) (ws : List ℕ) → Follows (nodeC p k r ws) (nodeC q k r ws)
   node-C zero r ws = equal (nodeC p 0 r ws)
@@ -70,7 +70,7 @@ module _ (p q : List ℕ → Parsed Condition) (f : (ws : List ℕ) → Follows 
   node-C (suc (suc zero)) r ws = equal (nodeC p 2 r ws)
   node-C (suc (suc (suc zero))) r ws =
       follows-unless (eqb r 0) 8 (next (p ws) (λ c vs. got (notC c) vs)) (next (q ws) (λ c vs. got (notC c) vs))
-        (follows-next (p ws) (q ws) (λ c vs. got (notC c) vs) (λ c vs. got (notC c) vs) (f ws) (λ c vs. equal (got (notC c) vs)))
+      (follows-next (p ws) (q ws) (λ c vs. got (notC c) vs) (λ c vs. got (notC c) vs) (f ws) (λ c vs. equal (got (notC c) vs)))
   node-C (suc (suc (suc (suc zero)))) r ws = list-C allC r ws
   node-C (suc (suc (suc (suc (suc zero))))) r ws = list-C anyC r ws
   node-C (suc (suc (suc (suc (suc (suc k)))))) r ws = refused
@@ -109,12 +109,12 @@ module _ {O : Type 0} (value : ℕ → Option O) where
         let sh = r / 2 ^ (7 + 4 + outcomeBits) in
         let n = bits (4 + outcomeBits) 7 r in
         follows-unless (fewObligations n) 8 _ _ (follows-unless (eqb (bits outcomeBits 4 r) 0) 8 _ _
-          (outcome-follows (value (r % 2 ^ outcomeBits)) _ _ (λ o. another-follows ws _ _ (λ w vs. grant-more sh n o (w / 2 ^ (1 + markBits)) (w % 2 ^ (1 + markBits)) vs))))
+        (outcome-follows (value (r % 2 ^ outcomeBits)) _ _ (λ o. another-follows ws _ _ (λ w vs. grant-more sh n o (w / 2 ^ (1 + markBits)) (w % 2 ^ (1 + markBits)) vs))))
 
     list-P : (make : Policies O → Policy O) (r : ℕ) (ws : List ℕ) → Follows (counted r (next (many pnil pcons p r ws) (λ ts vs. got (make ts) vs))) (counted r (next (many pnil pcons q r ws) (λ ts vs. got (make ts) vs)))
     list-P make r ws =
         follows-unless (ltb r (2 ^ countBits)) 8 (next (many pnil pcons p r ws) (λ ts vs. got (make ts) vs)) (next (many pnil pcons q r ws) (λ ts vs. got (make ts) vs))
-          (follows-next (many pnil pcons p r ws) (many pnil pcons q r ws) (λ ts vs. got (make ts) vs) (λ ts vs. got (make ts) vs) (follows-many pnil pcons p q f r ws) (λ ts vs. equal (got (make ts) vs)))
+        (follows-next (many pnil pcons p r ws) (many pnil pcons q r ws) (λ ts vs. got (make ts) vs) (λ ts vs. got (make ts) vs) (follows-many pnil pcons p q f r ws) (λ ts vs. equal (got (make ts) vs)))
 
     stored-P : (res : Bool) (x : Parsed (Decision O)) → Follows (inResidual value res (asStored value x)) (asStored value x)
     stored-P true x = equal (asStored value x)
@@ -143,4 +143,4 @@ module _ {O : Type 0} (value : ℕ → Option O) where
   deeper res (suc d) zero (w ∷ ws) h = let z : ⊥ = omega arith in absurd z
   deeper res (suc d) (suc e) (w ∷ ws) h =
       follows-unless (leb 6 (kindOf w)) 5 _ _
-        (node-P (λ vs. readCondition d vs) (λ vs. readCondition e vs) (λ vs. deeper-C d e vs (omega arith)) (λ vs. readPolicy value res d vs) (λ vs. readPolicy value true e vs) (λ vs. deeper res d e vs (omega arith)) res (kindOf w - 6) (restOf w) ws)
+      (node-P (λ vs. readCondition d vs) (λ vs. readCondition e vs) (λ vs. deeper-C d e vs (omega arith)) (λ vs. readPolicy value res d vs) (λ vs. readPolicy value true e vs) (λ vs. deeper res d e vs (omega arith)) res (kindOf w - 6) (restOf w) ws)

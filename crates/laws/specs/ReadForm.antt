@@ -130,8 +130,8 @@ OkEs n l es vs = Named es × (length es ≡ n) × (wordsFor (perWord entryBits) 
 ok-entries : (n : ℕ) (ws : List ℕ) → Holds (OkEs n (length ws)) (readList consulted entryBits n ws)
 ok-entries n ws =
     weaker (readList consulted entryBits n ws) (λ es vs h. (h .0, h .1 .long, h .1 .took-words))
-      (both-hold (readList consulted entryBits n ws) (kept-list consulted Named consulted-keeps entryBits n ws tt)
-        (same-list entryField consulted same-consulted entryBits 1 n ws refl))
+    (both-hold (readList consulted entryBits n ws) (kept-list consulted Named consulted-keeps entryBits n ws tt)
+    (same-list entryField consulted same-consulted entryBits 1 n ws refl))
 
 -- ---- labels and reasons
 mark-at : (h : ℕ) (b : Bool) → ltb h 32768 ≡ b → Holds (λ l _. FormL l) (cond b (unless (eqb h 0) 8 (got none [])) (unless (ltb h 65536) 8 (got (some (h - 32768)) [])))
@@ -271,15 +271,15 @@ module _ {O : Type 0} (G : O → Type 0) (value : ℕ → Option O) (sound : (n 
         outcome-holds (value v) (λ o. another ws (more o)) (sound v) (λ o g.
         another-holds ws (more o) (λ w vs e.
         weaker (more o w vs) (λ t us h. (h .0, h .1, h .2 ∙ ap suc (sym e), h .3))
-          (ok-grantMore d p hp sh n o (w / 65536) (w % 65536) vs g (omega arith))))))
+        (ok-grantMore d p hp sh n o (w / 65536) (w % 65536) vs g (omega arith))))))
 
     module _ (d : ℕ) (p : List ℕ → Parsed (Policy O)) (hp : (ws : List ℕ) → length ws ≤ suc m → Holds (OkT d (length ws)) (p ws)) where
       many-T : (k : ℕ) (ws : List ℕ) → length ws ≤ suc m → Holds (OkTs d (length ws) k) (many pnil pcons p k ws)
       many-T zero ws room = fine (tt, omega arith, omega arith, omega arith, nil-if res)
       many-T (suc k) ws room =
           then-holds (p ws) (λ a vs. next (many pnil pcons p k vs) (λ xs us. got (pcons a xs) us)) (hp ws room)
-            (λ a vs h. then-holds (many pnil pcons p k vs) (λ xs us. got (pcons a xs) us) (many-T k vs (omega arith))
-              (λ xs us g. fine ((h .0, g .0), omega arith, omega arith, omega arith, cons-if res a xs (h .3) (g .4))))
+          (λ a vs h. then-holds (many pnil pcons p k vs) (λ xs us. got (pcons a xs) us) (many-T k vs (omega arith))
+          (λ xs us g. fine ((h .0, g .0), omega arith, omega arith, omega arith, cons-if res a xs (h .3) (g .4))))
 
       stored-T : (b : Bool) (n : ℕ) (q : Parsed (Decision O)) → (b ≡ true → (t : Policy O) → SheetIf res t) → Holds (OkD n) q → Holds (OkT (suc d) n) (inResidual value b (asStored value q))
       stored-T false n q f h = nothing
@@ -372,7 +372,7 @@ module _ {O : Type 0} (G : O → Type 0) (value : ℕ → Option O) (sound : (n 
         deep = hb .1;
         entries = he .0;
         few = omega arith;
-        long = ap (λ x. 1 + wordsFor (perWord entryBits) x + words (asResidual b)) n ∙ omega (arith, ap length none)
+        long = ap (λ x. 1 + wordsFor (perWord entryBits) x + words (asResidual b)) n ∙ omega (arith, ap length none);
       }))))
 
   ok-leads : (k r : ℕ) (ws : List ℕ) → Holds (λ x vs. (vs ≡ [] → OkRecord (suc (length ws)) x)) (leads value k r ws)

@@ -1,0 +1,128 @@
+//! A call with its input, and its answer.
+
+use crate::reference::{self, FactSet};
+use crate::refusal::Refusal;
+
+/// One of document 01's nine calls.
+#[derive(Clone, Copy, Debug, PartialEq, Eq)]
+pub enum Call {
+    /// A sheet and a known table, to a record.
+    Evaluate,
+    /// A sheet and a partial table, to a record.
+    PartialEvaluate,
+    /// A record and a partial table, to a record.
+    NarrowResidual,
+    /// A record and a known table, to a record.
+    CompleteResidual,
+    /// A sheet's facts.
+    RequiredFacts,
+    /// A record's facts.
+    RequiredResidualFacts,
+    /// A question to a record.
+    IsPermitConstant,
+    /// A question to a record.
+    IsDenyConstant,
+    /// A question to a record.
+    CarriesObligation,
+}
+
+impl Call {
+    /// All nine.
+    pub const ALL: [Self; 9] = [
+        Self::Evaluate,
+        Self::PartialEvaluate,
+        Self::NarrowResidual,
+        Self::CompleteResidual,
+        Self::RequiredFacts,
+        Self::RequiredResidualFacts,
+        Self::IsPermitConstant,
+        Self::IsDenyConstant,
+        Self::CarriesObligation,
+    ];
+
+    /// The call's name in document 01.
+    pub const fn name(self) -> &'static str {
+        match self {
+            Self::Evaluate => "evaluate",
+            Self::PartialEvaluate => "partial_evaluate",
+            Self::NarrowResidual => "narrow_residual",
+            Self::CompleteResidual => "complete_residual",
+            Self::RequiredFacts => "required_facts",
+            Self::RequiredResidualFacts => "required_residual_facts",
+            Self::IsPermitConstant => "is_permit_constant",
+            Self::IsDenyConstant => "is_deny_constant",
+            Self::CarriesObligation => "carries_obligation",
+        }
+    }
+
+    /// Whether the call takes a table and writes a record.
+    pub const fn writes(self) -> bool {
+        matches!(
+            self,
+            Self::Evaluate | Self::PartialEvaluate | Self::NarrowResidual | Self::CompleteResidual
+        )
+    }
+
+    /// Whether the call reads a sheet, and not a record.
+    pub const fn reads_sheet(self) -> bool {
+        matches!(
+            self,
+            Self::Evaluate | Self::PartialEvaluate | Self::RequiredFacts
+        )
+    }
+
+    /// Whether the call's table may hold Unknown.
+    pub const fn allows_unknown(self) -> bool {
+        matches!(self, Self::PartialEvaluate | Self::NarrowResidual)
+    }
+}
+
+/// A call and what it is given. Calls that write nothing have an empty table and no room.
+#[derive(Clone, Debug, PartialEq, Eq)]
+pub struct Case {
+    /// Which call.
+    pub call: Call,
+    /// The table's bytes.
+    pub table: Vec<u8>,
+    /// The sheet's or record's words.
+    pub words: Vec<u32>,
+    /// The output's length in words.
+    pub room: usize,
+}
+
+/// What an accepted call gives.
+#[derive(Clone, Debug, PartialEq, Eq)]
+pub enum Answer {
+    /// The record written.
+    Record(Vec<u32>),
+    /// The required facts.
+    Facts(FactSet),
+    /// A question's yes or no.
+    Says(bool),
+}
+
+impl Case {
+    /// The call's answer, or why it is turned back.
+    pub fn answer(&self) -> Result<Answer, Refusal> {
+        let (words, table, room) = (&self.words, &self.table, self.room);
+        match self.call {
+            Call::Evaluate => reference::evaluate(words, table, room).map(Answer::Record),
+            Call::PartialEvaluate => {
+                reference::partial_evaluate(words, table, room).map(Answer::Record)
+            }
+            Call::NarrowResidual => {
+                reference::narrow_residual(words, table, room).map(Answer::Record)
+            }
+            Call::CompleteResidual => {
+                reference::complete_residual(words, table, room).map(Answer::Record)
+            }
+            Call::RequiredFacts => reference::required_facts(words).map(Answer::Facts),
+            Call::RequiredResidualFacts => {
+                reference::required_residual_facts(words).map(Answer::Facts)
+            }
+            Call::IsPermitConstant => reference::is_permit_constant(words).map(Answer::Says),
+            Call::IsDenyConstant => reference::is_deny_constant(words).map(Answer::Says),
+            Call::CarriesObligation => reference::carries_obligation(words).map(Answer::Says),
+        }
+    }
+}

@@ -1,0 +1,10 @@
+//! Cases made from a seed: the same seed gives the same cases everywhere.
+
+pub mod cases;
+pub mod chains;
+pub mod damage;
+pub mod exhaustive;
+pub mod grow;
+pub mod limits;
+pub mod rng;
+pub mod tables;

@@ -1,0 +1,123 @@
+//! Small cases for stored answers and rows.
+
+use super::chains::{self, Chain};
+use super::grow::{Alphabet, Grower};
+use super::rng::Rng;
+use super::{damage, tables};
+use crate::case::{Answer, Call, Case};
+use crate::words::write;
+
+/// The lead of a Pending record without consulted entries.
+const PENDING: u32 = 0xF000_0000;
+
+/// This many cases of these calls; a call that is listed twice comes twice as often.
+pub fn draw(seed: u64, count: usize, calls: &[Call]) -> Vec<Case> {
+    let mut rng = Rng::new(seed);
+    (0..count)
+        .map(|_| {
+            let call = rng.pick(calls);
+            case(&mut rng, call)
+        })
+        .collect()
+}
+
+fn case(rng: &mut Rng, call: Call) -> Case {
+    let alphabet = Alphabet::draw(rng);
+    let mut words = if call.reads_sheet() {
+        grown(rng, |rng| Grower::of_sheets(rng, &alphabet))
+    } else {
+        record(rng, &alphabet)
+    };
+    if rng.percent(20) {
+        damage::damage(rng, &mut words);
+    }
+    let mut case = Case {
+        call,
+        table: Vec::new(),
+        words,
+        room: 0,
+    };
+    if call.writes() {
+        case.table = table(rng, &alphabet, call);
+        case.room = chains::room(case.words.len());
+        if rng.percent(20) {
+            case.room = tight(rng, &case);
+        }
+    }
+    case
+}
+
+/// A record that a chain of reductions and narrowings wrote, or one written by hand.
+fn record(rng: &mut Rng, alphabet: &Alphabet) -> Vec<u32> {
+    let words = size(rng);
+    match rng.below(100) {
+        0..=29 => staged(rng, alphabet),
+        30..=69 => {
+            let tree = grown(rng, |rng| Grower::of_records(rng, alphabet));
+            [&[PENDING], tree.as_slice()].concat()
+        }
+        _ => write::record(&Grower::of_records(rng, alphabet).record(words)),
+    }
+}
+
+/// A record of some stage of a chain, seldom a Resolved one if there are others.
+fn staged(rng: &mut Rng, alphabet: &Alphabet) -> Vec<u32> {
+    let tree = if rng.percent(50) {
+        Grower::of_sheets(rng, alphabet).mixed()
+    } else {
+        let words = size(rng);
+        Grower::of_sheets(rng, alphabet).tree(words, 1)
+    };
+    let mut records = Chain::over(rng, write::tree(&tree)).records();
+    let pending = |record: &Vec<u32>| record[0] >= PENDING;
+    if records.iter().any(pending) && rng.percent(80) {
+        records.retain(pending);
+    }
+    records.swap_remove(rng.below(records.len()))
+}
+
+/// The words of a tree: most of them small, some at the limits of levels and obligations.
+fn grown<'a>(rng: &'a mut Rng, grower: impl FnOnce(&'a mut Rng) -> Grower<'a>) -> Vec<u32> {
+    let kind = rng.below(100);
+    let words = size(rng);
+    let nodes = rng.between(31, 33);
+    let obligations = rng.between(63, 66);
+    let mut grower = grower(rng);
+    write::tree(&match kind {
+        0..=3 => grower.tall(nodes),
+        4 | 5 => grower.bulky(obligations),
+        6..=8 => grower.repeating(),
+        9..=49 => grower.mixed(),
+        _ => grower.tree(words, 1),
+    })
+}
+
+/// How many words a tree may have.
+fn size(rng: &mut Rng) -> usize {
+    match rng.below(20) {
+        0..=2 => rng.between(1, 6),
+        3..=13 => rng.between(7, 25),
+        14..=18 => rng.between(26, 45),
+        _ => rng.between(80, 120),
+    }
+}
+
+fn table(rng: &mut Rng, alphabet: &Alphabet, call: Call) -> Vec<u8> {
+    let mut table = tables::draw(rng, &alphabet.facts, call.allows_unknown());
+    if rng.percent(5) {
+        tables::spoil(rng, &mut table);
+    }
+    table
+}
+
+/// An output that the record just fits, just doesn't, or doesn't by far.
+fn tight(rng: &mut Rng, case: &Case) -> usize {
+    match case.answer() {
+        Ok(Answer::Record(record)) => {
+            let words = record.len();
+            let less = rng.below(words);
+            rng.pick(&[words, words, words - 1, words - 1, less, 0])
+        }
+        _ => rng.below(4),
+    }
+}

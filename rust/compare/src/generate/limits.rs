@@ -1,0 +1,203 @@
+//! Cases on both sides of each limit.
+
+use gatekeep::{DenyShape, Presence};
+
+use super::grow::{Alphabet, Grower};
+use super::rng::Rng;
+use crate::case::{Answer, Call, Case};
+use crate::products::Products;
+use crate::words::table::pack;
+use crate::words::tree::{Condition, Decided, Entry, Grant, Permit, Record, Residual, Tree};
+use crate::words::write;
+use crate::words::{FACTS, LEVELS, LIST, OBLIGATIONS, RECORD_WORDS, SHEET_WORDS, TABLE_BYTES};
+
+/// Each call on inputs at the limits, with outputs that fit their record and outputs that don't.
+pub fn cases(rng: &mut Rng) -> Vec<Case> {
+    let (sheets, records) = (sheets(rng), records(rng));
+    let mut found = Vec::new();
+    for call in Call::ALL {
+        let inputs = if call.reads_sheet() {
+            &sheets
+        } else {
+            &records
+        };
+        for words in inputs {
+            if call.writes() {
+                found.extend(written(rng, call, words));
+            } else {
+                found.push(case(call, &[], words, 0));
+            }
+        }
+    }
+    found
+}
+
+/// Sheets of many words, arms, facts, levels and obligations.
+pub fn sheets(rng: &mut Rng) -> Vec<Vec<u32>> {
+    let alphabet = Alphabet::wide(rng);
+    let mut trees = Vec::new();
+    for words in SHEET_WORDS - 1..=SHEET_WORDS + 1 {
+        trees.push(Grower::of_sheets(rng, &alphabet).exactly(words));
+        trees.push(Grower::of_sheets(rng, &alphabet).flat(words - 1));
+        trees.push(naming(rng, words - 3));
+    }
+    for nodes in LEVELS - 1..=LEVELS + 2 {
+        trees.extend((0..4).map(|_| Grower::of_sheets(rng, &alphabet).tall(nodes)));
+    }
+    for obligations in OBLIGATIONS - 1..=OBLIGATIONS + 1 {
+        trees.push(Grower::of_sheets(rng, &alphabet).bulky(obligations));
+    }
+    let mut found: Vec<Vec<u32>> = trees.iter().map(write::tree).collect();
+    found.push(Vec::new());
+    found
+}
+
+/// Records of many words, arms, facts, levels, obligations and consulted entries, and such as a
+/// narrowing or a completion takes over a limit.
+pub fn records(rng: &mut Rng) -> Vec<Vec<u32>> {
+    let alphabet = Alphabet::wide(rng);
+    let mut records = Vec::new();
+    for words in RECORD_WORDS - 1..=RECORD_WORDS + 1 {
+        let tree = Grower::of_records(rng, &alphabet).exactly(words - 1);
+        records.push(pending(tree));
+        records.push(growing(words));
+    }
+    for nodes in LEVELS - 1..=LEVELS + 2 {
+        records.push(pending(Grower::of_records(rng, &alphabet).tall(nodes)));
+    }
+    for obligations in OBLIGATIONS - 1..=OBLIGATIONS + 1 {
+        let tree = Grower::of_records(rng, &alphabet).bulky(obligations);
+        records.push(pending(tree));
+        records.push(obliging(obligations));
+    }
+    for facts in LIST - 1..=LIST + 2 {
+        records.push(pending(naming(rng, facts)));
+    }
+    for length in LIST - 1..=LIST {
+        records.push(pending(Grower::of_records(rng, &alphabet).flat(length)));
+        records.push(listed(rng, length));
+        records.push(Record::Pending {
+            consulted: consulted(rng, length),
+            residual: naming(rng, length),
+        });
+    }
+    let mut found: Vec<Vec<u32>> = records.iter().map(write::record).collect();
+    found.extend([Vec::new(), vec![0xE000_0000], vec![0xF000_0000]]);
+    found
+}
+
+/// Tables around the longest, the empty one, and one that is all Present.
+pub fn tables(rng: &mut Rng, unknown: bool) -> Vec<Vec<u8>> {
+    let readings: &[u8] = if unknown { &[0, 1, 2] } else { &[0, 1] };
+    let mut found = vec![Vec::new(), vec![0x55; TABLE_BYTES]];
+    for bytes in TABLE_BYTES - 1..=TABLE_BYTES + 1 {
+        let fields: Vec<u8> = (0..4 * bytes).map(|_| rng.pick(readings)).collect();
+        found.push(pack(&fields));
+    }
+    found
+}
+
+/// A record whose narrowing, while fact 0 is Unknown, has this many words: each of its permits
+/// takes a word, and two once it is resolved.
+pub fn growing(words: usize) -> Record {
+    // The lead, the list above and four lists with a grant of three words each; then pairs.
+    let odd = (words - 18) % 2;
+    let mut permits = (words - 18) / 2;
+    let lists = (0..4).map(|index| {
+        let share = permits.div_ceil(4 - index);
+        permits -= share;
+        let mut arms = vec![Tree::Permit(Products(3)); share];
+        let obligations = if index == 0 { odd } else { 0 };
+        arms.push(grant(Condition::Has(0), vec![7; obligations]));
+        Tree::All(arms)
+    });
+    pending(Tree::Any(lists.collect()))
+}
+
+/// A Resolved record with this many consulted entries and as many facts, repeats among them.
+pub fn listed(rng: &mut Rng, length: usize) -> Record {
+    Record::Resolved {
+        consulted: consulted(rng, length),
+        decided: Decided::Permit(Permit {
+            satisfied: (0..length).map(|_| rng.small(FACTS)).collect(),
+            ..Permit::plain(Products(1))
+        }),
+    }
+}
+
+/// A grant whose condition names this many facts.
+pub fn naming(rng: &mut Rng, facts: usize) -> Residual {
+    let list = rng.pick::<fn(Vec<Condition>) -> Condition>(&[Condition::All, Condition::Any]);
+    let mut has = |count| {
+        list(
+            (0..count)
+                .map(|_| Condition::Has(rng.small(FACTS)))
+                .collect(),
+        )
+    };
+    let condition = if facts > LIST {
+        list(vec![has(LIST - 1), has(facts + 1 - LIST)])
+    } else {
+        has(facts)
+    };
+    grant(condition, Vec::new())
+}
+
+/// A Resolved record whose permit has this many obligations.
+fn obliging(obligations: usize) -> Record {
+    Record::Resolved {
+        consulted: Vec::new(),
+        decided: Decided::Permit(Permit {
+            obligations: (0..=u8::MAX).take(obligations).collect(),
+            ..Permit::plain(Products(1))
+        }),
+    }
+}
+
+fn consulted(rng: &mut Rng, length: usize) -> Vec<Entry> {
+    let presences = [Presence::Absent, Presence::Present, Presence::Unknown];
+    (0..length)
+        .map(|_| (rng.small(FACTS), rng.pick(&presences)))
+        .collect()
+}
+
+fn grant(condition: Condition, obligations: Vec<u8>) -> Residual {
+    Tree::Grant(Grant {
+        outcome: Products(1),
+        shape: DenyShape::Forbidden,
+        label: None,
+        reason: None,
+        obligations,
+        condition,
+    })
+}
+
+const fn pending(residual: Residual) -> Record {
+    Record::Pending {
+        consulted: Vec::new(),
+        residual,
+    }
+}
+
+/// The call under each table, and under one of them with an output that the record just fits and
+/// one that it doesn't.
+fn written(rng: &mut Rng, call: Call, words: &[u32]) -> Vec<Case> {
+    let tables = tables(rng, call.allows_unknown());
+    let roomy = |table: &Vec<u8>| case(call, table, words, RECORD_WORDS + 1);
+    let mut found: Vec<Case> = tables.iter().map(roomy).collect();
+    let table = &tables[rng.below(tables.len())];
+    if let Ok(Answer::Record(record)) = roomy(table).answer() {
+        found.push(case(call, table, words, record.len()));
+        found.push(case(call, table, words, record.len() - 1));
+    }
+    found
+}
+
+fn case(call: Call, table: &[u8], words: &[u32], room: usize) -> Case {
+    Case {
+        call,
+        table: table.to_vec(),
+        words: words.to_vec(),
+        room,
+    }
+}

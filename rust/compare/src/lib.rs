@@ -1,0 +1,16 @@
+//! Document 01's calls on words and bytes, answered by the original evaluation core.
+//!
+//! [`words`] is document 01's format, [`reference`] the nine calls, [`listing`] the listing's
+//! bytes. [`generate`] makes cases for them from a seed; [`answers`] and [`rows`] write cases with
+//! their answers as text.
+
+pub mod answers;
+pub mod case;
+pub mod generate;
+pub mod listing;
+pub mod narrow;
+pub mod products;
+pub mod reference;
+pub mod refusal;
+pub mod rows;
+pub mod words;

@@ -1,0 +1,140 @@
+//! Writes generated cases with their answers, for programs that have no Rust at hand, and lists what the original decides.
+
+use std::path::PathBuf;
+use std::{fs, io};
+
+use clap::{Parser, Subcommand, ValueEnum};
+use compare::case::{Call, Case};
+use compare::generate::cases;
+use compare::listing::listing;
+use compare::{answers, rows};
+
+/// Cases of document 01's calls, and what the original answers to them.
+#[derive(Parser)]
+struct Arguments {
+    #[command(subcommand)]
+    command: Command,
+}
+
+#[derive(Subcommand)]
+enum Command {
+    /// Stored answers, one case a line; only calls that the original has.
+    Answers {
+        #[command(flatten)]
+        sample: Sample,
+    },
+    /// A list of rows for the proof checker.
+    Rows {
+        #[command(flatten)]
+        sample: Sample,
+        /// Which calls.
+        #[arg(long)]
+        part: Part,
+    },
+    /// The listing of a request on standard input, as the original decides it.
+    Listing,
+}
+
+#[derive(clap::Args)]
+struct Sample {
+    /// What the cases are drawn from: the same seed gives the same bytes.
+    #[arg(long)]
+    seed: u64,
+    /// How many cases.
+    #[arg(long)]
+    count: usize,
+    /// The file to write, in place of standard output.
+    #[arg(long)]
+    out: Option<PathBuf>,
+}
+
+#[derive(Clone, Copy, ValueEnum)]
+#[value(rename_all = "snake_case")]
+enum Part {
+    /// Evaluation, reduction and completion, which the original answers.
+    Original,
+    /// Evaluation alone.
+    Evaluate,
+    /// Reduction alone.
+    PartialEvaluate,
+    /// Completion alone.
+    CompleteResidual,
+    /// Narrowing, which the original lacks.
+    NarrowResidual,
+}
+
+/// The calls of the stored answers: those that write come most often.
+const ANSWERED: [Call; 14] = [
+    Call::Evaluate,
+    Call::Evaluate,
+    Call::Evaluate,
+    Call::PartialEvaluate,
+    Call::PartialEvaluate,
+    Call::PartialEvaluate,
+    Call::CompleteResidual,
+    Call::CompleteResidual,
+    Call::CompleteResidual,
+    Call::RequiredFacts,
+    Call::RequiredResidualFacts,
+    Call::IsPermitConstant,
+    Call::IsDenyConstant,
+    Call::CarriesObligation,
+];
+
+impl Part {
+    const fn calls(self) -> &'static [Call] {
+        match self {
+            Self::Original => &[
+                Call::Evaluate,
+                Call::PartialEvaluate,
+                Call::CompleteResidual,
+            ],
+            Self::Evaluate => &[Call::Evaluate],
+            Self::PartialEvaluate => &[Call::PartialEvaluate],
+            Self::CompleteResidual => &[Call::CompleteResidual],
+            Self::NarrowResidual => &[Call::NarrowResidual],
+        }
+    }
+
+    fn name(self) -> String {
+        let value = self.to_possible_value().expect("no part is hidden");
+        value.get_name().to_owned()
+    }
+}
+
+impl Sample {
+    fn cases(&self, calls: &[Call]) -> Vec<Case> {
+        cases::draw(self.seed, self.count, calls)
+    }
+
+    /// The command that makes the same bytes again.
+    fn command(&self, name: &str) -> String {
+        let Self { seed, count, .. } = self;
+        format!("cargo run --release --offline -p compare -- {name} --seed {seed} --count {count}")
+    }
+
+    fn write(&self, text: &str) -> io::Result<()> {
+        match &self.out {
+            Some(file) => fs::write(file, text),
+            None => io::Write::write_all(&mut io::stdout(), text.as_bytes()),
+        }
+    }
+}
+
+fn main() -> io::Result<()> {
+    match Arguments::parse().command {
+        Command::Answers { sample } => {
+            let text = answers::file(&sample.command("answers"), &sample.cases(&ANSWERED));
+            sample.write(&text)
+        }
+        Command::Rows { sample, part } => {
+            let made_by = format!("{} --part {}", sample.command("rows"), part.name());
+            sample.write(&rows::file(&made_by, &sample.cases(part.calls())))
+        }
+        Command::Listing => {
+            let mut request = Vec::new();
+            io::Read::read_to_end(&mut io::stdin(), &mut request)?;
+            io::Write::write_all(&mut io::stdout(), &listing(&request))
+        }
+    }
+}

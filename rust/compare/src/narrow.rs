@@ -1,0 +1,295 @@
+//! Narrowing, from document 01's 'Reducing' and 'Narrowing' alone: the original has no such call.
+
+use gatekeep::Presence;
+
+use crate::products::Products;
+use crate::words::table::Table;
+use crate::words::tree::{Condition, Decided, Deny, Entry, Grant, Permit, Record, Residual, Tree};
+
+/// Decides a Pending record further; a Resolved one comes back equal.
+pub fn narrow(record: &Record, table: &Table) -> Record {
+    let Record::Pending {
+        consulted,
+        residual,
+    } = record
+    else {
+        return record.clone();
+    };
+    let mut walk = Walk {
+        table,
+        consulted: Vec::new(),
+    };
+    for entry in consulted {
+        walk.consult(*entry);
+    }
+    let reduced = walk.tree(residual);
+    let consulted = walk.consulted;
+    match reduced {
+        Reduced::Resolved(decided) => Record::Resolved { consulted, decided },
+        Reduced::Pending(residual) => Record::Pending {
+            consulted,
+            residual,
+        },
+    }
+}
+
+enum Reduced {
+    Resolved(Decided),
+    Pending(Residual),
+}
+
+enum ReducedCondition {
+    Known(bool),
+    Pending(Condition),
+}
+
+/// The arms of a policy list after a walk without a stop, each group in order.
+#[derive(Default)]
+struct Arms {
+    permits: Vec<Permit>,
+    denies: Vec<Deny>,
+    pending: Vec<Residual>,
+}
+
+struct Walk<'a> {
+    table: &'a Table,
+    consulted: Vec<Entry>,
+}
+
+impl Walk<'_> {
+    /// Each fact is consulted once; its first entry stays.
+    fn consult(&mut self, entry: Entry) {
+        if self.consulted.iter().all(|(fact, _)| *fact != entry.0) {
+            self.consulted.push(entry);
+        }
+    }
+
+    fn tree(&mut self, tree: &Residual) -> Reduced {
+        match tree {
+            Tree::Permit(outcome) => Reduced::Resolved(Decided::Permit(Permit::plain(*outcome))),
+            Tree::Deny => Reduced::Resolved(Decided::Deny(Deny::plain())),
+            Tree::Stored(decided) => Reduced::Resolved(decided.clone()),
+            Tree::Grant(grant) => self.grant(grant),
+            Tree::All(arms) => self.all(arms),
+            Tree::Any(arms) => self.any(arms),
+            Tree::OrElse(primary, fallback) => self.or_else(primary, fallback),
+        }
+    }
+
+    fn grant(&mut self, grant: &Grant) -> Reduced {
+        match self.condition(&grant.condition) {
+            ReducedCondition::Known(_) => Reduced::Resolved(decide(grant, self.table)),
+            ReducedCondition::Pending(condition) => Reduced::Pending(Tree::Grant(Grant {
+                condition,
+                ..grant.clone()
+            })),
+        }
+    }
+
+    fn all(&mut self, arms: &[Residual]) -> Reduced {
+        let mut walked = Arms::default();
+        for arm in arms {
+            match self.tree(arm) {
+                // A resolved deny decides the list, pending arms before it or not.
+                Reduced::Resolved(Decided::Deny(deny)) => {
+                    return Reduced::Resolved(Decided::Deny(deny));
+                }
+                Reduced::Resolved(Decided::Permit(permit)) => walked.permits.push(permit),
+                Reduced::Pending(residual) => walked.pending.push(residual),
+            }
+        }
+        if walked.pending.is_empty() {
+            Reduced::Resolved(folded(walked, meet))
+        } else {
+            Reduced::Pending(Tree::All(walked.kept()))
+        }
+    }
+
+    fn any(&mut self, arms: &[Residual]) -> Reduced {
+        let mut walked = Arms::default();
+        for arm in arms {
+            match self.tree(arm) {
+                Reduced::Resolved(Decided::Deny(deny)) => walked.denies.push(deny),
+                Reduced::Resolved(Decided::Permit(permit)) => walked.permits.push(permit),
+                Reduced::Pending(residual) => walked.pending.push(residual),
+            }
+        }
+        if walked.pending.is_empty() {
+            Reduced::Resolved(folded(walked, join))
+        } else {
+            Reduced::Pending(Tree::Any(walked.kept()))
+        }
+    }
+
+    fn or_else(&mut self, primary: &Residual, fallback: &Residual) -> Reduced {
+        match self.tree(primary) {
+            Reduced::Resolved(Decided::Permit(permit)) => {
+                Reduced::Resolved(Decided::Permit(permit))
+            }
+            Reduced::Resolved(Decided::Deny(_)) => self.tree(fallback),
+            Reduced::Pending(primary) => {
+                let fallback = match self.tree(fallback) {
+                    Reduced::Resolved(decided) => Tree::Stored(decided),
+                    Reduced::Pending(residual) => residual,
+                };
+                Reduced::Pending(Tree::OrElse(Box::new(primary), Box::new(fallback)))
+            }
+        }
+    }
+
+    fn condition(&mut self, condition: &Condition) -> ReducedCondition {
+        match condition {
+            Condition::Always => ReducedCondition::Known(true),
+            Condition::Never => ReducedCondition::Known(false),
+            Condition::Has(fact) => self.has(*fact),
+            Condition::Not(inner) => match self.condition(inner) {
+                ReducedCondition::Known(holds) => ReducedCondition::Known(!holds),
+                ReducedCondition::Pending(inner) => {
+                    ReducedCondition::Pending(Condition::Not(Box::new(inner)))
+                }
+            },
+            Condition::All(arms) => self.conditions(arms, false, Condition::All),
+            Condition::Any(arms) => self.conditions(arms, true, Condition::Any),
+        }
+    }
+
+    fn has(&mut self, fact: u16) -> ReducedCondition {
+        match self.table.presence(fact) {
+            Presence::Unknown => ReducedCondition::Pending(Condition::Has(fact)),
+            read => {
+                self.consult((fact, read));
+                ReducedCondition::Known(read == Presence::Present)
+            }
+        }
+    }
+
+    /// A condition All is decided by a false arm, an Any by a true one. Other known arms drop out.
+    fn conditions(
+        &mut self,
+        arms: &[Condition],
+        decisive: bool,
+        list: fn(Vec<Condition>) -> Condition,
+    ) -> ReducedCondition {
+        let mut pending = Vec::new();
+        for arm in arms {
+            match self.condition(arm) {
+                ReducedCondition::Known(holds) if holds == decisive => {
+                    return ReducedCondition::Known(decisive);
+                }
+                ReducedCondition::Known(_) => {}
+                ReducedCondition::Pending(condition) => pending.push(condition),
+            }
+        }
+        match pending.len() {
+            // Without arms both lists are false.
+            0 => ReducedCondition::Known(!decisive && !arms.is_empty()),
+            1 => ReducedCondition::Pending(pending.remove(0)),
+            _ => ReducedCondition::Pending(list(pending)),
+        }
+    }
+}
+
+impl Arms {
+    /// What a residual list holds: the resolved permits, or in an Any without them the first
+    /// resolved deny, and then the pending arms. An All with a resolved deny isn't kept at all.
+    fn kept(self) -> Vec<Residual> {
+        let denies = usize::from(self.permits.is_empty());
+        let permits = self.permits.into_iter().map(Decided::Permit);
+        permits
+            .chain(self.denies.into_iter().map(Decided::Deny).take(denies))
+            .map(Tree::Stored)
+            .chain(self.pending)
+            .collect()
+    }
+}
+
+/// A list without pending arms: its permits folded, or else its first deny, or else a plain one.
+fn folded(arms: Arms, fold: fn(Permit, Permit) -> Permit) -> Decided {
+    match arms.permits.into_iter().reduce(fold) {
+        Some(permit) => Decided::Permit(permit),
+        None => Decided::Deny(arms.denies.into_iter().next().unwrap_or_else(Deny::plain)),
+    }
+}
+
+fn meet(earlier: Permit, incoming: Permit) -> Permit {
+    let outcome = Products(earlier.outcome.0 & incoming.outcome.0);
+    if outcome == earlier.outcome {
+        earlier
+    } else if outcome == incoming.outcome {
+        incoming
+    } else {
+        Permit::plain(outcome)
+    }
+}
+
+fn join(earlier: Permit, incoming: Permit) -> Permit {
+    let outcome = Products(earlier.outcome.0 | incoming.outcome.0);
+    match (outcome == earlier.outcome, outcome == incoming.outcome) {
+        (true, true) => Permit {
+            obligations: united(&earlier.obligations, &incoming.obligations),
+            ..earlier
+        },
+        (false, true) => incoming,
+        (true, false) => earlier,
+        (false, false) => Permit {
+            obligations: united(&earlier.obligations, &incoming.obligations),
+            ..Permit::plain(outcome)
+        },
+    }
+}
+
+/// The held obligations, then the incoming ones that aren't held.
+fn united(held: &[u8], incoming: &[u8]) -> Vec<u8> {
+    let fresh = incoming.iter().filter(|number| !held.contains(number));
+    held.iter().chain(fresh).copied().collect()
+}
+
+/// A grant whose condition is known, evaluated with Unknown read as Absent.
+fn decide(grant: &Grant, table: &Table) -> Decided {
+    let (holds, facts) = evaluate(&grant.condition, table);
+    if holds {
+        Decided::Permit(Permit {
+            outcome: grant.outcome,
+            obligations: grant.obligations.clone(),
+            satisfied: facts,
+            label: grant.label,
+        })
+    } else {
+        Decided::Deny(Deny {
+            denied: Some(grant.outcome),
+            unsatisfied: facts,
+            label: grant.label,
+            reason: grant.reason,
+            shape: grant.shape,
+        })
+    }
+}
+
+/// Whether the condition is true, and the facts that it names.
+fn evaluate(condition: &Condition, table: &Table) -> (bool, Vec<u16>) {
+    match condition {
+        Condition::Always => (true, Vec::new()),
+        Condition::Never => (false, Vec::new()),
+        Condition::Has(fact) => (table.presence(*fact) == Presence::Present, vec![*fact]),
+        Condition::Not(inner) => {
+            let (holds, facts) = evaluate(inner, table);
+            (!holds, facts)
+        }
+        Condition::All(arms) => evaluate_arms(arms, false, table),
+        Condition::Any(arms) => evaluate_arms(arms, true, table),
+    }
+}
+
+/// The first deciding arm's facts, or else all arms' facts, repeats and all.
+fn evaluate_arms(arms: &[Condition], decisive: bool, table: &Table) -> (bool, Vec<u16>) {
+    let mut named = Vec::new();
+    for arm in arms {
+        let (holds, facts) = evaluate(arm, table);
+        if holds == decisive {
+            return (decisive, facts);
+        }
+        named.extend(facts);
+    }
+    // Without arms both lists are false.
+    (!decisive && !arms.is_empty(), named)
+}

@@ -1,0 +1,140 @@
+//! Document 01's nine calls. All but narrowing are answered by the original.
+//!
+//! A call that writes takes the room of its output in words and gives the record's words;
+//! [`put`] brings them, or a refusal, to an output.
+
+use std::collections::BTreeSet;
+
+use gatekeep::{FactId, ResidualPolicy};
+
+use crate::narrow;
+use crate::products::Products;
+use crate::refusal::Refusal;
+use crate::words::table::Table;
+use crate::words::tree::Record;
+use crate::words::{FACTS, LIST, RECORD_WORDS, convert, read, write};
+
+/// Sixteen 64-bit numbers, fact 0 the top bit of the first.
+#[derive(Clone, Copy, Debug, Default, PartialEq, Eq)]
+pub struct FactSet(pub [u64; 16]);
+
+impl FactSet {
+    /// How many facts the set holds.
+    pub fn count(&self) -> u32 {
+        self.0.iter().map(|number| number.count_ones()).sum()
+    }
+
+    /// The facts in the set, from the lowest.
+    pub fn facts(&self) -> impl Iterator<Item = u16> {
+        (0..FACTS).filter(|fact| {
+            let (number, bit) = place(*fact);
+            self.0[number] & bit != 0
+        })
+    }
+}
+
+/// Which of the sixteen numbers holds a fact, and as which bit.
+fn place(fact: u16) -> (usize, u64) {
+    (usize::from(fact / 64), 1 << (63 - fact % 64))
+}
+
+/// Decides a sheet in one sitting.
+pub fn evaluate(sheet: &[u32], table: &[u8], room: usize) -> Result<Vec<u32>, Refusal> {
+    read::sheet_length(sheet)?;
+    let facts = convert::known_facts(&Table::known(table)?);
+    let policy = convert::to_policy(&read::sheet(sheet)?);
+    let decision = gatekeep::evaluate(&policy, &facts);
+    fitted(&convert::from_decision(&decision), room)
+}
+
+/// Decides a sheet as far as a partial table goes.
+pub fn partial_evaluate(sheet: &[u32], table: &[u8], room: usize) -> Result<Vec<u32>, Refusal> {
+    read::sheet_length(sheet)?;
+    let facts = convert::partial_facts(&Table::partial(table)?);
+    let policy = convert::to_policy(&read::sheet(sheet)?);
+    let residual = gatekeep::partial_evaluate(&policy, &facts);
+    fitted(&convert::from_residual(&residual), room)
+}
+
+/// Decides a record further, as far as a partial table goes.
+pub fn narrow_residual(record: &[u32], table: &[u8], room: usize) -> Result<Vec<u32>, Refusal> {
+    read::record_length(record)?;
+    let table = Table::partial(table)?;
+    let record = read::record(record)?;
+    fitted(&narrow::narrow(&record, &table), room)
+}
+
+/// Decides a record to its end.
+pub fn complete_residual(record: &[u32], table: &[u8], room: usize) -> Result<Vec<u32>, Refusal> {
+    read::record_length(record)?;
+    let facts = convert::known_facts(&Table::known(table)?);
+    let residual = convert::to_residual(&read::record(record)?);
+    let decision = gatekeep::complete_residual(&residual, &facts);
+    fitted(&convert::from_decision(&decision), room)
+}
+
+/// The facts that a sheet's conditions name.
+pub fn required_facts(sheet: &[u32]) -> Result<FactSet, Refusal> {
+    let policy = convert::to_policy(&read::sheet(sheet)?);
+    Ok(fact_set(&gatekeep::required_facts(&policy)))
+}
+
+/// The facts that a record's conditions name.
+pub fn required_residual_facts(record: &[u32]) -> Result<FactSet, Refusal> {
+    let facts = gatekeep::required_residual_facts(&top(record)?);
+    Ok(fact_set(&facts))
+}
+
+/// Whether a record's tree is a permit and nothing else.
+pub fn is_permit_constant(record: &[u32]) -> Result<bool, Refusal> {
+    top(record).map(|policy| policy.is_permit_constant())
+}
+
+/// Whether a record's tree is a deny and nothing else.
+pub fn is_deny_constant(record: &[u32]) -> Result<bool, Refusal> {
+    top(record).map(|policy| policy.is_deny_constant())
+}
+
+/// Whether some node 8 or 12 of a record's tree has obligations.
+pub fn carries_obligation(record: &[u32]) -> Result<bool, Refusal> {
+    top(record).map(|policy| policy.carries_obligation())
+}
+
+/// Brings what a call gave to its output and returns the words written. A refused call changes no
+/// word, an accepted one none past its record.
+pub fn put(given: Result<&[u32], Refusal>, output: &mut [u32]) -> Result<usize, Refusal> {
+    let words = given?;
+    let part = output.get_mut(..words.len()).ok_or(Refusal::Room)?;
+    part.copy_from_slice(words);
+    Ok(words.len())
+}
+
+/// The record's tree as the original's residual. The original asks its questions of residuals
+/// only; document 01 asks them of a Resolved record's one node too.
+fn top(words: &[u32]) -> Result<ResidualPolicy<Products>, Refusal> {
+    Ok(match read::record(words)? {
+        Record::Resolved { decided, .. } => convert::to_trace_node(&decided),
+        Record::Pending { residual, .. } => convert::to_residual_policy(&residual),
+    })
+}
+
+/// The record's words, unless the output or the format has no room for them.
+fn fitted(record: &Record, room: usize) -> Result<Vec<u32>, Refusal> {
+    // A list that its count can't hold has no words, so this comes before writing.
+    if record.longest_list() > LIST {
+        return Err(Refusal::Room);
+    }
+    let words = write::record(record);
+    if words.len() > room.min(RECORD_WORDS) {
+        return Err(Refusal::Room);
+    }
+    Ok(words)
+}
+
+fn fact_set(ids: &BTreeSet<FactId>) -> FactSet {
+    let mut set = FactSet::default();
+    for (number, bit) in ids.iter().map(convert::fact).map(place) {
+        set.0[number] |= bit;
+    }
+    set
+}

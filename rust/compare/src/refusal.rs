@@ -1,0 +1,36 @@
+//! The numbered causes for which a call is turned back.
+
+/// A cause of document 01's table; the discriminant is its number.
+#[derive(Clone, Copy, Debug, PartialEq, Eq)]
+#[repr(u8)]
+pub enum Refusal {
+    /// Sheet or record length outside its range.
+    Length = 1,
+    /// Table over 256 bytes.
+    TableLength = 2,
+    /// Field 3 in a table.
+    TableField = 3,
+    /// Unknown in a known table.
+    TableUnknown = 4,
+    /// Kind not allowed here.
+    Kind = 5,
+    /// Words end before the record or tree is complete.
+    Ended = 6,
+    /// 33rd level.
+    Level = 7,
+    /// A field that must be 0 isn't, or holds what its list or count doesn't allow.
+    Field = 8,
+    /// Obligation repeated in one list.
+    Repeated = 9,
+    /// Words after the tree.
+    Trailing = 10,
+    /// Resulting record longer than the output or 16,384 words, or a fact list in it over 4,095.
+    Room = 11,
+}
+
+impl Refusal {
+    /// The number in document 01's table.
+    pub const fn number(self) -> u8 {
+        self as u8
+    }
+}

@@ -1,0 +1,192 @@
+//! Sheets, residuals and records as trees, with numbers where the original has strings.
+
+use std::convert::Infallible;
+
+use gatekeep::{DenyShape, Presence};
+
+use crate::products::Products;
+
+/// Kinds 0 to 5.
+#[derive(Clone, Debug, PartialEq, Eq)]
+pub enum Condition {
+    /// Kind 0.
+    Always,
+    /// Kind 1.
+    Never,
+    /// Kind 2, with its fact.
+    Has(u16),
+    /// Kind 3.
+    Not(Box<Self>),
+    /// Kind 4.
+    All(Vec<Self>),
+    /// Kind 5.
+    Any(Vec<Self>),
+}
+
+/// Kind 8.
+#[derive(Clone, Debug, PartialEq, Eq)]
+pub struct Grant {
+    /// What a true condition permits.
+    pub outcome: Products,
+    /// The shape of the deny that a false condition gives.
+    pub shape: DenyShape,
+    /// The clause's label.
+    pub label: Option<u16>,
+    /// The deny's reason.
+    pub reason: Option<u16>,
+    /// The permit's obligations.
+    pub obligations: Vec<u8>,
+    /// What decides between permit and deny.
+    pub condition: Condition,
+}
+
+/// A resolved permit: kind 12.
+#[derive(Clone, Debug, PartialEq, Eq)]
+pub struct Permit {
+    /// What is permitted.
+    pub outcome: Products,
+    /// On which obligations.
+    pub obligations: Vec<u8>,
+    /// The facts that the clause names.
+    pub satisfied: Vec<u16>,
+    /// The clause's label.
+    pub label: Option<u16>,
+}
+
+/// A resolved deny: kind 13.
+#[derive(Clone, Debug, PartialEq, Eq)]
+pub struct Deny {
+    /// What a grant would have permitted.
+    pub denied: Option<Products>,
+    /// The facts that the clause names.
+    pub unsatisfied: Vec<u16>,
+    /// The clause's label.
+    pub label: Option<u16>,
+    /// The clause's reason.
+    pub reason: Option<u16>,
+    /// The clause's shape.
+    pub shape: DenyShape,
+}
+
+/// A resolved part: kind 12 or 13.
+#[derive(Clone, Debug, PartialEq, Eq)]
+pub enum Decided {
+    /// Kind 12.
+    Permit(Permit),
+    /// Kind 13.
+    Deny(Deny),
+}
+
+/// A policy tree. `S` is what its nodes 12 and 13 hold.
+#[derive(Clone, Debug, PartialEq, Eq)]
+pub enum Tree<S> {
+    /// Kind 6.
+    Permit(Products),
+    /// Kind 7.
+    Deny,
+    /// Kind 8.
+    Grant(Grant),
+    /// Kind 9.
+    All(Vec<Self>),
+    /// Kind 10.
+    Any(Vec<Self>),
+    /// Kind 11: primary and fallback.
+    OrElse(Box<Self>, Box<Self>),
+    /// Kind 12 or 13.
+    Stored(S),
+}
+
+/// A sheet: nothing can stand where nodes 12 and 13 would.
+pub type Sheet = Tree<Infallible>;
+
+/// A record's tree.
+pub type Residual = Tree<Decided>;
+
+/// A consulted fact and how it read.
+pub type Entry = (u16, Presence);
+
+/// What reducing, narrowing and completing write.
+#[derive(Clone, Debug, PartialEq, Eq)]
+pub enum Record {
+    /// Lead 14.
+    Resolved {
+        /// Facts read, as stored.
+        consulted: Vec<Entry>,
+        /// The record's one node.
+        decided: Decided,
+    },
+    /// Lead 15.
+    Pending {
+        /// Facts read, as stored.
+        consulted: Vec<Entry>,
+        /// What remains to be decided.
+        residual: Residual,
+    },
+}
+
+impl Permit {
+    /// A permit that names nothing.
+    pub const fn plain(outcome: Products) -> Self {
+        Self {
+            outcome,
+            obligations: Vec::new(),
+            satisfied: Vec::new(),
+            label: None,
+        }
+    }
+}
+
+impl Deny {
+    /// The deny of a Deny node and of an empty list.
+    pub const fn plain() -> Self {
+        Self {
+            denied: None,
+            unsatisfied: Vec::new(),
+            label: None,
+            reason: None,
+            shape: DenyShape::Forbidden,
+        }
+    }
+}
+
+impl Decided {
+    /// The facts that the clause names.
+    pub fn facts(&self) -> &[u16] {
+        match self {
+            Self::Permit(permit) => &permit.satisfied,
+            Self::Deny(deny) => &deny.unsatisfied,
+        }
+    }
+
+    /// The products of a permit; a deny has none, whatever outcome it denied.
+    pub const fn products(&self) -> Option<Products> {
+        match self {
+            Self::Permit(permit) => Some(permit.outcome),
+            Self::Deny(_) => None,
+        }
+    }
+}
+
+impl Residual {
+    /// The longest fact list that the tree stores.
+    pub fn longest_list(&self) -> usize {
+        match self {
+            Self::Permit(_) | Self::Deny | Self::Grant(_) => 0,
+            Self::All(arms) | Self::Any(arms) => {
+                arms.iter().map(Self::longest_list).max().unwrap_or(0)
+            }
+            Self::OrElse(primary, fallback) => primary.longest_list().max(fallback.longest_list()),
+            Self::Stored(decided) => decided.facts().len(),
+        }
+    }
+}
+
+impl Record {
+    /// The longest fact list that the record stores.
+    pub fn longest_list(&self) -> usize {
+        match self {
+            Self::Resolved { decided, .. } => decided.facts().len(),
+            Self::Pending { residual, .. } => residual.longest_list(),
+        }
+    }
+}

@@ -1,0 +1,99 @@
+//! Both sides of each limit.
+
+use compare::case::Call::{CompleteResidual, Evaluate, NarrowResidual, PartialEvaluate};
+use compare::case::Case;
+use compare::generate::limits::{cases, growing, listed, naming, records, sheets, tables};
+use compare::generate::rng::Rng;
+use compare::refusal::Refusal;
+use compare::words::{read, write};
+
+use super::written;
+
+/// How often each refusal's number, or 0, is an answer.
+fn tally<T>(answers: impl Iterator<Item = Result<T, Refusal>>) -> [usize; 12] {
+    let mut tally = [0; 12];
+    for answer in answers {
+        let number = answer.map_or_else(Refusal::number, |_| 0);
+        tally[usize::from(number)] += 1;
+    }
+    tally
+}
+
+#[test]
+fn sheets_pass_up_to_their_limits() {
+    let sheets = sheets(&mut Rng::new(1));
+    let found = tally(sheets.iter().map(|words| read::sheet(words)));
+    // Accepted: three sheets of each of 4,095 and 4,096 words, four of each of 31 and 32 levels,
+    // one of each of 63 and 64 obligations.
+    assert_eq!(found, [16, 4, 0, 0, 0, 0, 0, 8, 1, 0, 0, 0]);
+}
+
+#[test]
+fn records_pass_up_to_their_limits() {
+    let records = records(&mut Rng::new(1));
+    let found = tally(records.iter().map(|words| read::record(words)));
+    // Refused: no words and 16,385 of them, two leads alone, levels 33 and 34, twice 65
+    // obligations.
+    assert_eq!(found, [21, 2, 0, 0, 0, 0, 2, 2, 2, 0, 0, 0]);
+}
+
+#[test]
+fn fact_lists_end_at_4095() {
+    let mut rng = Rng::new(1);
+    for facts in 4_093..=4_098 {
+        let record = [
+            &[0xF000_0000],
+            write::tree(&naming(&mut rng, facts)).as_slice(),
+        ]
+        .concat();
+        for call in [NarrowResidual, CompleteResidual] {
+            // A list of Present facts is true under All and names all; Any names its first.
+            let (number, found) = written(call, &record, &[0x55; 256], 16_384);
+            let (missing, found_missing) = written(call, &record, &[], 16_384);
+            let longest = found.len().max(found_missing.len()) > 2_000;
+            let numbers = [number, missing];
+            assert_eq!(numbers.contains(&11), facts > 4_095, "{facts}");
+            assert_eq!(longest, facts <= 4_095, "{facts}");
+        }
+    }
+}
+
+#[test]
+fn stored_lists_come_back() {
+    let mut rng = Rng::new(1);
+    let record = write::record(&listed(&mut rng, 4_095));
+    for call in [NarrowResidual, CompleteResidual] {
+        let found = written(call, &record, &[], record.len());
+        assert_eq!(found, (0, record.clone()));
+    }
+}
+
+#[test]
+fn a_narrowing_may_outgrow_a_record() {
+    for words in 16_380..=16_390 {
+        let record = write::record(&growing(words));
+        let (number, found) = written(NarrowResidual, &record, &[0x80], 20_000);
+        let expected = if words <= 16_384 { (0, words) } else { (11, 0) };
+        assert_eq!((number, found.len()), expected);
+    }
+}
+
+#[test]
+fn tables_end_at_256_bytes() {
+    for unknown in [false, true] {
+        let call = if unknown { PartialEvaluate } else { Evaluate };
+        for table in tables(&mut Rng::new(1), unknown) {
+            let expected = if table.len() > 256 { 2 } else { 0 };
+            assert_eq!(written(call, &[0x7000_0000], &table, 4).0, expected);
+        }
+    }
+}
+
+/// Every call at every limit ends in an answer, and outputs of the record's length suffice.
+#[test]
+fn every_call_ends() {
+    let found = tally(cases(&mut Rng::new(1)).iter().map(Case::answer));
+    for number in [0, 1, 2, 6, 7, 8, 11] {
+        assert!(found[number] > 0, "{found:?}");
+    }
+}

@@ -1,4 +1,0 @@
-pub mod Heads
-pub mod HeadLaws
-pub mod Lists
-pub mod Answers

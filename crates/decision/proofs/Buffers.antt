@@ -1,0 +1,109 @@
+-- Decisions and the buffer that their bytes stand in: a buffer that changes elsewhere, a tail that is lent, bytes that are brought to the front.
+-- Assumes nothing.
+use mathlib.Core.Path.{_≡_, refl, sym, _∙_, ap, ap₂, subst}
+use mathlib.Core.Bool.{false, cond}
+use mathlib.Core.List.{List, _++_}
+use Prim.Native.Nat.{ℕ, zero, suc, _-_, _≤_}
+use native.Mathlib.Omega.{arith}
+use borrow.Author.Tests.{eq-eqb, ne-eqb}
+use lib.Dec.{eqb, eqb·suc-zero}
+use lib.ListN.{length, take, drop, length-drop}
+use lib.Seq.{length-take-le, take-all, take-append-le, take-take, drop-at}
+use Rattle.model.specs.Facts.{Table}
+use Rattle.model.specs.Decision.{permits, denies, unionObligations}
+use Rattle.laws.specs.Form.{FormO}
+use Rattle.decision.specs.declared.Decision.{Decision}
+use Rattle.decision.specs.Nodes.{clauseAt, obligationsAt}
+use Rattle.decision.specs.Meaning.{permittedAt, obligationsIn, permitOf, decisionOf, Sound}
+use Rattle.decision.specs.Answers.{Loaded, United, Held, Both, Kept}
+use Rattle.decision.proofs.Nodes.{none-held}
+
+-- ---- a decision stands for the same where its bytes are the same
+module _ (words before after : List ℕ) (d : Decision) (e : take (d .count) after ≡ take (d .count) before) where
+  pub same-obligations : obligationsIn words after d ≡ obligationsIn words before d
+  unfolding obligationsIn
+  same-obligations = ap (cond (eqb (d .count) 0) (obligationsAt words (d .held))) e
+
+  pub same-permit : (T : Table) → permitOf words T after d ≡ permitOf words T before d
+  unfolding permitOf
+  same-permit T = ap (λ os. record { outcome = d .outcome; obligations = os; label = clauseAt words T (d .clause) .label; facts = clauseAt words T (d .clause) .facts }) same-obligations
+
+  pub same-decision : (T : Table) → decisionOf words T after d ≡ decisionOf words T before d
+  unfolding decisionOf
+  same-decision T = ap (λ p. cond (d .permit) (permits p) (denies (clauseAt words T (d .clause)))) (same-permit T)
+
+  pub same-sound : Sound words before d → Sound words after d
+  same-sound s = record { clause = s .clause; held = s .held; formed = subst FormO (sym same-obligations) (s .formed); bare = s .bare }
+
+-- A deny has no bytes.
+module _ (words before after : List ℕ) (d : Decision) (e : d .permit ≡ false) (s : Sound words before d) where
+  no-bytes : take (d .count) after ≡ take (d .count) before
+  no-bytes = ap (λ n. take n after) (s .bare e) ∙ sym (ap (λ n. take n before) (s .bare e))
+
+  pub deny-decision : (T : Table) → decisionOf words T after d ≡ decisionOf words T before d
+  deny-decision T = same-decision words before after d no-bytes T
+
+  pub deny-sound : Sound words after d
+  deny-sound = same-sound words before after d no-bytes s
+
+-- An incoming decision that was brought to the front.
+module _ (words before after : List ℕ) (incoming r : Decision) (k : Kept incoming before after r) where
+  pub kept-decision : (T : Table) → decisionOf words T after r ≡ decisionOf words T (drop 64 before) incoming
+  kept-decision T = ap (decisionOf words T after) (k .same) ∙ same-decision words (drop 64 before) after incoming (k .front) T
+
+  pub kept-sound : Sound words (drop 64 before) incoming → Sound words after r
+  kept-sound s = subst (Sound words after) (sym (k .same)) (same-sound words (drop 64 before) after incoming (k .front) s)
+
+-- ---- the buffer when its tail from 64 on was lent and has come back
+module _ (buf tail rest : List ℕ) (room : 64 ≤ length buf) where
+  pub lent-front : (n : ℕ) → n ≤ 64 → take n (take 64 buf ++ (tail ++ rest)) ≡ take n buf
+  lent-front n h = take-append-le n (take 64 buf) (tail ++ rest) (omega (arith, length-take-le 64 buf room)) ∙ take-take n 64 buf h
+
+  pub lent-back : (n : ℕ) → n ≤ length tail → take n (drop 64 (take 64 buf ++ (tail ++ rest))) ≡ take n tail
+  lent-back n h = ap (take n) (drop-at (take 64 buf) (tail ++ rest) 64 (length-take-le 64 buf room)) ∙ take-append-le n tail rest h
+
+-- The tail that is lent.
+pub lent-tail : (buf : List ℕ) → take (length buf - 64) (drop 64 buf) ≡ drop 64 buf
+lent-tail buf = take-all (length buf - 64) (drop 64 buf) (omega (arith, length-drop 64 buf))
+
+-- ---- a decision's obligations, at the front of its buffer
+pub held-bytes : (words buf : List ℕ) (d : Decision) → d .count ≤ 64 → (d .count ≡ 0 → ⊥) → Held words d buf buf (d .count)
+unfolding obligationsIn
+held-bytes words buf d few n =
+    record { few = few; front = λ _. sym (ap (λ b. cond b (obligationsAt words (d .held)) (take (d .count) buf)) (ne-eqb (d .count) 0 n)); rest = refl }
+
+pub held-node : (words before after : List ℕ) (d : Decision) (n : ℕ) → d .count ≡ 0 → Loaded words (d .held) before after n → Held words d before after n
+unfolding obligationsIn
+held-node words before after d n e l =
+    record {
+      few = l .few;
+      front = λ names. l .front names ∙ sym (ap (λ b. cond b (obligationsAt words (d .held)) (take (d .count) before)) (eq-eqb (d .count) 0 e));
+      rest = l .rest;
+    }
+
+-- Two decisions' obligations, the second one's brought to the front of its own buffer, are united.
+module _ (words before mid tail rest after : List ℕ) (sofar incoming : Decision) (count more r : ℕ) (room : 128 ≤ length mid) (long : length tail ≡ length mid - 64)
+    (one : Held words sofar before mid count) (two : Held words incoming (take (length mid - 64) (drop 64 mid)) tail more) where
+  first-there : Sound words before sofar → take count (take 64 mid ++ (tail ++ rest)) ≡ obligationsIn words before sofar
+  first-there s = lent-front mid tail rest (omega arith) count (one .few) ∙ one .front (s .held)
+
+  second-there : Sound words (drop 64 before) incoming → take more (drop 64 (take 64 mid ++ (tail ++ rest))) ≡ obligationsIn words (drop 64 before) incoming
+  second-there t =
+      lent-back mid tail rest (omega arith) more (omega (arith, two .few))
+      ∙ two .front (t .held)
+      ∙ ap (λ buf. obligationsIn words buf incoming) (lent-tail mid ∙ one .rest)
+
+  pub united-both : United count more (take 64 mid ++ (tail ++ rest)) after r → Both words sofar incoming before after r
+  united-both u =
+      record {
+        few = u .few;
+        front = λ s t.
+            u .front (subst FormO (sym (first-there s)) (s .formed)) (subst FormO (sym (second-there t)) (t .formed))
+            ∙ ap₂ unionObligations (first-there s) (second-there t);
+      }
+
+-- United obligations stand in the buffer, or there are none.
+pub united-are : (words buf : List ℕ) (o at none n : ℕ) → length words ≤ none → obligationsIn words buf (permittedAt o at none n) ≡ take n buf
+unfolding obligationsIn
+united-are words buf o at none zero h = none-held words none h
+united-are words buf o at none (suc n) h = ap (λ b. cond b (obligationsAt words none) (take (suc n) buf)) (eqb·suc-zero n)

@@ -1,0 +1,6 @@
+pub mod Fields
+pub mod Lists
+pub mod Nodes
+pub mod Standing
+pub mod Buffers
+pub mod Folding

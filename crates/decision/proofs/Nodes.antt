@@ -1,0 +1,237 @@
+-- A node that reads has the obligations that stand two words after its first, of good form. Assumes nothing.
+use mathlib.Core.Path.{_≡_, refl, sym, _∙_, ap, subst}
+use mathlib.Core.Bool.{Bool, true, false, cond}
+use mathlib.Core.Option.{Option}
+use mathlib.Core.List.{List, [], _∷_, _++_, map-id}
+use Prim.Native.Nat.{ℕ, zero, suc, _+_, _-_, _/_, _%_, _≤_, _<_}
+use native.Mathlib.Numerals.{add-one}
+use native.Mathlib.Omega.{arith}
+use borrow.Author.Tests.{ltb-true, ltb-false, leb-true}
+use lib.Dec.{eqb, ltb, leb}
+use lib.ListN.{length, take, drop, getD, length-drop, drop-of-length-le}
+use lib.Seq.{take-all, drop-cons}
+use Rattle.model.specs.Facts.{Table}
+use Rattle.model.specs.Outcome.{productSets}
+use Rattle.model.specs.Fields.{pack}
+use Rattle.model.specs.Condition.{Condition}
+use Rattle.model.specs.Decision.{denies, genericDeny}
+use Rattle.model.specs.Policy.{Policy, pnil, pcons}
+use Rattle.model.specs.Writing.{obligationBits, entryBits}
+use Rattle.model.specs.Reading.{Parsed, refuse, got, next, another, counted, readList, obligation, listed, mark, many, shapeOf, kindOf, restOf, readCondition, readPolicy}
+use Rattle.laws.specs.Lists.{Below}
+use Rattle.laws.specs.Form.{FormO}
+use Rattle.laws.specs.FieldLaws.{padded, Narrow, Holds, fine, nothing, if-holds, weaker, then-holds, both-hold, same-list}
+use Rattle.laws.specs.ReadForm.{same-obligation, ok-obligations}
+use Rattle.policy_model.specs.declared.PolicyHead.{PolicyHead}
+use Rattle.policy_model.specs.declared.PolicyHead.the-variants.{Permit, Deny, Grant, All, Any, OrElse, PermitWithTrace, DenyWithTrace, BadKind, BadField}
+use Rattle.policy_model.specs.Heads.{permitHead, grantHead, permitTraceHead, denyTraceHead, policyHeads, policyHead, bitOf, deniedBy, grantNode, permitTraceNode, denyTraceNode, policyNode}
+use Rattle.policy_model.specs.HeadLaws.{policy-node}
+use Rattle.decision.specs.Nodes.{nodeAt, obligationsOfD, obligationsOf, clauseRead, obligationsRead, clauseAt, obligationsAt, fieldsOf, headCount, obligationCountOf}
+use Rattle.decision.specs.Meaning.{Names, past, reads}
+use Rattle.decision.specs.Answers.{Listed, Loaded}
+use Rattle.decision.proofs.Fields.{packed-fields}
+
+narrow : (os : List ℕ) → Below 64 os → Narrow 8 os
+narrow [] h = tt
+narrow (o ∷ os) h = (omega (arith, h .0), narrow os (h .1))
+
+-- A list that was read, of good form, is the fields of its words.
+abbrev ReadO : ℕ → List ℕ → List ℕ → List ℕ → Type 0
+ReadO n ws os vs = FormO os × (os ≡ padded n (fieldsOf 8 4 ws))
+
+read-obligations : (n : ℕ) (ws : List ℕ) → Holds (ReadO n ws) (readList obligation obligationBits n ws)
+read-obligations n ws =
+    weaker (readList obligation obligationBits n ws)
+    (λ os vs h.
+    let were : pack 8 os ++ vs ≡ ws = ap (λ l. pack 8 l ++ vs) (sym (map-id os)) ∙ h .1 .were in
+    let same : padded (length os) (fieldsOf 8 4 (pack 8 os ++ vs)) ≡ os = packed-fields 8 3 vs _ os refl (narrow os (h .0 .0 .1)) in
+    (h .0 .0, sym same ∙ ap (λ l. padded (length os) (fieldsOf 8 4 l)) were ∙ ap (λ k. padded k (fieldsOf 8 4 ws)) (h .1 .long)))
+    (both-hold (readList obligation obligationBits n ws) (ok-obligations n ws) (same-list (λ o. o) obligation same-obligation obligationBits 3 n ws refl))
+
+-- What a node has, ws being the words after its first.
+pub record Has (h : PolicyHead) (ws : List ℕ) (t : Policy ℕ) (vs : List ℕ) : Type 0 where
+  pub formed : FormO (obligationsOf t)
+  pub listed-there : obligationsOf t ≡ padded (headCount h) (fieldsOf 8 4 (drop 1 ws))
+
+-- Anything was read.
+abbrev Whatever : {A : Type 0} → A → List ℕ → Type 0
+Whatever a ws = Unit {0}
+
+whatever : {A : Type 0} (q : Parsed A) → Holds Whatever q
+whatever (refuse n) = nothing
+whatever (got a ws) = fine tt
+
+none-has : (h : PolicyHead) (ws : List ℕ) (t : Policy ℕ) (vs : List ℕ) → obligationsOf t ≡ [] → headCount h ≡ 0 → Has h ws t vs
+none-has h ws t vs e k = record { formed = subst FormO (sym e) (tt, tt); listed-there = e ∙ sym (ap (λ n. padded n (fieldsOf 8 4 (drop 1 ws))) k) }
+
+module _ (pc : List ℕ → Parsed Condition) (p : List ℕ → Parsed (Policy ℕ)) where
+  grant-has : (hidden : Bool) (n o : ℕ) (ws : List ℕ) → Holds (Has (Grant hidden n o) ws) (grantNode pc hidden n o ws)
+  unfolding grantNode
+  grant-has hidden n o [] = nothing
+  grant-has hidden n o (w ∷ ws) =
+      then-holds (mark (w / 65536)) _ (whatever (mark (w / 65536))) (λ l _ _.
+      then-holds (mark (w % 65536)) _ (whatever (mark (w % 65536))) (λ m _ _.
+      then-holds (readList obligation obligationBits n ws) _ (read-obligations n ws) (λ os vs h.
+      then-holds (pc vs) _ (whatever (pc vs)) (λ c us _.
+      fine (record { formed = h .0; listed-there = h .1 })))))
+
+  permit-has : (n o : ℕ) (ws : List ℕ) → Holds (λ d _. ReadO n (drop 1 ws) (obligationsOfD d) []) (permitTraceNode n o ws)
+  unfolding permitTraceNode
+  permit-has n o [] = nothing
+  permit-has n o (w ∷ ws) =
+      then-holds (mark (w / 65536)) _ (whatever (mark (w / 65536))) (λ l _ _.
+      if-holds (ltb (w % 65536) 4096) 8 _ (λ _.
+      then-holds (readList obligation obligationBits n ws) _ (read-obligations n ws) (λ os vs h.
+      then-holds (readList listed entryBits (w % 65536) vs) _ (whatever (readList listed entryBits (w % 65536) vs)) (λ fs us _.
+      fine h))))
+
+  deny-has : (hidden denied : Bool) (o : ℕ) (ws : List ℕ) → Holds (λ d _. obligationsOfD d ≡ []) (denyTraceNode hidden denied o ws)
+  unfolding denyTraceNode
+  deny-has hidden denied o [] = nothing
+  deny-has hidden denied o (w ∷ ws) =
+      then-holds (mark (w / 65536)) _ (whatever (mark (w / 65536))) (λ l _ _.
+      then-holds (mark (w % 65536)) _ (whatever (mark (w % 65536))) (λ m _ _. facts-read l m ws))
+    where
+      facts-read : (l m : Option ℕ) (ws : List ℕ) → Holds (λ d _. obligationsOfD d ≡ []) (another ws (λ n vs. counted n (next (readList listed entryBits n vs) (λ fs us.
+          got (denies (record { denied = deniedBy denied o; facts = fs; label = l; reason = m; shape = shapeOf (bitOf hidden) })) us))))
+      facts-read l m [] = nothing
+      facts-read l m (n ∷ ws) =
+          if-holds (ltb n 4096) 8 _ (λ _. then-holds (readList listed entryBits n ws) _ (whatever (readList listed entryBits n ws)) (λ fs us _. fine refl))
+
+  pub node-has : (h : PolicyHead) (ws : List ℕ) → Holds (Has h ws) (policyNode pc p h ws)
+  unfolding policyNode
+  node-has (Permit o) ws = fine (none-has _ _ _ _ refl refl)
+  node-has Deny ws = fine (none-has _ _ _ _ refl refl)
+  node-has (Grant hidden n o) ws = grant-has hidden n o ws
+  node-has (All n) ws = then-holds (many pnil pcons p n ws) _ (whatever (many pnil pcons p n ws)) (λ ts vs _. fine (none-has _ _ _ _ refl refl))
+  node-has (Any n) ws = then-holds (many pnil pcons p n ws) _ (whatever (many pnil pcons p n ws)) (λ ts vs _. fine (none-has _ _ _ _ refl refl))
+  node-has OrElse ws = then-holds (p ws) _ (whatever (p ws)) (λ a vs _. then-holds (p vs) _ (whatever (p vs)) (λ b us _. fine (none-has _ _ _ _ refl refl)))
+  node-has (PermitWithTrace n o) ws =
+      then-holds (permitTraceNode n o ws) _ (permit-has n o ws) (λ d vs h. fine (record { formed = h .0; listed-there = h .1 }))
+  node-has (DenyWithTrace hidden denied o) ws =
+      then-holds (denyTraceNode hidden denied o ws) _ (deny-has hidden denied o ws) (λ d vs h. fine (none-has _ _ _ _ h refl))
+  node-has BadKind ws = nothing
+  node-has BadField ws = nothing
+
+-- ---- by position
+node-words : (words : List ℕ) (at : ℕ) → at < length words → drop at words ≡ getD words at 0 ∷ drop (at + 1) words
+node-words words at h = rw (add-one, drop-cons words at 0)
+
+pub node-there : (words : List ℕ) (at : ℕ) → at < length words →
+    nodeAt words at ≡ policyNode (λ vs. readCondition 31 vs) (λ vs. readPolicy (productSets .value) true 31 vs) (policyHead (getD words at 0) true) (drop (at + 1) words)
+unfolding nodeAt
+node-there words at h = ap (readPolicy (productSets .value) true 32) (node-words words at h) ∙ policy-node true 31 (getD words at 0) (drop (at + 1) words)
+
+pub node-past : (words : List ℕ) (at : ℕ) → length words ≤ at → nodeAt words at ≡ refuse 6
+unfolding nodeAt
+node-past words at h = ap (readPolicy (productSets .value) true 32) (drop-of-length-le words h)
+
+-- Nothing is named past the end.
+pub none-held : (words : List ℕ) (at : ℕ) → length words ≤ at → obligationsAt words at ≡ []
+unfolding obligationsAt
+none-held words at h = ap obligationsRead (node-past words at h)
+
+pub no-clause : (words : List ℕ) (T : Table) (at : ℕ) → length words ≤ at → clauseAt words T at ≡ genericDeny
+unfolding clauseAt
+no-clause words T at h = ap (clauseRead T) (node-past words at h)
+
+-- Obligations that are read are of good form, and stand two words after the node's first.
+form-read : (h : PolicyHead) (ws : List ℕ) (q : Parsed (Policy ℕ)) → Holds (Has h ws) q → FormO (obligationsRead q)
+form-read h ws (refuse n) k = (tt, tt)
+form-read h ws (got t vs) k = k .it .formed
+
+by-place : (words : List ℕ) (at : ℕ) (b : Bool) → ltb at (length words) ≡ b → FormO (obligationsAt words at)
+unfolding obligationsAt
+by-place words at true e =
+    let h = policyHead (getD words at 0) true in
+    let pc : List ℕ → Parsed Condition = λ vs. readCondition 31 vs in
+    let p : List ℕ → Parsed (Policy ℕ) = λ vs. readPolicy (productSets .value) true 31 vs in
+    let ws = drop (at + 1) words in
+    subst (λ q. FormO (obligationsRead q)) (sym (node-there words at (ltb-true at (length words) e))) (form-read h ws (policyNode pc p h ws) (node-has pc p h ws))
+by-place words at false e = subst FormO (sym (none-held words at (ltb-false at (length words) e))) (tt, tt)
+
+pub obligations-form : (words : List ℕ) (at : ℕ) → FormO (obligationsAt words at)
+obligations-form words at = by-place words at (ltb at (length words)) refl
+
+read-there : (h : PolicyHead) (ws : List ℕ) (q : Parsed (Policy ℕ)) (t : Policy ℕ) (vs : List ℕ) → Holds (Has h ws) q → q ≡ got t vs → padded (headCount h) (fieldsOf 8 4 (drop 1 ws)) ≡ obligationsRead q
+read-there h ws (refuse n) t vs k e = let z : _≡_ {A = ℕ} 0 1 = cc in absurd (omega arith)
+read-there h ws (got s us) t vs k e = sym (k .it .listed-there)
+
+pub obligations-there : (words : List ℕ) (at : ℕ) → at < length words → Names words at →
+    padded (obligationCountOf (getD words at 0)) (fieldsOf 8 4 (drop 2 (drop at words))) ≡ obligationsAt words at
+unfolding obligationsAt obligationCountOf
+obligations-there words at h (past k) = let z : ⊥ = omega arith in absurd z
+obligations-there words at h (reads t vs e) =
+    let head = policyHead (getD words at 0) true in
+    let pc : List ℕ → Parsed Condition = λ us. readCondition 31 us in
+    let p : List ℕ → Parsed (Policy ℕ) = λ us. readPolicy (productSets .value) true 31 us in
+    let ws = drop (at + 1) words in
+    ap (λ l. padded (headCount head) (fieldsOf 8 4 (drop 2 l))) (node-words words at h)
+    ∙ read-there head ws (policyNode pc p head ws) t vs (node-has pc p head ws) (sym (node-there words at h) ∙ e)
+    ∙ ap obligationsRead (sym (node-there words at h))
+
+-- ---- a head has at most 64 obligations
+few-if : (b : Bool) (g h : PolicyHead) → (b ≡ true → headCount g ≤ 64) → headCount h ≤ 64 → headCount (cond b g h) ≤ 64
+few-if true g h f k = f refl
+few-if false g h f k = k
+
+few-grant : (r : ℕ) → headCount (grantHead r) ≤ 64
+unfolding grantHead
+few-grant r =
+    few-if (leb (r / 1048576 % 128) 64) _ BadField
+    (λ e. few-if (eqb (r / 65536 % 16) 0) (Grant (eqb (r / 134217728) 1) (r / 1048576 % 128) (r % 65536)) BadField (λ _. leb-true (r / 1048576 % 128) 64 e) (omega arith))
+    (omega arith)
+
+few-permit-trace : (r : ℕ) → headCount (permitTraceHead r) ≤ 64
+unfolding permitTraceHead
+few-permit-trace r =
+    few-if (eqb (r / 134217728) 0) _ BadField
+    (λ _. few-if (leb (r / 1048576 % 128) 64) _ BadField
+    (λ e. few-if (eqb (r / 65536 % 16) 0) (PermitWithTrace (r / 1048576 % 128) (r % 65536)) BadField (λ _. leb-true (r / 1048576 % 128) 64 e) (omega arith))
+    (omega arith))
+    (omega arith)
+
+few-permit : (r : ℕ) → headCount (permitHead r) ≤ 64
+unfolding permitHead
+few-permit r = few-if (eqb (r / 65536) 0) (Permit (r % 65536)) BadField (λ _. omega arith) (omega arith)
+
+few-deny-trace : (r : ℕ) → headCount (denyTraceHead r) ≤ 64
+unfolding denyTraceHead
+few-deny-trace r =
+    few-if (eqb (r / 65536 % 1024) 0) _ BadField
+    (λ _. few-if (eqb (r / 67108864 % 2) 1) (DenyWithTrace (eqb (r / 134217728) 1) true (r % 65536)) _ (λ _. omega arith)
+    (few-if (eqb (r % 65536) 0) (DenyWithTrace (eqb (r / 134217728) 1) false (r % 65536)) BadField (λ _. omega arith) (omega arith)))
+    (omega arith)
+
+few-heads : (r j : ℕ) → headCount (getD (policyHeads true r) j BadKind) ≤ 64
+few-heads r zero = few-permit r
+few-heads r (suc zero) = few-if (eqb r 0) Deny BadField (λ _. omega arith) (omega arith)
+few-heads r (suc (suc zero)) = few-grant r
+few-heads r (suc (suc (suc zero))) = few-if (ltb r 4096) (All r) BadField (λ _. omega arith) (omega arith)
+few-heads r (suc (suc (suc (suc zero)))) = few-if (ltb r 4096) (Any r) BadField (λ _. omega arith) (omega arith)
+few-heads r (suc (suc (suc (suc (suc zero))))) = few-if (eqb r 0) OrElse BadField (λ _. omega arith) (omega arith)
+few-heads r (suc (suc (suc (suc (suc (suc zero)))))) = few-permit-trace r
+few-heads r (suc (suc (suc (suc (suc (suc (suc zero))))))) = few-deny-trace r
+few-heads r (suc (suc (suc (suc (suc (suc (suc (suc j)))))))) = omega arith
+
+pub few-obligations : (w : ℕ) → obligationCountOf w ≤ 64
+unfolding obligationCountOf policyHead
+few-obligations w = few-if (leb 6 (kindOf w)) (getD (policyHeads true (restOf w)) (kindOf w - 6) BadKind) BadKind (λ _. few-heads (restOf w) (kindOf w - 6)) (omega arith)
+
+-- What the code counts and loads.
+pub counted-as : (w : ℕ) (h : PolicyHead) → h ≡ policyHead w true → (headCount h ≡ obligationCountOf w) × (headCount h ≤ 64)
+unfolding obligationCountOf
+counted-as w h e = (ap headCount e, subst (λ n. n ≤ 64) (sym (ap headCount e)) (few-obligations w))
+
+pub loaded-none : (words : List ℕ) (at : ℕ) (buf : List ℕ) → length words ≤ at → Loaded words at buf buf 0
+loaded-none words at buf h = record { few = omega arith; front = λ _. sym (none-held words at h); rest = refl }
+
+pub loaded : (words : List ℕ) (at n : ℕ) (before after : List ℕ) → at < length words → n ≡ obligationCountOf (getD words at 0) → n ≤ 64 →
+    Listed (take (length words - at) (drop at words)) n before after → Loaded words at before after n
+loaded words at n before after h e few l =
+    let part : take (length words - at) (drop at words) ≡ drop at words = take-all (length words - at) (drop at words) (omega (arith, length-drop at words)) in
+    record {
+      few = few;
+      front = λ names. l .front ∙ ap (λ ws. padded n (fieldsOf 8 4 (drop 2 ws))) part ∙ ap (λ k. padded k (fieldsOf 8 4 (drop 2 (drop at words)))) e ∙ obligations-there words at h names;
+      rest = l .rest;
+    }

@@ -1,0 +1,3 @@
+pub mod Nodes
+pub mod Meaning
+pub mod Answers

@@ -1,0 +1,11 @@
+pub mod Words
+pub mod Checking
+pub mod Fields
+pub mod Masks
+pub mod Pairs
+pub mod Conditions
+pub mod Nodes
+pub mod Policies
+pub mod Whole
+pub mod Skipping
+pub mod Records

@@ -1,0 +1,119 @@
+-- The check of a policy by its first word. Assumes nothing.
+use mathlib.Core.Path.{_≡_, refl, sym, _∙_, ap}
+use mathlib.Core.Bool.{Bool, true, false, cond}
+use mathlib.Core.Option.{none, some}
+use mathlib.Core.List.{List, [], _∷_}
+use Prim.Native.Nat.{ℕ, zero, suc, _+_, _-_, _≤_, _<_}
+use native.Mathlib.Numerals.{sub-one}
+use native.Mathlib.Omega.{arith}
+use lib.Dec.{ltb}
+use lib.ListN.{length, drop, getD}
+use Rattle.model.specs.Outcome.{productSets}
+use Rattle.model.specs.Condition.{Condition}
+use Rattle.model.specs.Decision.{Decision}
+use Rattle.model.specs.Policy.{Policy, all, any, orElse, stored, Policies, pnil, pcons}
+use Rattle.model.specs.Writing.{encode}
+use Rattle.model.specs.Reading.{Parsed, refuse, got, next, many, readCondition, readPolicy}
+use Rattle.laws.specs.Size.{wordsD, words, wordss}
+use Rattle.laws.specs.Form.{IfThere}
+use Rattle.laws.specs.Lengths.{length-encode}
+use Rattle.laws.specs.Canon.{same-T}
+use Rattle.policy_model.specs.declared.Checked.{Checked}
+use Rattle.policy_model.specs.declared.Checked.the-variants.{Next, Refused}
+use Rattle.policy_model.specs.declared.PolicyHead.{PolicyHead}
+use Rattle.policy_model.specs.declared.PolicyHead.the-variants.{All, Any, OrElse, PermitWithTrace, DenyWithTrace}
+use Rattle.policy_model.specs.Answers.{checked}
+use Rattle.policy_model.specs.Heads.{policyHead, policyNode, permitTraceNode, denyTraceNode, deepPolicy}
+use Rattle.policy_model.specs.HeadLaws.{policy-node, policy-deep}
+use Rattle.policy_model.proofs.Checking.{word-at, no-word, Leaves, leaves-of, end-with, many-more, many-refused, many-none}
+
+-- A number below 2^16 stands for the outcome of that number.
+only-at : (v : ℕ) (t : Bool) → IfThere (λ o. o ≡ v) (cond t (some v) none)
+only-at v true = refl
+only-at v false = tt
+
+pub policy-leaves : (res : Bool) (d : ℕ) (us : List ℕ) → Leaves words us (readPolicy (productSets .value) res d us)
+policy-leaves res d us =
+    leaves-of (encode (productSets .number)) words (length-encode (productSets .number)) us (readPolicy (productSets .value) res d us)
+    (same-T (productSets .number) (productSets .value) (λ v. only-at v (ltb v 65536)) res d us)
+
+nothing-there : (res : Bool) (depth : ℕ) → readPolicy (productSets .value) res depth [] ≡ refuse 6
+nothing-there res zero = refl
+nothing-there res (suc depth) = refl
+
+-- A policy's parts, at the levels that are left below it.
+abbrev pub nodeOf : Bool → ℕ → PolicyHead → List ℕ → Parsed (Policy ℕ)
+nodeOf res d h ws = policyNode (readCondition d) (readPolicy (productSets .value) res d) h ws
+
+node-there : (res : Bool) (depth w : ℕ) (ws : List ℕ) → (depth ≡ 0 → ⊥) → nodeOf res (depth - 1) (policyHead w res) ws ≡ readPolicy (productSets .value) res depth (w ∷ ws)
+node-there res zero w ws f = absurd (f refl)
+node-there res (suc depth) w ws f = rw sub-one (sym (policy-node res depth w ws))
+
+module _ (ws : List ℕ) (at depth : ℕ) (res : Bool) where
+  abbrev pub Asked : Checked
+  Asked = checked words at (readPolicy (productSets .value) res depth (drop at ws))
+
+  pub no-policy : length ws ≤ at → Refused 6 ≡ Asked
+  unfolding checked
+  no-policy h = sym (ap (checked words at) (ap (readPolicy (productSets .value) res depth) (no-word ws at h) ∙ nothing-there res depth))
+
+  pub too-deep : (n : ℕ) (h : PolicyHead) → at < length ws → depth ≡ 0 → h ≡ policyHead (getD ws at 0) res → n ≡ deepPolicy h → Refused n ≡ Asked
+  unfolding checked
+  too-deep n h lt z e f =
+      sym (ap (checked words at) (ap (λ d. readPolicy (productSets .value) res d (drop at ws)) z ∙ ap (readPolicy (productSets .value) res 0) (word-at ws at lt)
+      ∙ policy-deep res (getD ws at 0) (drop (at + 1) ws) ∙ ap refuse (ap deepPolicy (sym e) ∙ sym f)))
+
+  pub by-head : (h : PolicyHead) → at < length ws → (depth ≡ 0 → ⊥) → h ≡ policyHead (getD ws at 0) res → checked words at (nodeOf res (depth - 1) h (drop (at + 1) ws)) ≡ Asked
+  by-head h lt f e =
+      ap (checked words at) (ap (λ x. nodeOf res (depth - 1) x (drop (at + 1) ws)) e ∙ node-there res depth (getD ws at 0) (drop (at + 1) ws) f
+      ∙ ap (readPolicy (productSets .value) res depth) (sym (word-at ws at lt)))
+
+-- What follows the first word.
+module _ (pc : List ℕ → Parsed Condition) (p : List ℕ → Parsed (Policy ℕ)) (at : ℕ) (us : List ℕ) where
+  pub after-all : (n : ℕ) → checked wordss (at + 1) (many pnil pcons p n us) ≡ checked words at (policyNode pc p (All n) us)
+  unfolding policyNode
+  after-all n = end-with wordss words (at + 1) at all (many pnil pcons p n us) (λ ts. omega arith)
+
+  pub after-any : (n : ℕ) → checked wordss (at + 1) (many pnil pcons p n us) ≡ checked words at (policyNode pc p (Any n) us)
+  unfolding policyNode
+  after-any n = end-with wordss words (at + 1) at any (many pnil pcons p n us) (λ ts. omega arith)
+
+  -- The two arms of an OrElse are read as a list of two.
+  second-arm : (a : Policy ℕ) (q : Parsed (Policy ℕ)) →
+      checked wordss (at + 1) (next (next q (λ b ts. got (pcons b pnil) ts)) (λ xs ts. got (pcons a xs) ts)) ≡ checked words at (next q (λ b ts. got (orElse a b) ts))
+  unfolding checked
+  second-arm a (refuse n) = refl
+  second-arm a (got b ts) = ap Next (omega arith)
+
+  two-arms : (q : Parsed (Policy ℕ)) →
+      checked wordss (at + 1) (next q (λ a vs. next (next (p vs) (λ b ts. got (pcons b pnil) ts)) (λ xs ts. got (pcons a xs) ts)))
+      ≡ checked words at (next q (λ a vs. next (p vs) (λ b ts. got (orElse a b) ts)))
+  unfolding checked
+  two-arms (refuse n) = refl
+  two-arms (got a vs) = second-arm a (p vs)
+
+  pub after-or-else : checked wordss (at + 1) (many pnil pcons p 2 us) ≡ checked words at (policyNode pc p OrElse us)
+  unfolding policyNode
+  after-or-else = two-arms (p us)
+
+  pub after-permit : (n o : ℕ) → checked wordsD at (permitTraceNode n o us) ≡ checked words at (policyNode pc p (PermitWithTrace n o) us)
+  unfolding policyNode
+  after-permit n o = end-with wordsD words at at stored (permitTraceNode n o us) (λ d. refl)
+
+  pub after-deny : (hidden denied : Bool) (o : ℕ) → checked wordsD at (denyTraceNode hidden denied o us) ≡ checked words at (policyNode pc p (DenyWithTrace hidden denied o) us)
+  unfolding policyNode
+  after-deny hidden denied o = end-with wordsD words at at stored (denyTraceNode hidden denied o us) (λ d. refl)
+
+-- The list rule.
+module _ (ws : List ℕ) (depth : ℕ) (res : Bool) where
+  abbrev pub AskedAll : ℕ → ℕ → Checked
+  AskedAll at count = checked wordss at (many pnil pcons (readPolicy (productSets .value) res depth) count (drop at ws))
+
+  pub one-more : (count at after : ℕ) → (count ≡ 0 → ⊥) → Next after ≡ checked words at (readPolicy (productSets .value) res depth (drop at ws)) → AskedAll after (count - 1) ≡ AskedAll at count
+  one-more = many-more words wordss pnil pcons (readPolicy (productSets .value) res depth) refl (λ a b. refl) (policy-leaves res depth) ws
+
+  pub one-refused : (count at n : ℕ) → (count ≡ 0 → ⊥) → Refused n ≡ checked words at (readPolicy (productSets .value) res depth (drop at ws)) → Refused n ≡ AskedAll at count
+  one-refused = many-refused words wordss pnil pcons (readPolicy (productSets .value) res depth) refl (λ a b. refl) (policy-leaves res depth) ws
+
+  pub none-left : (count at : ℕ) → count ≡ 0 → Next at ≡ AskedAll at count
+  none-left = many-none words wordss pnil pcons (readPolicy (productSets .value) res depth) refl (λ a b. refl) (policy-leaves res depth) ws

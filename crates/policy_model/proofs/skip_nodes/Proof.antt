@@ -1,0 +1,76 @@
+-- `policy_model::skip_nodes` meets its contract: the loop's invariant is that the open nodes end where all of them do, and that they are few enough to be counted;
+-- the measure is what is left of the words. Assumes nothing.
+use mathlib.Core.Path.{_≡_, refl, _∙_}
+use Prim.Native.Nat.{_+_, _-_, _*_, _≤_}
+use native.Mathlib.Omega.{arith}
+use denote.Ref.{now}
+use borrow.Author.Needs.{needs}
+use lib.ListN.{length, drop}
+use Rattle.policy_model.specs.Span.{span}
+use Rattle.policy_model.proofs.Skipping.{goes-on, runs-out, no-word-left, no-node-left}
+use Rattle.policy_model.proofs.skip_nodes.Statement.{statement}
+use Rattle.policy_model.proofs.skip_nodes.Tie as tie
+
+abbrev Inv-loop : tie.InvT-loop
+Inv-loop words at count next₀ nodes₀ next nodes = (next + span (drop next words) 0 nodes ≡ at + span (drop at words) 0 count) × (nodes ≤ 4294967296 + 4095 * next)
+
+abbrev μ-loop : tie.MeasureT-loop
+μ-loop words at count next₀ nodes₀ next nodes = length words - next
+
+loop-holds : tie.Need-loop-holds Inv-loop μ-loop
+loop-holds c = (refl, omega arith)
+
+returns : tie.Need-returns Inv-loop μ-loop
+returns c = no-word-left (now (c .before .before .before .before .args .words)) _ _ (c .if1 .taken) ∙ c .before .before .loop .inv .0
+
+sub-nodes : tie.Need-sub-nodes Inv-loop μ-loop
+sub-nodes c = search needs
+
+mul-arms-of : tie.Need-mul-arms-of Inv-loop μ-loop
+mul-arms-of c = search needs
+
+shared-slice-read-arms-of : tie.Need-shared-slice-read-arms-of Inv-loop μ-loop
+shared-slice-read-arms-of c = search needs
+
+arms-of-requires : tie.Need-arms-of-requires Inv-loop μ-loop
+arms-of-requires c κs = search needs
+
+cast-nodes : tie.Need-cast-nodes Inv-loop μ-loop
+cast-nodes c = search needs
+
+add-nodes : tie.Need-add-nodes Inv-loop μ-loop
+add-nodes c = search needs
+
+add-next : tie.Need-add-next Inv-loop μ-loop
+add-next c = search needs
+
+own-of-requires : tie.Need-own-of-requires Inv-loop μ-loop
+own-of-requires c κs = search needs
+
+add-next-2 : tie.Need-add-next-2 Inv-loop μ-loop
+add-next-2 c = search needs
+
+returns-2 : tie.Need-returns-2 Inv-loop μ-loop
+returns-2 c =
+    let word = c .before .before .before in
+    runs-out (now (c .before .before .before .before .before .before .before .before .args .words)) _ _ _ _ (word .before .if1 .left) (word .before .before .loop-test .taken) (c .before .before .arms-of .ensures .0) (c .before .own-of .ensures .0) (c .if2 .taken)
+    ∙ word .before .before .before .loop .inv .0
+
+loop-less : tie.Need-loop-less Inv-loop μ-loop
+loop-less c = omega arith
+
+loop-again : tie.Need-loop-again Inv-loop μ-loop
+loop-again c =
+    let word = c .before .before .before in (
+      goes-on (now (c .before .before .before .before .before .before .before .before .args .words)) _ _ _ _ (word .before .if1 .left) (word .before .before .loop-test .taken) (c .before .before .arms-of .ensures .0) (c .before .own-of .ensures .0) (c .if2 .left)
+          ∙ word .before .before .before .loop .inv .0,
+      omega (arith, word .before .before .before .loop .inv .1, c .before .before .arms-of .ensures .1),
+    )
+
+returns-3 : tie.Need-returns-3 Inv-loop μ-loop
+returns-3 c = no-node-left (now (c .before .before .before .args .words)) _ _ (c .loop-test .left) ∙ c .before .loop .inv .0
+
+pub skip-nodes-spec : {M : Type 1} → statement M
+skip-nodes-spec =
+    tie.close
+    (tie.spec Inv-loop μ-loop loop-holds returns sub-nodes mul-arms-of shared-slice-read-arms-of arms-of-requires cast-nodes add-nodes add-next own-of-requires add-next-2 returns-2 loop-less loop-again returns-3)

@@ -1,0 +1,243 @@
+-- A node read by its kind and its other bits is the node read by its head: for every walk over the words.
+use mathlib.Core.Path.{_≡_, refl, sym, _∙_, ap}
+use mathlib.Core.Bool.{Bool, true, false, cond, _&&_}
+use mathlib.Core.Option.{Option, none, some}
+use mathlib.Core.List.{List, [], _∷_}
+use Prim.Native.Nat.{ℕ, zero, suc, _+_, _-_, _/_, _%_, _≤_, _<_}
+use native.Mathlib.Omega.{arith}
+use borrow.Author.Tests.{leb-true, leb-false, ltb-true, ltb-false, le-leb, lt-leb, lt-ltb, le-ltb}
+use lib.Dec.{eqb, ltb, leb}
+use lib.ListN.{length, getD, List·getD-eq-default}
+use Rattle.model.specs.Outcome.{productSets}
+use Rattle.model.specs.Condition.{Condition}
+use Rattle.model.specs.Decision.{Decision}
+use Rattle.model.specs.Policy.{Policy, permit}
+use Rattle.model.specs.Reading.{Parsed, refuse, got, next, unless, another, kindOf, restOf, nodeC, readCondition, outcomeOf, deniedOf, grantMore, grantAt, more12, at12, more13, at13, asStored, inResidual, permitAt, nodeP, node, lastKind, readPolicy}
+use Rattle.policy_model.specs.declared.ConditionHead.{ConditionHead}
+use Rattle.policy_model.specs.declared.ConditionHead.the-variants.{Always, Never, Has, Not}
+use Rattle.policy_model.specs.declared.ConditionHead.the-variants as condition
+use Rattle.policy_model.specs.declared.PolicyHead.{PolicyHead}
+use Rattle.policy_model.specs.declared.PolicyHead.the-variants.{Permit, Deny, Grant, OrElse, PermitWithTrace, DenyWithTrace}
+use Rattle.policy_model.specs.declared.PolicyHead.the-variants as policy
+use Rattle.policy_model.specs.Heads.{conditionHeads, conditionHead, conditionNode, deepCondition, permitHead, grantHead, permitTraceHead, denyTraceHead, policyHeads, policyHead, bitOf, deniedBy, permitTraceNode, denyTraceNode, grantNode, policyNode, deepPolicy}
+
+-- ---- conditions
+module _ (p : List ℕ → Parsed Condition) (ws : List ℕ) where
+  field-C : (b : Bool) (h : ConditionHead) → unless b 8 (conditionNode p h ws) ≡ conditionNode p (cond b h condition.BadField) ws
+  unfolding conditionNode
+  field-C true h = refl
+  field-C false h = refl
+
+  pub condition-by-head : (k r : ℕ) → nodeC p k r ws ≡ conditionNode p (getD (conditionHeads r) k condition.BadKind) ws
+  unfolding conditionNode
+  condition-by-head zero r = field-C (eqb r 0) Always
+  condition-by-head (suc zero) r = field-C (eqb r 0) Never
+  condition-by-head (suc (suc zero)) r = field-C (ltb r 1024) (Has r)
+  condition-by-head (suc (suc (suc zero))) r = field-C (eqb r 0) Not
+  condition-by-head (suc (suc (suc (suc zero)))) r = field-C (ltb r 4096) (condition.All r)
+  condition-by-head (suc (suc (suc (suc (suc zero))))) r = field-C (ltb r 4096) (condition.Any r)
+  condition-by-head (suc (suc (suc (suc (suc (suc k)))))) r = refl
+
+-- A condition's first word at a level that is allowed, and below the last one.
+pub condition-node : (d w : ℕ) (ws : List ℕ) → readCondition (suc d) (w ∷ ws) ≡ conditionNode (λ vs. readCondition d vs) (conditionHead w) ws
+unfolding conditionHead
+condition-node d w ws = condition-by-head (λ vs. readCondition d vs) ws (kindOf w) (restOf w)
+
+deep-field-C : (b : Bool) (h : ConditionHead) → deepCondition h ≡ 7 → deepCondition (cond b h condition.BadField) ≡ 7
+deep-field-C true h e = e
+deep-field-C false h e = refl
+
+deep-kind-C : (k r : ℕ) → unless {A = Condition} (ltb k 6) 5 (refuse 7) ≡ refuse (deepCondition (getD (conditionHeads r) k condition.BadKind))
+deep-kind-C zero r = ap refuse (sym (deep-field-C (eqb r 0) Always refl))
+deep-kind-C (suc zero) r = ap refuse (sym (deep-field-C (eqb r 0) Never refl))
+deep-kind-C (suc (suc zero)) r = ap refuse (sym (deep-field-C (ltb r 1024) (Has r) refl))
+deep-kind-C (suc (suc (suc zero))) r = ap refuse (sym (deep-field-C (eqb r 0) Not refl))
+deep-kind-C (suc (suc (suc (suc zero)))) r = ap refuse (sym (deep-field-C (ltb r 4096) (condition.All r) refl))
+deep-kind-C (suc (suc (suc (suc (suc zero))))) r = ap refuse (sym (deep-field-C (ltb r 4096) (condition.Any r) refl))
+deep-kind-C (suc (suc (suc (suc (suc (suc k)))))) r = ap (λ b. unless {A = Condition} b 5 (refuse 7)) (le-ltb (suc (suc (suc (suc (suc (suc k)))))) 6 (omega arith))
+
+pub condition-deep : (w : ℕ) (ws : List ℕ) → readCondition zero (w ∷ ws) ≡ refuse (deepCondition (conditionHead w))
+unfolding conditionHead
+condition-deep w ws = deep-kind-C (kindOf w) (restOf w)
+
+-- ---- policies
+
+-- Sixteen bits stand for an outcome.
+pub outcome-is : (r : ℕ) → productSets .value (r % 65536) ≡ some (r % 65536)
+outcome-is r = ap (λ b. cond b (some (r % 65536)) none) (lt-ltb (r % 65536) 65536 (omega arith))
+
+-- A field of one bit as a flag.
+pub bit-is : (n : ℕ) → n < 2 → bitOf (eqb n 1) ≡ n
+bit-is zero h = refl
+bit-is (suc zero) h = refl
+bit-is (suc (suc n)) h = let z : ⊥ = omega arith in absurd z
+
+module _ (pc : List ℕ → Parsed Condition) (p : List ℕ → Parsed (Policy ℕ)) (ws : List ℕ) where
+  field-P : (b : Bool) (h : PolicyHead) (q : Parsed (Policy ℕ)) → q ≡ policyNode pc p h ws → unless b 8 q ≡ policyNode pc p (cond b h policy.BadField) ws
+  unfolding policyNode
+  field-P true h q e = e
+  field-P false h q e = refl
+
+  -- 6 Permit, 8 Grant
+  permit-by-head : (r : ℕ) → permitAt (productSets .value) r ws ≡ policyNode pc p (permitHead r) ws
+  unfolding policyNode permitHead
+  permit-by-head r =
+      field-P (eqb (r / 65536) 0) (Permit (r % 65536)) (outcomeOf (productSets .value) (productSets .value (r % 65536)) (λ o. got (permit o) ws))
+      (ap (λ x. outcomeOf (productSets .value) x (λ o. got (permit o) ws)) (outcome-is r))
+
+  grant-by-head : (r : ℕ) → r < 268435456 → grantAt (productSets .value) pc r ws ≡ policyNode pc p (grantHead r) ws
+  unfolding policyNode grantHead grantNode
+  grant-by-head r hr =
+      let sh = r / 134217728 in
+      let n = r / 1048576 % 128 in
+      let z = r / 65536 % 16 in
+      let more : ℕ → ℕ → Parsed (Policy ℕ) = λ s o. another ws (λ w vs. grantMore (productSets .value) pc s n o (w / 65536) (w % 65536) vs) in
+      let given : outcomeOf (productSets .value) (productSets .value (r % 65536)) (more sh) ≡ more (bitOf (eqb sh 1)) (r % 65536) =
+      ap (λ x. outcomeOf (productSets .value) x (more sh)) (outcome-is r) ∙ ap (λ s. more s (r % 65536)) (sym (bit-is sh (omega arith))) in
+      field-P (leb n 64) (cond (eqb z 0) (Grant (eqb sh 1) n (r % 65536)) policy.BadField) (unless (eqb z 0) 8 (outcomeOf (productSets .value) (productSets .value (r % 65536)) (more sh)))
+      (field-P (eqb z 0) (Grant (eqb sh 1) n (r % 65536)) (outcomeOf (productSets .value) (productSets .value (r % 65536)) (more sh)) given)
+
+  -- 12 PermitWithTrace, 13 DenyWithTrace
+  stored-field : (b : Bool) (q : Parsed (Decision ℕ)) → asStored (productSets .value) (unless b 8 q) ≡ unless b 8 (asStored (productSets .value) q)
+  stored-field true q = refl
+  stored-field false q = refl
+
+  permit-trace-by-head : (r : ℕ) → asStored (productSets .value) (at12 (productSets .value) r ws) ≡ policyNode pc p (permitTraceHead r) ws
+  unfolding policyNode permitTraceHead permitTraceNode
+  permit-trace-by-head r =
+      let sh = r / 134217728 in
+      let n = r / 1048576 % 128 in
+      let z = r / 65536 % 16 in
+      let more : ℕ → Parsed (Decision ℕ) = λ o. another ws (λ w vs. more12 (productSets .value) n o (w / 65536) (w % 65536) vs) in
+      let q₃ = outcomeOf (productSets .value) (productSets .value (r % 65536)) more in
+      let q₂ = unless (eqb z 0) 8 q₃ in
+      let q₁ = unless (leb n 64) 8 q₂ in
+      let h₃ = PermitWithTrace n (r % 65536) in
+      let h₂ = cond (eqb z 0) h₃ policy.BadField in
+      let h₁ = cond (leb n 64) h₂ policy.BadField in
+      let e₃ : asStored (productSets .value) q₃ ≡ policyNode pc p h₃ ws = ap (λ x. asStored (productSets .value) (outcomeOf (productSets .value) x more)) (outcome-is r) in
+      let e₂ : asStored (productSets .value) q₂ ≡ policyNode pc p h₂ ws = stored-field (eqb z 0) q₃ ∙ field-P (eqb z 0) h₃ (asStored (productSets .value) q₃) e₃ in
+      let e₁ : asStored (productSets .value) q₁ ≡ policyNode pc p h₁ ws = stored-field (leb n 64) q₂ ∙ field-P (leb n 64) h₂ (asStored (productSets .value) q₂) e₂ in
+      stored-field (eqb sh 0) q₁ ∙ field-P (eqb sh 0) h₁ (asStored (productSets .value) q₁) e₁
+
+  -- the denied outcome, by its present bit
+  denied-by-head : (sh here r : ℕ) → sh < 2 → here < 2 →
+      asStored (productSets .value) (deniedOf (productSets .value) here (r % 65536) (λ den. another ws (λ w vs. more13 (productSets .value) sh den (w / 65536) (w % 65536) vs)))
+      ≡ policyNode pc p (cond (eqb here 1) (DenyWithTrace (eqb sh 1) true (r % 65536)) (cond (eqb (r % 65536) 0) (DenyWithTrace (eqb sh 1) false (r % 65536)) policy.BadField)) ws
+  unfolding policyNode denyTraceNode
+  denied-by-head sh zero r hs hh =
+      let more : ℕ → Parsed (Decision ℕ) = λ s. another ws (λ w vs. more13 (productSets .value) s none (w / 65536) (w % 65536) vs) in
+      stored-field (eqb (r % 65536) 0) (more sh)
+      ∙ field-P (eqb (r % 65536) 0) (DenyWithTrace (eqb sh 1) false (r % 65536)) (asStored (productSets .value) (more sh)) (ap (λ s. asStored (productSets .value) (more s)) (sym (bit-is sh hs)))
+  denied-by-head sh (suc zero) r hs hh =
+      let more : ℕ → ℕ → Parsed (Decision ℕ) = λ s o. another ws (λ w vs. more13 (productSets .value) s (some o) (w / 65536) (w % 65536) vs) in
+      ap (λ x. asStored (productSets .value) (outcomeOf (productSets .value) x (more sh))) (outcome-is r)
+      ∙ ap (λ s. asStored (productSets .value) (more s (r % 65536))) (sym (bit-is sh hs))
+  denied-by-head sh (suc (suc here)) r hs hh = let z : ⊥ = omega arith in absurd z
+
+  deny-trace-by-head : (r : ℕ) → r < 268435456 → asStored (productSets .value) (at13 (productSets .value) r ws) ≡ policyNode pc p (denyTraceHead r) ws
+  unfolding policyNode denyTraceHead
+  deny-trace-by-head r hr =
+      let sh = r / 134217728 in
+      let here = r / 67108864 % 2 in
+      let z = r / 65536 % 1024 in
+      let q = deniedOf (productSets .value) here (r % 65536) (λ den. another ws (λ w vs. more13 (productSets .value) sh den (w / 65536) (w % 65536) vs)) in
+      let h = cond (eqb here 1) (DenyWithTrace (eqb sh 1) true (r % 65536)) (cond (eqb (r % 65536) 0) (DenyWithTrace (eqb sh 1) false (r % 65536)) policy.BadField) in
+      stored-field (eqb z 0) q ∙ field-P (eqb z 0) h (asStored (productSets .value) q) (denied-by-head sh here r (omega arith) (omega arith))
+
+  in-residual : (res : Bool) (h : PolicyHead) (q : Parsed (Policy ℕ)) → q ≡ policyNode pc p h ws → inResidual (productSets .value) res q ≡ policyNode pc p (cond res h policy.BadKind) ws
+  unfolding policyNode
+  in-residual true h q e = e
+  in-residual false h q e = refl
+
+  nodeP-by-head : (res : Bool) (j r : ℕ) → r < 268435456 → nodeP (productSets .value) res pc p j r ws ≡ policyNode pc p (getD (policyHeads res r) j policy.BadKind) ws
+  unfolding policyNode
+  nodeP-by-head res zero r hr = permit-by-head r
+  nodeP-by-head res (suc zero) r hr = field-P (eqb r 0) Deny (policyNode pc p Deny ws) refl
+  nodeP-by-head res (suc (suc zero)) r hr = grant-by-head r hr
+  nodeP-by-head res (suc (suc (suc zero))) r hr = field-P (ltb r 4096) (policy.All r) (policyNode pc p (policy.All r) ws) refl
+  nodeP-by-head res (suc (suc (suc (suc zero)))) r hr = field-P (ltb r 4096) (policy.Any r) (policyNode pc p (policy.Any r) ws) refl
+  nodeP-by-head res (suc (suc (suc (suc (suc zero))))) r hr = field-P (eqb r 0) OrElse (policyNode pc p OrElse ws) refl
+  nodeP-by-head res (suc (suc (suc (suc (suc (suc zero)))))) r hr = in-residual res (permitTraceHead r) (asStored (productSets .value) (at12 (productSets .value) r ws)) (permit-trace-by-head r)
+  nodeP-by-head res (suc (suc (suc (suc (suc (suc (suc zero))))))) r hr = in-residual res (denyTraceHead r) (asStored (productSets .value) (at13 (productSets .value) r ws)) (deny-trace-by-head r hr)
+  nodeP-by-head res (suc (suc (suc (suc (suc (suc (suc (suc j)))))))) r hr = refl
+
+  kind-P : (b : Bool) (h : PolicyHead) (q : Parsed (Policy ℕ)) → q ≡ policyNode pc p h ws → unless b 5 q ≡ policyNode pc p (cond b h policy.BadKind) ws
+  unfolding policyNode
+  kind-P true h q e = e
+  kind-P false h q e = refl
+
+  pub policy-by-head : (res : Bool) (w : ℕ) → node (productSets .value) res pc p (kindOf w) (restOf w) ws ≡ policyNode pc p (policyHead w res) ws
+  unfolding policyHead
+  policy-by-head res w =
+      kind-P (leb 6 (kindOf w)) (getD (policyHeads res (restOf w)) (kindOf w - 6) policy.BadKind) (nodeP (productSets .value) res pc p (kindOf w - 6) (restOf w) ws)
+      (nodeP-by-head res (kindOf w - 6) (restOf w) (omega arith))
+
+-- A policy's first word at a level that is allowed, and below the last one.
+pub policy-node : (res : Bool) (d w : ℕ) (ws : List ℕ) → readPolicy (productSets .value) res (suc d) (w ∷ ws) ≡ policyNode (λ vs. readCondition d vs) (λ vs. readPolicy (productSets .value) res d vs) (policyHead w res) ws
+policy-node res d w ws = policy-by-head (λ vs. readCondition d vs) (λ vs. readPolicy (productSets .value) res d vs) ws res w
+
+deep-field-P : (b : Bool) (h : PolicyHead) → deepPolicy h ≡ 7 → deepPolicy (cond b h policy.BadField) ≡ 7
+deep-field-P true h e = e
+deep-field-P false h e = refl
+
+deep-either : (b : Bool) (g h : PolicyHead) → deepPolicy g ≡ 7 → deepPolicy h ≡ 7 → deepPolicy (cond b g h) ≡ 7
+deep-either true g h e f = e
+deep-either false g h e f = f
+
+deep-permit : (r : ℕ) → deepPolicy (permitHead r) ≡ 7
+unfolding permitHead
+deep-permit r = deep-field-P (eqb (r / 65536) 0) (Permit (r % 65536)) refl
+
+deep-grant : (r : ℕ) → deepPolicy (grantHead r) ≡ 7
+unfolding grantHead
+deep-grant r =
+    let h = Grant (eqb (r / 134217728) 1) (r / 1048576 % 128) (r % 65536) in
+    deep-field-P (leb (r / 1048576 % 128) 64) (cond (eqb (r / 65536 % 16) 0) h policy.BadField) (deep-field-P (eqb (r / 65536 % 16) 0) h refl)
+
+deep-permit-trace : (r : ℕ) → deepPolicy (permitTraceHead r) ≡ 7
+unfolding permitTraceHead
+deep-permit-trace r =
+    let h₃ = PermitWithTrace (r / 1048576 % 128) (r % 65536) in
+    let h₂ = cond (eqb (r / 65536 % 16) 0) h₃ policy.BadField in
+    let h₁ = cond (leb (r / 1048576 % 128) 64) h₂ policy.BadField in
+    deep-field-P (eqb (r / 134217728) 0) h₁ (deep-field-P (leb (r / 1048576 % 128) 64) h₂ (deep-field-P (eqb (r / 65536 % 16) 0) h₃ refl))
+
+deep-deny-trace : (r : ℕ) → deepPolicy (denyTraceHead r) ≡ 7
+unfolding denyTraceHead
+deep-deny-trace r =
+    let g = DenyWithTrace (eqb (r / 134217728) 1) true (r % 65536) in
+    let h = DenyWithTrace (eqb (r / 134217728) 1) false (r % 65536) in
+    let h₁ = cond (eqb (r % 65536) 0) h policy.BadField in
+    deep-field-P (eqb (r / 65536 % 1024) 0) (cond (eqb (r / 67108864 % 2) 1) g h₁) (deep-either (eqb (r / 67108864 % 2) 1) g h₁ refl (deep-field-P (eqb (r % 65536) 0) h refl))
+
+deep-kind-P : (res : Bool) (j r : ℕ) → unless {A = Policy ℕ} (leb (6 + j) (lastKind (productSets .value) res)) 5 (refuse 7) ≡ refuse (deepPolicy (getD (policyHeads res r) j policy.BadKind))
+deep-kind-P true zero r = ap refuse (sym (deep-permit r))
+deep-kind-P true (suc zero) r = ap refuse (sym (deep-field-P (eqb r 0) Deny refl))
+deep-kind-P true (suc (suc zero)) r = ap refuse (sym (deep-grant r))
+deep-kind-P true (suc (suc (suc zero))) r = ap refuse (sym (deep-field-P (ltb r 4096) (policy.All r) refl))
+deep-kind-P true (suc (suc (suc (suc zero)))) r = ap refuse (sym (deep-field-P (ltb r 4096) (policy.Any r) refl))
+deep-kind-P true (suc (suc (suc (suc (suc zero))))) r = ap refuse (sym (deep-field-P (eqb r 0) OrElse refl))
+deep-kind-P true (suc (suc (suc (suc (suc (suc zero)))))) r = ap refuse (sym (deep-permit-trace r))
+deep-kind-P true (suc (suc (suc (suc (suc (suc (suc zero))))))) r = ap refuse (sym (deep-deny-trace r))
+deep-kind-P true (suc (suc (suc (suc (suc (suc (suc (suc j)))))))) r = ap (λ b. unless {A = Policy ℕ} b 5 (refuse 7)) (lt-leb (6 + suc (suc (suc (suc (suc (suc (suc (suc j)))))))) 13 (omega arith))
+deep-kind-P false zero r = ap refuse (sym (deep-permit r))
+deep-kind-P false (suc zero) r = ap refuse (sym (deep-field-P (eqb r 0) Deny refl))
+deep-kind-P false (suc (suc zero)) r = ap refuse (sym (deep-grant r))
+deep-kind-P false (suc (suc (suc zero))) r = ap refuse (sym (deep-field-P (ltb r 4096) (policy.All r) refl))
+deep-kind-P false (suc (suc (suc (suc zero)))) r = ap refuse (sym (deep-field-P (ltb r 4096) (policy.Any r) refl))
+deep-kind-P false (suc (suc (suc (suc (suc zero))))) r = ap refuse (sym (deep-field-P (eqb r 0) OrElse refl))
+deep-kind-P false (suc (suc (suc (suc (suc (suc zero)))))) r = refl
+deep-kind-P false (suc (suc (suc (suc (suc (suc (suc zero))))))) r = refl
+deep-kind-P false (suc (suc (suc (suc (suc (suc (suc (suc j)))))))) r = ap (λ b. unless {A = Policy ℕ} b 5 (refuse 7)) (lt-leb (6 + suc (suc (suc (suc (suc (suc (suc (suc j)))))))) 11 (omega arith))
+
+deep-at : (res : Bool) (k r : ℕ) (b : Bool) → leb 6 k ≡ b → unless {A = Policy ℕ} (b && leb k (lastKind (productSets .value) res)) 5 (refuse 7) ≡ refuse (deepPolicy (cond b (getD (policyHeads res r) (k - 6) policy.BadKind) policy.BadKind))
+deep-at res k r true e =
+    let h : 6 ≤ k = leb-true 6 k e in
+    let j : k ≡ 6 + (k - 6) = omega arith in
+    ap (λ n. unless {A = Policy ℕ} (leb n (lastKind (productSets .value) res)) 5 (refuse 7)) j ∙ deep-kind-P res (k - 6) r
+deep-at res k r false e = refl
+
+pub policy-deep : (res : Bool) (w : ℕ) (ws : List ℕ) → readPolicy (productSets .value) res zero (w ∷ ws) ≡ refuse (deepPolicy (policyHead w res))
+unfolding policyHead
+policy-deep res w ws = deep-at res (kindOf w) (restOf w) (leb 6 (kindOf w)) refl

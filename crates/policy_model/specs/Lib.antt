@@ -1,0 +1,5 @@
+pub mod Heads
+pub mod HeadLaws
+pub mod Lists
+pub mod Answers
+pub mod Span

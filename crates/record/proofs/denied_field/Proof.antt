@@ -1,0 +1,22 @@
+-- `record::denied_field` meets its contract: by the flag. Assumes nothing.
+use native.Mathlib.Omega.{arith}
+use borrow.Author.Needs.{needs}
+use Rattle.record.proofs.denied_field.Statement.{statement}
+use Rattle.record.proofs.denied_field.Tie as tie
+use Rattle.record.proofs.denied_field.Reads as reads
+use Rattle.record.proofs.denied_field.Lts as lts
+
+cast-result : tie.Need-cast-result
+cast-result c = search needs
+
+add-result : tie.Need-add-result
+add-result c = search needs
+
+returns : tie.Need-returns
+returns c = (rw (c .before .if1 .taken), omega arith)
+
+returns-2 : tie.Need-returns-2
+returns-2 c = search needs
+
+pub denied-field-spec : {M : Type 1} → statement M
+denied-field-spec = tie.close (tie.spec cast-result add-result returns returns-2)

@@ -1,0 +1,137 @@
+-- `required::collect_condition_facts`, which calls itself, meets its contract: a Has by its fact, any other condition by the walk over its arms. The depth falls with each call, and the arms that
+-- are left with each turn of the loop. Assumes nothing.
+use borrow.Author.Needs.{needs}
+use mathlib.Core.Path.{_≡_, refl}
+use Prim.Native.Nat.{ℕ, _-_, _<_}
+use lib.ListN.{length}
+use Rattle.required.proofs.Conditions.{OnwardC, onward-more-C, condition-past, condition-deep, has-walked, condition-walked}
+use borrow.Fn.Kinds.{In}
+use borrow.Fn.PlainCycle.{Measures, is, falls, and}
+use Rattle.required.proofs.collect_condition_facts.Reads as reads
+use Rattle.required.proofs.collect_condition_facts.Kinds as kinds
+use Rattle.required.proofs.+collect_condition_facts.Lts-collect_condition_facts as lts
+use Rattle.policy_model.proofs.condition_head.Reads as condition-head-reads
+use Rattle.required.proofs.condition_arms.Reads as condition-arms-reads
+use Rattle.required.proofs.insert.Reads as insert-reads
+use Rattle.required.proofs.+collect_condition_facts.{statement}
+use Rattle.required.proofs.+collect_condition_facts.Tie.{close}
+
+abbrev μ : Measures 2 kinds.ps ℕ
+μ κs a = a .1 .1 .0
+
+abbrev Inv-loop : lts.InvT-loop
+Inv-loop words at depth set₀ word left₀ next₀ set left next = (length set ≡ length set₀) × OnwardC (depth - 1) words next₀ left₀ set₀ next left set
+
+abbrev μ-loop : lts.MeasureT-loop
+μ-loop words at depth set₀ word left₀ next₀ set left next = left
+
+module _ (t : ℕ) where
+  abbrev here : In 2 kinds.ps
+  here = and 2 kinds.ps (is 2 kinds.ps μ t) reads.Pre
+
+  abbrev below : In 2 kinds.ps
+  below = and 2 kinds.ps (falls 2 kinds.ps _<_ μ t) reads.Pre
+
+  -- what it calls
+  abbrev calls : lts.Claims
+  calls = (insert-reads.Asked, insert-reads.Learnt, condition-head-reads.Asked, condition-head-reads.Learnt, condition-arms-reads.Asked, condition-arms-reads.Learnt, below, reads.Post)
+
+  returns : lts.Need-returns calls here reads.Post Inv-loop μ-loop
+  returns c =
+      let a = c .before .before .before .args in
+      condition-past (a .words .now) (a .at) (a .depth) _ _ _ (c .if1 .taken)
+
+  returns-2 : lts.Need-returns-2 calls here reads.Post Inv-loop μ-loop
+  returns-2 c =
+      let a = c .before .before .before .before .args in
+      condition-deep (a .words .now) (a .at) (a .depth) _ _ _ (c .before .if1 .left) (c .if2 .taken)
+
+  mul-word : lts.Need-mul-word calls here reads.Post Inv-loop μ-loop
+  mul-word c = search needs
+
+  shared-slice-read-word : lts.Need-shared-slice-read-word calls here reads.Post Inv-loop μ-loop
+  shared-slice-read-word c = search needs
+
+  collect-condition-facts-insert-requires : lts.Need-insert-requires calls here reads.Post Inv-loop μ-loop
+  collect-condition-facts-insert-requires c κs = search needs
+
+  add-result : lts.Need-add-result calls here reads.Post Inv-loop μ-loop
+  add-result c = search needs
+
+  same-length : lts.Need-same-length calls here reads.Post Inv-loop μ-loop
+  same-length c = search needs
+
+  returns-3 : lts.Need-returns-3 calls here reads.Post Inv-loop μ-loop
+  returns-3 c =
+      let put = c .before .before in
+      let test = put .before .before in
+      let level = test .before .before in
+      let a = level .before .before .before .before .args in
+      has-walked (a .words .now) (a .at) (a .depth) _ (level .before .if1 .left) (level .if2 .left) _ (test .if3 .taken) (put .insert .ensures)
+
+  condition-head-requires : lts.Need-condition-head-requires calls here reads.Post Inv-loop μ-loop
+  condition-head-requires c κs = search needs
+
+  condition-arms-requires : lts.Need-condition-arms-requires calls here reads.Post Inv-loop μ-loop
+  condition-arms-requires c κs = search needs
+
+  add-next : lts.Need-add-next calls here reads.Post Inv-loop μ-loop
+  add-next c = search needs
+
+  loop-holds : lts.Need-loop-holds calls here reads.Post Inv-loop μ-loop
+  loop-holds c = (refl, record { onward = λ u end w. w })
+
+  sub-collect-condition-facts : lts.Need-sub-collect-condition-facts calls here reads.Post Inv-loop μ-loop
+  sub-collect-condition-facts c = search needs
+
+  collect-condition-facts-requires : lts.Need-collect-condition-facts-requires calls here reads.Post Inv-loop μ-loop
+  collect-condition-facts-requires c κs = search needs
+
+  sub-left : lts.Need-sub-left calls here reads.Post Inv-loop μ-loop
+  sub-left c = search needs
+
+  loop-less : lts.Need-loop-less calls here reads.Post Inv-loop μ-loop
+  loop-less c = search needs
+
+  loop-again : lts.Need-loop-again calls here reads.Post Inv-loop μ-loop
+  loop-again c =
+      let turn = c .before .before in
+      let a = turn .before .before .before .before .before .before .before .before .before .before .before .before .args in
+      (search needs, onward-more-C (a .depth - 1) _ _ _ _ _ _ _ _ _ (turn .before .before .loop-test .taken) (turn .collect-condition-facts .ensures) (turn .before .before .before .loop .inv .1))
+
+  same-length-2 : lts.Need-same-length-2 calls here reads.Post Inv-loop μ-loop
+  same-length-2 c = search needs
+
+  returns-4 : lts.Need-returns-4 calls here reads.Post Inv-loop μ-loop
+  returns-4 c =
+      let arms = c .before .before in
+      let head = arms .before in
+      let test = head .before in
+      let level = test .before .before in
+      let a = level .before .before .before .before .args in
+      condition-walked (a .words .now) (a .at) (a .depth) _ (level .before .if1 .left) (level .if2 .left) _ _ _ _ _ (test .if3 .left) (head .condition-head .ensures) (arms .condition-arms .ensures)
+      (c .loop-test .left) (c .before .loop .inv .1)
+
+pub +collect-condition-facts-spec : {M : Type 1} → statement M
++collect-condition-facts-spec =
+    close μ
+    (λ t. lts.spec (calls t) (here t) reads.Post Inv-loop μ-loop
+    (returns t)
+    (returns-2 t)
+    (mul-word t)
+    (shared-slice-read-word t)
+    (collect-condition-facts-insert-requires t)
+    (add-result t)
+    (same-length t)
+    (returns-3 t)
+    (condition-head-requires t)
+    (condition-arms-requires t)
+    (add-next t)
+    (loop-holds t)
+    (sub-collect-condition-facts t)
+    (collect-condition-facts-requires t)
+    (sub-left t)
+    (loop-less t)
+    (loop-again t)
+    (same-length-2 t)
+    (returns-4 t))

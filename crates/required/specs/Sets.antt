@@ -1,0 +1,31 @@
+-- What a walk adds to a set of facts, and how many facts are named. Document 01, "Required facts".
+use mathlib.Core.Path.{_≡_}
+use mathlib.Core.Bool.{Bool, cond, _||_}
+use mathlib.Core.List.{List, [], _∷_}
+use Prim.Native.Nat.{ℕ, zero, suc, _+_}
+use lib.ListN.{length}
+use Rattle.model.specs.Facts.{factCount}
+use Rattle.model.specs.Reading.{Parsed, refuse, got}
+use Rattle.model.specs.Required.{factSet}
+
+-- A set has, after, the facts that it had before and exactly those that are named besides.
+pub record Grown (names : ℕ → Bool) (before after : List ℕ) : Type 0 where
+  pub grown : (named : ℕ → Bool) → before ≡ factSet named → after ≡ factSet (λ f. named f || names f)
+
+-- A walk from `at` over so many words, to `next`.
+pub record Walked (at words next : ℕ) (names : ℕ → Bool) (before after : List ℕ) : Type 0 where
+  pub ends : next ≡ at + words
+  pub adds : Grown names before after
+
+-- A walk over what stands at `at`. Of words that don't read it says nothing.
+unfoldable pub Collected : {A : Type 0} → (A → ℕ) → (ℕ → A → Bool) → ℕ → List ℕ → List ℕ → Parsed A → ℕ → Type 0
+Collected size names at before after (refuse n) next = Unit {0}
+Collected size names at before after (got a ws) next = Walked at (size a) next (λ f. names f a) before after
+
+-- The facts that are named among the n from `from` on, in order; and how many of the 1,024 facts are.
+unfoldable pub namedFrom : (ℕ → Bool) → ℕ → ℕ → List ℕ
+namedFrom named from zero = []
+namedFrom named from (suc n) = cond (named from) (from ∷ namedFrom named (suc from) n) (namedFrom named (suc from) n)
+
+abbrev pub howMany : (ℕ → Bool) → ℕ
+howMany named = length (namedFrom named 0 factCount)

@@ -1,0 +1,282 @@
+// Required facts, after gatekeep's evaluate.rs: the set of the facts that a tree names, and their count. A set is sixteen numbers, one bit for each
+// fact, fact 0 the top bit of the first. The walks are lent the set and add to it, and return the index of the next word: so the grown set comes back
+// without being copied at each level.
+use policy_model::ConditionHead;
+use policy_model::PolicyHead;
+use policy_model::RecordCheck;
+use policy_model::SheetCheck;
+ghost use mathlib.Core.Path.{_≡_};
+ghost use mathlib.Core.Bool.{Bool};
+ghost use Prim.Native.Nat.{ℕ, _+_, _≤_, _<_};
+ghost use lib.Dec.{eqb};
+ghost use lib.ListN.{length, drop, replicate};
+ghost use Rattle.model.specs.Outcome.{productSets};
+ghost use Rattle.model.specs.Condition.{namesC};
+ghost use Rattle.model.specs.Policy.{names};
+ghost use Rattle.model.specs.Reading.{levels, readCondition, readPolicy, readSheet, readRecord};
+ghost use Rattle.model.specs.Required.{ones, requiredFacts, requiredResidualFacts};
+ghost use Rattle.laws.specs.Size.{wordsC, words as wordsP};
+ghost use Rattle.policy_model.specs.Heads.{permitTraceNode, denyTraceNode};
+ghost use Rattle.required.specs.Sets.{Grown, Collected};
+ghost use Rattle.required.specs.Nodes.{conditionArms, policyArms, Ended, OwnFacts};
+ghost use Rattle.required.specs.Answers.{setAfter, FactsOf, Answered, treeOf};
+
+// Puts a fact into the set. A set that is too short for it is left as it was.
+fn insert(set: &mut [u64], fact: u32)
+    ensures { λ r. ⌜ Grown (λ f. eqb f fact) (now (set .entry)) (now (set .exit)) ⌝ }
+{
+    let at = (fact / 64) as usize;
+    if at < set.len() {
+        set[at] = set[at] | (9223372036854775808 >> (fact % 64));
+    }
+}
+
+// How many conditions follow a condition's first word as its arms.
+fn condition_arms(head: ConditionHead) -> u32
+    ensures { λ r. ⌜ r ≡ conditionArms head ⌝ }
+{
+    match head {
+        ConditionHead::Always => 0,
+        ConditionHead::Never => 0,
+        ConditionHead::Has(_) => 0,
+        ConditionHead::Not => 1,
+        ConditionHead::All(count) => count,
+        ConditionHead::Any(count) => count,
+        ConditionHead::BadKind => 0,
+        ConditionHead::BadField => 0,
+    }
+}
+
+// Adds the facts of the condition at `at`, of at most `depth` levels, and returns the index of the word after it.
+pub fn collect_condition_facts(words: &[u32], at: usize, depth: usize, set: &mut [u64]) -> usize
+    ensures { λ r. ⌜ Collected wordsC namesC at (now (set .entry)) (now (set .exit)) (readCondition depth (drop at (now (words .entry)))) r ⌝ }
+{
+    if words.len() <= at {
+        return at;
+    }
+    if depth == 0 {
+        return at;
+    }
+    let word = words[at];
+    // a Has first, since most nodes are
+    if word / 1024 == 524288 {
+        insert(set, word % 1024);
+        return at + 1;
+    }
+    let mut left = condition_arms(policy_model::condition_head(word));
+    let mut next = at + 1;
+    while left != 0 {
+        next = collect_condition_facts(words, next, depth - 1, set);
+        left -= 1;
+    }
+    next
+}
+
+// Where a PermitWithTrace ends: two words, its obligations and its facts.
+fn permit_trace_end(words: &[u32], at: usize, obligations: u32) -> usize
+    requires { ⌜ at < length (now words) ⌝ }
+    ensures { λ r. ⌜ ((o : ℕ) → Ended at (permitTraceNode obligations o (drop (at + 1) (now (words .entry)))) r) ⌝ }
+{
+    let second = at + 1;
+    if words.len() <= second {
+        return at;
+    }
+    let facts = (words[second] % 65536) as usize;
+    at + 2 + (obligations as usize + 3) / 4 + (facts + 1) / 2
+}
+
+// Where a DenyWithTrace ends: three words and its facts.
+fn deny_trace_end(words: &[u32], at: usize) -> usize
+    requires { ⌜ at < length (now words) ⌝ }
+    ensures { λ r. ⌜ ((hidden denied : Bool) (o : ℕ) → Ended at (denyTraceNode hidden denied o (drop (at + 1) (now (words .entry)))) r) ⌝ }
+{
+    let third = at + 2;
+    if words.len() <= third {
+        return at;
+    }
+    let facts = words[third] as usize;
+    at + 3 + (facts + 1) / 2
+}
+
+// Adds the facts of what stands in a policy before its arms, and returns the index of the word after that. Stored decisions name nothing.
+fn collect_own_facts(
+    words: &[u32],
+    at: usize,
+    depth: usize,
+    head: PolicyHead,
+    set: &mut [u64],
+) -> usize
+    requires { ⌜ at < length (now words) ⌝ }
+    ensures { λ r. ⌜ OwnFacts (λ ws. readCondition depth ws) head (drop (at + 1) (now (words .entry))) at (now (set .entry)) (now (set .exit)) r ⌝ }
+{
+    match head {
+        PolicyHead::Permit(_) => at + 1,
+        PolicyHead::Deny => at + 1,
+        PolicyHead::Grant {
+            hidden: _,
+            obligations,
+            outcome: _,
+        } => collect_condition_facts(words, at + 2 + (obligations as usize + 3) / 4, depth, set),
+        PolicyHead::All(_) => at + 1,
+        PolicyHead::Any(_) => at + 1,
+        PolicyHead::OrElse => at + 1,
+        PolicyHead::PermitWithTrace {
+            obligations,
+            outcome: _,
+        } => permit_trace_end(words, at, obligations),
+        PolicyHead::DenyWithTrace {
+            hidden: _,
+            denied: _,
+            outcome: _,
+        } => deny_trace_end(words, at),
+        PolicyHead::BadKind => at + 1,
+        PolicyHead::BadField => at + 1,
+    }
+}
+
+// How many policies follow a policy's own words as its arms.
+fn policy_arms(head: PolicyHead) -> u32
+    ensures { λ r. ⌜ r ≡ policyArms head ⌝ }
+{
+    match head {
+        PolicyHead::Permit(_) => 0,
+        PolicyHead::Deny => 0,
+        PolicyHead::Grant {
+            hidden: _,
+            obligations: _,
+            outcome: _,
+        } => 0,
+        PolicyHead::All(count) => count,
+        PolicyHead::Any(count) => count,
+        PolicyHead::OrElse => 2,
+        PolicyHead::PermitWithTrace {
+            obligations: _,
+            outcome: _,
+        } => 0,
+        PolicyHead::DenyWithTrace {
+            hidden: _,
+            denied: _,
+            outcome: _,
+        } => 0,
+        PolicyHead::BadKind => 0,
+        PolicyHead::BadField => 0,
+    }
+}
+
+// Adds the facts of the policy at `at`, of at most `depth` levels, and returns the index of the word after it.
+pub fn collect_policy_facts(
+    words: &[u32],
+    at: usize,
+    depth: usize,
+    residual: bool,
+    set: &mut [u64],
+) -> usize
+    ensures { λ r. ⌜ Collected wordsP names at (now (set .entry)) (now (set .exit)) (readPolicy (productSets .value) residual depth (drop at (now (words .entry)))) r ⌝ }
+{
+    if words.len() <= at {
+        return at;
+    }
+    if depth == 0 {
+        return at;
+    }
+    let head = policy_model::policy_head(words[at], residual);
+    let mut next = collect_own_facts(words, at, depth - 1, head, set);
+    let mut left = policy_arms(head);
+    while left != 0 {
+        next = collect_policy_facts(words, next, depth - 1, residual, set);
+        left -= 1;
+    }
+    next
+}
+
+// How many bits of the set are one.
+pub fn count_ones(set: &[u64]) -> u32
+    requires { ⌜ length (now set) ≤ 16 ⌝ }
+    ensures { λ r. ⌜ r ≡ ones (now (set .entry)) ⌝ }
+{
+    let mut count = 0;
+    let mut i = 0;
+    while i < set.len() {
+        count += u64::count_ones(set[i]);
+        i += 1;
+    }
+    count
+}
+
+// Which facts are required: how many, or the number of the refusal.
+pub enum Required {
+    Facts(u32),
+    Refused(u32),
+}
+
+// Makes `set`, if it has sixteen numbers, the set `by`.
+fn replace(set: &mut [u64], by: &[u64])
+    requires { ⌜ length (now by) ≡ 16 ⌝ }
+    ensures { λ r. ⌜ now (set .exit) ≡ setAfter (now (set .entry)) (now (by .entry)) ⌝ }
+{
+    if set.len() != 16 {
+        return;
+    }
+    let mut i = 0;
+    while i < 16 {
+        set[i] = by[i];
+        i += 1;
+    }
+}
+
+// The facts of the policy at `at`, in a set of their own that then replaces `set`, and their count.
+pub fn facts_at(words: &[u32], at: usize, residual: bool, set: &mut [u64]) -> u32
+    ensures { λ r. ⌜ FactsOf (readPolicy (productSets .value) residual levels (drop at (now (words .entry)))) (now (set .entry)) (now (set .exit)) r ⌝ }
+{
+    let mut facts = [0u64; 16];
+    collect_policy_facts(words, at, 32, residual, &mut facts);
+    replace(set, &facts);
+    count_ones(&facts)
+}
+
+// Refused: an empty set.
+pub fn no_facts(set: &mut [u64])
+    ensures { λ r. ⌜ now (set .exit) ≡ setAfter (now (set .entry)) (replicate 16 0) ⌝ }
+{
+    let none = [0u64; 16];
+    replace(set, &none)
+}
+
+// The facts that a sheet names: their set, and their count. Refused, the set is empty. A set that does not have sixteen numbers is left as it was.
+pub fn required_facts(sheet: &[u32], set: &mut [u64]) -> Required
+    ensures { λ r. ⌜ Answered (requiredFacts productSets (now (sheet .entry))) (readSheet (productSets .value) (now (sheet .entry))) (now (set .entry)) (now (set .exit)) r ⌝ }
+{
+    match policy_model::check_sheet(sheet) {
+        SheetCheck::Accepted => Required::Facts(facts_at(sheet, 0, false, set)),
+        SheetCheck::Refused(number) => {
+            no_facts(set);
+            Required::Refused(number)
+        }
+    }
+}
+
+// The facts that a record's tree names: their set, and their count. A Resolved record names none. Refused, the set is empty. A set that does not have
+// sixteen numbers is left as it was.
+pub fn required_residual_facts(words: &[u32], set: &mut [u64]) -> Required
+    ensures { λ r. ⌜ Answered (requiredResidualFacts productSets (now (words .entry))) (treeOf (readRecord (productSets .value) (now (words .entry)))) (now (set .entry)) (now (set .exit)) r ⌝ }
+{
+    match policy_model::check_record(words) {
+        RecordCheck::Resolved {
+            consulted: _,
+            tree: _,
+        } => {
+            no_facts(set);
+            Required::Facts(0)
+        }
+        RecordCheck::Pending { consulted: _, tree } => Required::Facts(facts_at(
+            words,
+            tree,
+            true,
+            set,
+        )),
+        RecordCheck::Refused(number) => {
+            no_facts(set);
+            Required::Refused(number)
+        }
+    }
+}

@@ -111,7 +111,7 @@ module _ (L : Outcomes) (G : L .O → Type 0) (meets : (a b : L .O) → G a → 
   fit-words : (t : Policy (L .O)) (d : ℕ) (r : Record (L .O)) → IsSheet t → Fit G (most t) d r → wordsR r ≤ 3 * words t + 513
   fit-words t d r s h = omega (arith, words-most (tree r), h .small, sheet-most t s, log-length (r .log) (h .consulted))
 
-  -- T5 and T6. Of a sheet of good form, nested at most 32 deep: the record of each call of a list of calls, whatever the tables say,
+  -- Of a sheet of good form, nested at most 32 deep: the record of each call of a list of calls, whatever the tables say,
   -- takes at most three times the sheet's words and 513, and is of good form, nested at most 32 deep.
   pub record RoomFor (t : Policy (L .O)) (r : Record (L .O)) : Type 0 where
     pub room : wordsR r ≤ 3 * words t + 513

@@ -83,7 +83,7 @@ none-truth K (ccons c cs) r v e = e
 
 module _ (K P : Table) where
   mutual
-    -- T1. Reducing keeps the truth under K.
+    -- Reducing keeps the truth under K.
     pub redC-sound : (c : Condition) → EachC (Agrees K P) c → truthR K (reduceCondition P c) ≡ isSatisfied (evalCondition K c)
     redC-sound always h = refl
     redC-sound never h = refl
@@ -120,7 +120,7 @@ mutual
   eachs-all q cnil = tt
   eachs-all q (ccons c cs) = (each-all q c, eachs-all q cs)
 
--- T1, second half: a condition that is known, evaluated again with Unknown read as Absent, has that truth value.
+-- A condition that is known, evaluated again with Unknown read as Absent, has that truth value.
 pub known-again : (P : Table) (c : Condition) (b : Bool) → reduceCondition P c ≡ known b → isSatisfied (evalCondition (asKnown P) c) ≡ b
 known-again P c b e = sym (redC-sound (asKnown P) P c (each-all (λ f. settled-agrees (P f)) c)) ∙ ap (truthR (asKnown P)) e
 

@@ -478,7 +478,7 @@ module _ (L : Outcomes) where
 
   module _ (P : Table) where
     mutual
-      -- T6. What is left is no deeper than the source.
+      -- What is left is no deeper than the source.
       pub depth-red : (t : Policy (L .O)) → depth (asResidual (reducePolicy L P t)) ≤ depth t
       depth-red (permit o) = omega arith
       depth-red deny = omega arith

@@ -229,7 +229,7 @@ module _ (L : Outcomes) (lawful : Lawful L) where
 
     module _ (P : Table) where
       mutual
-        -- T2. Reducing keeps effect and products under K.
+        -- Reducing keeps effect and products under K.
         pub red-sound : (t : Policy (L .O)) → Each (Agrees K P) t → value (reducePolicy L P t) ≡ products (evalPolicy L K t)
         red-sound (permit o) h = refl
         red-sound deny h = refl

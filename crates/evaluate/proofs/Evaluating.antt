@@ -1,0 +1,262 @@
+-- What a policy comes to and consults, by its head. Assumes nothing.
+use mathlib.Core.Path.{_≡_, refl, sym, _∙_, ap, subst}
+use mathlib.Core.Bool.{Bool, true, false}
+use mathlib.Core.List.{List, [], _∷_}
+use Prim.Native.Nat.{ℕ, zero, suc, _+_, _-_, _/_, _%_, _≤_, _<_}
+use native.Mathlib.Numerals.{sub-one}
+use native.Mathlib.Omega.{arith}
+use lib.ListN.{length, drop, getD, length-drop}
+use lib.Seq.{drop-drop, getD-drop}
+use Rattle.model.specs.Facts.{Table}
+use Rattle.model.specs.Outcome.{productSets}
+use Rattle.model.specs.Condition.{Condition, satisfied, unsatisfied, evalCondition}
+use Rattle.model.specs.Condition as model
+use Rattle.model.specs.Consulted.{read, readC}
+use Rattle.model.specs.Policy.{Policy, Grant as Clause, grant, stored}
+use Rattle.model.specs.Decision.{permits, denies}
+use Rattle.model.specs.Evaluate.{evalPolicy}
+use Rattle.model.specs.Reading.{refuse, got, readCondition, readPolicy}
+use Rattle.laws.specs.FieldLaws.{Holds, fine, nothing, weaker}
+use Rattle.laws.specs.Size.{wordsC, words}
+use Rattle.policy_model.specs.declared.PolicyHead.{PolicyHead}
+use Rattle.policy_model.specs.declared.PolicyHead.the-variants.{Permit, Deny, Grant, PermitWithTrace, DenyWithTrace, BadKind, BadField}
+use Rattle.policy_model.specs.Heads.{policyHead, policyNode}
+use Rattle.policy_model.specs.HeadLaws.{policy-deep}
+use Rattle.policy_model.proofs.Checking.{no-word}
+use Rattle.condition.specs.declared.ConditionEval.{ConditionEval}
+use Rattle.condition.specs.Listing.{Lent, lent}
+use Rattle.condition.specs.Evaluating.{isSatisfied, Evaluated, EvaluatesC}
+use Rattle.condition.proofs.Listing.{consults-none, consults-as}
+use Rattle.decision.specs.Nodes.{nodeAt}
+use Rattle.decision.specs.Meaning.{deniedAt, permittedAt, decisionOf, past, reads}
+use Rattle.decision.proofs.Standing.{node-reads, as-permit, denied-is, denied-grant, denied-stored, permitted-is, permitted-grant, permitted-stored, sound-denied, sound-permitted}
+use Rattle.evaluate.specs.declared.PolicyEval.{PolicyEval}
+use Rattle.evaluate.specs.Evaluating.{evalOf, Answers, EvaluatesP, EvaluatesBy}
+use Rattle.evaluate.proofs.Nodes.{held-at, in-sheet, node-holds, node-knows, grant-reads, permit-reads, deny-reads}
+
+-- The answer to a policy at `at`.
+abbrev pub Answered : Table → List ℕ → ℕ → Lent → PolicyEval → Lent → List ℕ → Policy ℕ → List ℕ → Type 0
+Answered T W at s r t buf p rest = Answers T W (evalPolicy productSets T p) (at + words p) (read productSets T p) s r t buf
+
+nothing-there : (res : Bool) (depth : ℕ) → readPolicy (productSets .value) res depth [] ≡ refuse 6
+nothing-there res zero = refl
+nothing-there res (suc depth) = refl
+
+no-levels : {Q : Policy ℕ → List ℕ → Type 0} (res : Bool) (ws : List ℕ) → Holds Q (readPolicy (productSets .value) res zero ws)
+no-levels res [] = nothing
+no-levels res (w ∷ ws) = rw (policy-deep res w ws) nothing
+
+one-level : {Q : Policy ℕ → List ℕ → Type 0} (depth : ℕ) (ws : List ℕ) → (depth ≡ 0 → ⊥) →
+    Holds Q (readPolicy (productSets .value) true (suc (depth - 1)) ws) → Holds Q (readPolicy (productSets .value) true depth ws)
+one-level zero ws f h = absurd (f refl)
+one-level (suc depth) ws f h = rw sub-one at h
+
+-- ---- a policy by its head
+module _ (T : Table) (W : List ℕ) (at depth : ℕ) (s : Lent) (r : PolicyEval) (t : Lent) (buf : List ℕ) where
+  pub by-head : (h : PolicyHead) → (depth ≡ 0 → ⊥) → h ≡ policyHead (getD W at 0) true → EvaluatesBy h T W at (depth - 1) s r t buf → EvaluatesP T W at depth s r t buf
+  by-head h f e a = record { room = a .room; few = a .few; says = in-sheet depth (drop at W) (one-level depth (drop at W) f (a .says e)) }
+
+-- ---- words that don't read, and nodes without parts
+module _ (T : Table) (W : List ℕ) (at depth : ℕ) (next count : ℕ) (entries seen buf : List ℕ) where
+  abbrev s : Lent
+  s = lent count entries seen
+
+  abbrev none : ℕ
+  none = length W
+
+  abbrev stop : PolicyEval
+  stop = evalOf (deniedAt none none) next count
+
+  pub eval-end : length W ≤ at → EvaluatesP T W at depth s stop s buf
+  eval-end h = record {
+    room = refl;
+    few = omega arith;
+    says = λ res. rw (no-word W at h, nothing-there res depth) nothing;
+  }
+
+  pub eval-limit : depth ≡ 0 → EvaluatesP T W at depth s stop s buf
+  eval-limit z = record { room = refl; few = omega arith; says = λ res. rw z (no-levels res (drop at W)) }
+
+  module _ (lt : at < length W) where
+    pub eval-bad-kind : EvaluatesBy BadKind T W at depth s stop s buf
+    unfolding policyNode
+    eval-bad-kind = record { room = refl; few = omega arith; says = λ e. node-holds W at depth BadKind lt e nothing }
+
+    pub eval-bad-field : EvaluatesBy BadField T W at depth s stop s buf
+    unfolding policyNode
+    eval-bad-field = record { room = refl; few = omega arith; says = λ e. node-holds W at depth BadField lt e nothing }
+
+    pub eval-permit : (o : ℕ) → next ≡ at + 1 → EvaluatesBy (Permit o) T W at depth s (evalOf (permittedAt o none none 0) next count) s buf
+    unfolding policyNode
+    eval-permit o n = record {
+      room = refl;
+      few = omega arith;
+      says = λ e. node-holds W at depth (Permit o) lt e (fine (record {
+        decision-is = as-permit W T buf (permittedAt o none none 0) refl ∙ ap permits (permitted-is W T buf o none (omega arith));
+        sound = sound-permitted W buf o none (past (omega arith));
+        next-is = n;
+        log = consults-as (λ l. refl) consults-none;
+      }));
+    }
+
+    pub eval-deny : next ≡ at + 1 → EvaluatesBy Deny T W at depth s stop s buf
+    unfolding policyNode
+    eval-deny n = record {
+      room = refl;
+      few = omega arith;
+      says = λ e. node-holds W at depth Deny lt e (fine (record {
+        decision-is = denied-is W T buf none (omega arith);
+        sound = sound-denied W buf none none (past (omega arith)) (omega arith);
+        next-is = n;
+        log = consults-as (λ l. refl) consults-none;
+      }));
+    }
+
+-- ---- a grant
+module _ (T : Table) (W : List ℕ) (at depth : ℕ) (hidden : Bool) (n o : ℕ) (lt : at < length W) (deep : depth < 32) where
+  -- A grant that ends early.
+  pub grant-short : (s : Lent) (r : PolicyEval) (buf : List ℕ) → r .decision .count ≤ 64 → length W - at < 2 + (n + 3) / 4 → EvaluatesBy (Grant hidden n o) T W at depth s r s buf
+  unfolding policyNode
+  grant-short s r buf few h = record {
+    room = refl;
+    few = few;
+    says = λ e. node-holds W at depth (Grant hidden n o) lt e
+        (weaker _ (λ p rest g. absurd (omega (arith, g .fits, length-drop (at + 1) W))) (grant-reads depth hidden n o (drop (at + 1) W)));
+  }
+
+  -- What is known of the grant, given the answer to its condition.
+  record Granted (a : ConditionEval) (s t : Lent) (p : Policy ℕ) (rest : List ℕ) : Type 0 where
+    clause : Clause ℕ
+    inner : Condition
+    policy-is : p ≡ grant clause inner
+    outcome-is : clause .outcome ≡ o
+    node : nodeAt W at ≡ got (grant clause inner) rest
+    words-are : at + words (grant clause inner) ≡ at + (2 + (n + 3) / 4) + wordsC inner
+    answer : Evaluated (isSatisfied (evalCondition T inner)) (at + (2 + (n + 3) / 4) + wordsC inner) (readC T inner) s a t
+
+  grant-known : (a : ConditionEval) (s t : Lent) → EvaluatesC T W (at + (2 + (n + 3) / 4)) depth s a t → Grant hidden n o ≡ policyHead (getD W at 0) true →
+      Holds (Granted a s t) (readPolicy (productSets .value) true (suc depth) (drop at W))
+  unfolding policyNode
+  grant-known a s t c e =
+      weaker (readPolicy (productSets .value) true (suc depth) (drop at W)) (λ p rest h.
+      let g = h .1 in
+      let k = (n + 3) / 4 in
+      let from : drop k (drop 1 (drop (at + 1) W)) ≡ drop (at + (2 + k)) W =
+      ap (drop k) (drop-drop 1 (at + 1) W) ∙ drop-drop k (at + 1 + 1) W ∙ ap (λ i. drop i W) (let z : at + 1 + 1 + k ≡ at + (2 + k) = omega arith in z) in
+      record {
+        clause = g .clause;
+        inner = g .inner;
+        policy-is = g .policy-is;
+        outcome-is = g .outcome-is;
+        node = node-reads W at (suc depth) true (grant (g .clause) (g .inner)) rest (omega arith) (h .0 ∙ ap (λ x. got x rest) (g .policy-is));
+        words-are = omega (arith, g .long);
+        answer = held-at (c .says) (ap (readCondition depth) (sym from) ∙ g .below);
+      })
+      (node-knows W at depth (Grant hidden n o) lt e (grant-reads depth hidden n o (drop (at + 1) W)))
+
+  module _ (buf : List ℕ) (c : Condition) (g : Clause ℕ) (rest : List ℕ) (node : nodeAt W at ≡ got (grant g c) rest) (is : g .outcome ≡ o) where
+    permits-as : (x : model.ConditionEval) → evalCondition T c ≡ x → isSatisfied x ≡ true → decisionOf W T buf (permittedAt o at at 0) ≡ evalPolicy productSets T (grant g c)
+    permits-as (satisfied fs) e y = ap (λ i. decisionOf W T buf (permittedAt i at at 0)) (sym is) ∙ permitted-grant W T buf at g c rest fs node e
+    permits-as (unsatisfied fs) e y = cc
+
+    denies-as : (x : model.ConditionEval) → evalCondition T c ≡ x → isSatisfied x ≡ false → decisionOf W T buf (deniedAt at (length W)) ≡ evalPolicy productSets T (grant g c)
+    denies-as (satisfied fs) e y = cc
+    denies-as (unsatisfied fs) e y = denied-grant W T buf at (length W) g c rest fs node e
+
+  module _ (a : ConditionEval) (s t : Lent) (buf : List ℕ) (c : EvaluatesC T W (at + (2 + (n + 3) / 4)) depth s a t) where
+    pub grant-permits : a .satisfied ≡ true → EvaluatesBy (Grant hidden n o) T W at depth s (evalOf (permittedAt o at at 0) (a .next) (a .count)) t buf
+    grant-permits v = record {
+      room = c .room;
+      few = omega arith;
+      says = λ e. weaker (readPolicy (productSets .value) true (suc depth) (drop at W)) (λ p rest g.
+          let x = evalCondition T (g .inner) in
+          subst (λ q. Answered T W at s (evalOf (permittedAt o at at 0) (a .next) (a .count)) t buf q rest) (sym (g .policy-is)) (record {
+            decision-is = permits-as buf (g .inner) (g .clause) rest (g .node) (g .outcome-is) x refl (sym (g .answer .satisfied-is) ∙ v);
+            sound = sound-permitted W buf o at (reads (grant (g .clause) (g .inner)) rest (g .node));
+            next-is = g .answer .next-is ∙ sym (g .words-are);
+            log = consults-as (λ l. refl) (g .answer .log);
+          })) (grant-known a s t c e);
+    }
+
+    pub grant-denies : a .satisfied ≡ false → EvaluatesBy (Grant hidden n o) T W at depth s (evalOf (deniedAt at (length W)) (a .next) (a .count)) t buf
+    grant-denies v = record {
+      room = c .room;
+      few = omega arith;
+      says = λ e. weaker (readPolicy (productSets .value) true (suc depth) (drop at W)) (λ p rest g.
+          let x = evalCondition T (g .inner) in
+          subst (λ q. Answered T W at s (evalOf (deniedAt at (length W)) (a .next) (a .count)) t buf q rest) (sym (g .policy-is)) (record {
+            decision-is = denies-as buf (g .inner) (g .clause) rest (g .node) (g .outcome-is) x refl (sym (g .answer .satisfied-is) ∙ v);
+            sound = sound-denied W buf at (length W) (reads (grant (g .clause) (g .inner)) rest (g .node)) (omega arith);
+            next-is = g .answer .next-is ∙ sym (g .words-are);
+            log = consults-as (λ l. refl) (g .answer .log);
+          })) (grant-known a s t c e);
+    }
+
+-- ---- stored decisions
+module _ (T : Table) (W : List ℕ) (at depth : ℕ) (lt : at < length W) (deep : depth < 32) where
+  -- Word two, word three.
+  after-first : (i j : ℕ) → at + 1 + i ≡ j → getD (drop (at + 1) W) i 0 ≡ getD W j 0
+  after-first i j e = getD-drop (at + 1) W i 0 ∙ ap (λ k. getD W k 0) e
+
+  module _ (n o : ℕ) (s : Lent) (buf : List ℕ) where
+    pub permit-short : (r : PolicyEval) → r .decision .count ≤ 64 → length W - at < 2 + (n + 3) / 4 + (getD W (at + 1) 0 % 4096 + 1) / 2 →
+        EvaluatesBy (PermitWithTrace n o) T W at depth s r s buf
+    unfolding policyNode
+    permit-short r few h = record {
+      room = refl;
+      few = few;
+      says = λ e. node-holds W at depth (PermitWithTrace n o) lt e
+          (weaker _ (λ p rest g.
+          let w : getD (drop (at + 1) W) 0 0 ≡ getD W (at + 1) 0 = after-first 0 (at + 1) (omega arith) in
+          absurd (omega (arith, g .fits, length-drop (at + 1) W, w))) (permit-reads n o (drop (at + 1) W)));
+    }
+
+    pub permit-stored : (next count : ℕ) → next ≡ at + (2 + (n + 3) / 4 + (getD W (at + 1) 0 % 4096 + 1) / 2) →
+        EvaluatesBy (PermitWithTrace n o) T W at depth s (evalOf (permittedAt o at at 0) next count) s buf
+    unfolding policyNode
+    permit-stored next count i = record {
+      room = refl;
+      few = omega arith;
+      says = λ e. weaker (readPolicy (productSets .value) true (suc depth) (drop at W)) (λ p rest h.
+          let g = h .1 in
+          let w : getD (drop (at + 1) W) 0 0 ≡ getD W (at + 1) 0 = after-first 0 (at + 1) (omega arith) in
+          let node : nodeAt W at ≡ got (stored (permits (g .was))) rest = node-reads W at (suc depth) true (stored (permits (g .was))) rest (omega arith) (h .0 ∙ ap (λ x. got x rest) (g .policy-is)) in
+          subst (λ q. Answered T W at s (evalOf (permittedAt o at at 0) next count) s buf q rest) (sym (g .policy-is)) (record {
+            decision-is = ap (λ x. decisionOf W T buf (permittedAt x at at 0)) (sym (g .outcome-is)) ∙ permitted-stored W T buf at (g .was) rest node;
+            sound = sound-permitted W buf o at (reads (stored (permits (g .was))) rest node);
+            next-is = omega (arith, i, g .long, g .facts-long, w);
+            log = consults-as (λ l. refl) consults-none;
+          }))
+          (node-knows W at depth (PermitWithTrace n o) lt e (permit-reads n o (drop (at + 1) W)));
+    }
+
+  module _ (hidden denied : Bool) (o : ℕ) (s : Lent) (buf : List ℕ) where
+    pub deny-short : (r : PolicyEval) → r .decision .count ≤ 64 → length W - at < 3 + (getD W (at + 2) 0 % 4096 + 1) / 2 → EvaluatesBy (DenyWithTrace hidden denied o) T W at depth s r s buf
+    unfolding policyNode
+    deny-short r few h = record {
+      room = refl;
+      few = few;
+      says = λ e. node-holds W at depth (DenyWithTrace hidden denied o) lt e
+          (weaker _ (λ p rest g.
+          let w : getD (drop (at + 1) W) 1 0 ≡ getD W (at + 2) 0 = after-first 1 (at + 2) (omega arith) in
+          absurd (omega (arith, g .fits, length-drop (at + 1) W, w))) (deny-reads hidden denied o (drop (at + 1) W)));
+    }
+
+    pub deny-stored : (next count : ℕ) → next ≡ at + (3 + (getD W (at + 2) 0 % 4096 + 1) / 2) →
+        EvaluatesBy (DenyWithTrace hidden denied o) T W at depth s (evalOf (deniedAt at (length W)) next count) s buf
+    unfolding policyNode
+    deny-stored next count i = record {
+      room = refl;
+      few = omega arith;
+      says = λ e. weaker (readPolicy (productSets .value) true (suc depth) (drop at W)) (λ p rest h.
+          let g = h .1 in
+          let w : getD (drop (at + 1) W) 1 0 ≡ getD W (at + 2) 0 = after-first 1 (at + 2) (omega arith) in
+          let node : nodeAt W at ≡ got (stored (denies (g .was))) rest = node-reads W at (suc depth) true (stored (denies (g .was))) rest (omega arith) (h .0 ∙ ap (λ x. got x rest) (g .policy-is)) in
+          subst (λ q. Answered T W at s (evalOf (deniedAt at (length W)) next count) s buf q rest) (sym (g .policy-is)) (record {
+            decision-is = denied-stored W T buf at (length W) (g .was) rest node;
+            sound = sound-denied W buf at (length W) (reads (stored (denies (g .was))) rest node) (omega arith);
+            next-is = omega (arith, i, g .facts-long, w);
+            log = consults-as (λ l. refl) consults-none;
+          }))
+          (node-knows W at depth (DenyWithTrace hidden denied o) lt e (deny-reads hidden denied o (drop (at + 1) W)));
+    }

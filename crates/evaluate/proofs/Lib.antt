@@ -1,0 +1,4 @@
+pub mod Nodes
+pub mod Folds
+pub mod Evaluating
+pub mod Arms

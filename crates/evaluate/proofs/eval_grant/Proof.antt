@@ -1,0 +1,79 @@
+-- `evaluate::eval_grant` meets its contract: by whether its words end early, and whether its condition is satisfied. Assumes nothing.
+use native.Mathlib.Omega.{arith}
+use Rattle.evaluate.proofs.Evaluating.{grant-short, grant-permits, grant-denies}
+use borrow.Author.Needs.{needs}
+use Rattle.evaluate.proofs.eval_grant.Statement.{statement}
+use Rattle.evaluate.proofs.eval_grant.Tie as tie
+
+add-before : tie.Need-add-before
+add-before c = search needs
+
+add-before-2 : tie.Need-add-before-2
+add-before-2 c = search needs
+
+sub-if1 : tie.Need-sub-if1
+sub-if1 c = search needs
+
+denied-requires : tie.Need-denied-requires
+denied-requires c κs = search needs
+
+returns : tie.Need-returns
+returns c =
+    let start = c .before .before .before .before .before .before in
+    λ hidden buf. rw (c .denied .ensures) (grant-short _ _ _ _ hidden _ _ (start .pre .1) (start .pre .2) _ _ buf (omega arith) (c .before .if1 .taken))
+
+add-eval-condition : tie.Need-add-eval-condition
+add-eval-condition c = search needs
+
+eval-condition-requires : tie.Need-eval-condition-requires
+eval-condition-requires c κs = search needs
+
+permitted-by-requires : tie.Need-permitted-by-requires
+permitted-by-requires c κs = search needs
+
+same-length : tie.Need-same-length
+same-length c = search needs
+
+same-length-2 : tie.Need-same-length-2
+same-length-2 c = search needs
+
+returns-2 : tie.Need-returns-2
+returns-2 c =
+    let call = c .before .before .before .before .before .before in
+    let start = call .before .before .before .before .before .before .before .before in
+    λ hidden buf. rw (c .permitted-by .ensures) (grant-permits _ _ _ _ hidden _ _ (start .pre .1) (start .pre .2) _ _ _ buf (call .eval-condition .ensures) (c .before .if2 .taken))
+
+denied-by-requires : tie.Need-denied-by-requires
+denied-by-requires c κs = search needs
+
+same-length-3 : tie.Need-same-length-3
+same-length-3 c = search needs
+
+same-length-4 : tie.Need-same-length-4
+same-length-4 c = search needs
+
+returns-3 : tie.Need-returns-3
+returns-3 c =
+    let call = c .before .before .before .before .before .before in
+    let start = call .before .before .before .before .before .before .before .before in
+    λ hidden buf. rw (c .denied-by .ensures) (grant-denies _ _ _ _ hidden _ _ (start .pre .1) (start .pre .2) _ _ _ buf (call .eval-condition .ensures) (c .before .if2 .left))
+
+pub eval-grant-spec : {M : Type 1} → statement M
+eval-grant-spec =
+    tie.close
+    (tie.spec
+    add-before
+    add-before-2
+    sub-if1
+    denied-requires
+    returns
+    add-eval-condition
+    eval-condition-requires
+    permitted-by-requires
+    same-length
+    same-length-2
+    returns-2
+    denied-by-requires
+    same-length-3
+    same-length-4
+    returns-3)

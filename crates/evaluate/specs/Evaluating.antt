@@ -1,0 +1,55 @@
+-- What the evaluation of policies answers, and what it leaves in the list and the buffer that it is lent.
+use mathlib.Core.Path.{_≡_}
+use mathlib.Core.Bool.{Bool, true}
+use mathlib.Core.List.{List}
+use Prim.Native.Nat.{ℕ, suc, _+_, _≤_}
+use lib.ListN.{drop, getD}
+use Rattle.model.specs.Facts.{Table}
+use Rattle.model.specs.Outcome.{productSets}
+use Rattle.model.specs.Decision.{Decision as Decided}
+use Rattle.model.specs.Evaluate.{evalPolicy}
+use Rattle.model.specs.Consulted.{Consulted, read}
+use Rattle.model.specs.Reading.{readPolicy}
+use Rattle.laws.specs.FieldLaws.{Holds}
+use Rattle.laws.specs.Size.{words}
+use Rattle.policy_model.specs.declared.PolicyHead.{PolicyHead}
+use Rattle.policy_model.specs.Heads.{policyHead}
+use Rattle.condition.specs.Listing.{Lent, most, Consults}
+use Rattle.decision.specs.declared.Decision.{Decision}
+use Rattle.decision.specs.Meaning.{decisionOf, Sound}
+use Rattle.evaluate.specs.declared.PolicyEval.{PolicyEval}
+use Rattle.evaluate.specs.Folding.{meetNext}
+
+abbrev pub evalOf : Decision → ℕ → ℕ → PolicyEval
+evalOf decision next count = record { decision = decision; next = next; count = count }
+
+-- The answer to what comes to D, takes the words up to `end` and consults as `reads` does. `buf` is the buffer afterwards.
+pub record Answers (T : Table) (W : List ℕ) (D : Decided ℕ) (end : ℕ) (reads : Consulted → Consulted) (s : Lent) (r : PolicyEval) (t : Lent) (buf : List ℕ) : Type 0 where
+  pub decision-is : decisionOf W T buf (r .decision) ≡ D
+  pub sound : Sound W buf (r .decision)
+  pub next-is : r .next ≡ end
+  pub log : Consults reads s t
+
+-- The answer to a policy at `at`, of at most `depth` levels, in a sheet or a residual. Of words that don't read only the room is said.
+pub record EvaluatesP (T : Table) (W : List ℕ) (at depth : ℕ) (s : Lent) (r : PolicyEval) (t : Lent) (buf : List ℕ) : Type 0 where
+  pub room : most t ≡ most s
+  pub few : r .decision .count ≤ 64
+  pub says : (res : Bool) → Holds (λ p rest. Answers T W (evalPolicy productSets T p) (at + words p) (read productSets T p) s r t buf) (readPolicy (productSets .value) res depth (drop at W))
+
+-- The same where its first word has this head and `depth` levels are left for what stands below.
+pub record EvaluatesBy (h : PolicyHead) (T : Table) (W : List ℕ) (at depth : ℕ) (s : Lent) (r : PolicyEval) (t : Lent) (buf : List ℕ) : Type 0 where
+  pub room : most t ≡ most s
+  pub few : r .decision .count ≤ 64
+  pub says : h ≡ policyHead (getD W at 0) true →
+      Holds (λ p rest. Answers T W (evalPolicy productSets T p) (at + words p) (read productSets T p) s r t buf) (readPolicy (productSets .value) true (suc depth) (drop at W))
+
+-- The decision so far and that of one more arm, each with its buffer, come to r, with its buffer.
+pub record Folds (fold : Decided ℕ → Decided ℕ → Decided ℕ) (W : List ℕ) (sofar : Decision) (before : List ℕ) (incoming : Decision) (part : List ℕ) (r : Decision) (after : List ℕ) : Type 0 where
+  pub few : r .count ≤ 64
+  pub sound : Sound W before sofar → Sound W part incoming → Sound W after r
+  pub folded : Sound W before sofar → Sound W part incoming → (T : Table) → decisionOf W T after r ≡ fold (decisionOf W T before sofar) (decisionOf W T part incoming)
+
+-- Under All, an arm that permits. The buffer of the decision so far is the front, that of the arm starts at 64.
+pub record Met (W : List ℕ) (sofar incoming : Decision) (before : List ℕ) (r : Decision) (after : List ℕ) : Type 0 where
+  pub few : r .count ≤ 64
+  pub folds : incoming .permit ≡ true → Folds meetNext W sofar before incoming (drop 64 before) r after

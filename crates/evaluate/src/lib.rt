@@ -1,0 +1,356 @@
+// Evaluation of policies, after gatekeep's evaluate.rs. A policy hands its arms to the list rule, and the list rule hands each arm back.
+// Lent down the walk: the consulted list (`entries`, of which the first `count` are in use, and `seen`, a flag for each fact), and `buf`,
+// 64 bytes for each level that is left and 64 more, where a list rule keeps united obligations at the front and lends the tail to its arms.
+// A sheet is read as a residual is: where nodes 12 and 13 don't stand, it makes no difference that they may.
+use decision::Decision;
+use policy_model::PolicyHead;
+ghost use mathlib.Core.Path.{_≡_};
+ghost use mathlib.Core.Bool.{Bool};
+ghost use mathlib.Core.List.{List};
+ghost use Prim.Native.Nat.{ℕ, _+_, _*_, _≤_, _<_};
+ghost use lib.ListN.{length, drop};
+ghost use Rattle.model.specs.Facts.{Table, tableOf};
+ghost use Rattle.policy_model.specs.declared.PolicyHead.the-variants.{Grant, All, Any, OrElse, PermitWithTrace, DenyWithTrace};
+ghost use Rattle.condition.specs.Listing.{lent, Room};
+ghost use Rattle.decision.specs.Meaning.{deniedAt, permittedAt};
+ghost use Rattle.evaluate.specs.Folding.{joinNext};
+ghost use Rattle.evaluate.specs.Evaluating.{evalOf, EvaluatesP, EvaluatesBy, Met, Folds};
+
+// What was decided, the position after the policy's words, and how many entries are in use.
+pub struct PolicyEval {
+    pub decision: Decision,
+    pub next: usize,
+    pub count: usize,
+}
+
+// A list rule keeps so many bytes at the front of the buffer.
+const OBLIGATIONS: usize = 64;
+
+// A deny with nothing named: the answer to a Deny, and to words that don't read.
+fn denied(none: usize, next: usize, count: usize) -> PolicyEval
+    ensures { λ r. ⌜ r ≡ evalOf (deniedAt none none) next count ⌝ }
+{
+    PolicyEval {
+        decision: decision::denied(none),
+        next,
+        count,
+    }
+}
+
+// A permit with nothing but its outcome.
+fn permitted(outcome: u16, none: usize, next: usize, count: usize) -> PolicyEval
+    ensures { λ r. ⌜ r ≡ evalOf (permittedAt outcome none none 0) next count ⌝ }
+{
+    PolicyEval {
+        decision: decision::permitted(outcome, none),
+        next,
+        count,
+    }
+}
+
+// The decision so far and one more permit under All. The first permit is taken as it is.
+fn met(words: &[u32], sofar: Decision, incoming: Decision, buf: &mut [u8]) -> Decision
+    requires { ⌜ (sofar .count ≤ 64) × (incoming .count ≤ 64) × (128 ≤ length (now buf)) ⌝ }
+    ensures { λ r. ⌜ Met (now (words .entry)) sofar incoming (now (buf .entry)) r (now (buf .exit)) ⌝ }
+{
+    if sofar.permit {
+        return decision::meet(words, sofar, incoming, buf);
+    }
+    decision::keep(incoming, buf)
+}
+
+// The decision so far and one more under Any; `begun` says whether there was an arm before. Permits are joined, and of two denies the first stands.
+fn joined(
+    words: &[u32],
+    sofar: Decision,
+    begun: bool,
+    incoming: Decision,
+    buf: &mut [u8],
+) -> Decision
+    requires { ⌜ (sofar .count ≤ 64) × (incoming .count ≤ 64) × (128 ≤ length (now buf)) ⌝ }
+    ensures { λ r. ⌜ Folds (joinNext begun) (now (words .entry)) sofar (now (buf .entry)) incoming (drop 64 (now (buf .entry))) r (now (buf .exit)) ⌝ }
+{
+    if !begun {
+        return decision::keep(incoming, buf);
+    }
+    if !incoming.permit {
+        return sofar;
+    }
+    if sofar.permit {
+        return decision::join(words, sofar, incoming, buf);
+    }
+    decision::keep(incoming, buf)
+}
+
+// A grant at `at`: permits its outcome where its condition is satisfied, else denies.
+fn eval_grant(
+    words: &[u32],
+    at: usize,
+    depth: usize,
+    obligations: u32,
+    outcome: u16,
+    facts: &[u8],
+    entries: &mut [u16],
+    seen: &mut [u8],
+    count: usize,
+) -> PolicyEval
+    requires { ⌜ Room (lent count (now entries) (now seen)) × (at < length (now words)) × (depth < 32) ⌝ }
+    ensures { λ r. ⌜ ((hidden : Bool) (buf : List ℕ) → EvaluatesBy (Grant hidden obligations outcome) (tableOf (now (facts .entry))) (now (words .entry)) at depth (lent count (now (entries .entry)) (now (seen .entry))) r (lent (r .count) (now (entries .exit)) (now (seen .exit))) buf) ⌝ }
+{
+    let none = words.len();
+    let before = 2 + (obligations as usize + 3) / 4;
+    if none - at < before {
+        return denied(none, at, count);
+    }
+    let condition = condition::eval_condition(
+        words,
+        at + before,
+        depth,
+        facts,
+        entries,
+        seen,
+        count,
+    );
+    let next = condition.next;
+    let listed = condition.count;
+    let satisfied = condition.satisfied;
+    if satisfied {
+        return PolicyEval {
+            decision: decision::permitted_by(outcome, at),
+            next,
+            count: listed,
+        };
+    }
+    PolicyEval {
+        decision: decision::denied_by(at, none),
+        next,
+        count: listed,
+    }
+}
+
+// A stored permit at `at`: word two ends with the count of its facts.
+fn stored_permit(
+    words: &[u32],
+    at: usize,
+    obligations: u32,
+    outcome: u16,
+    count: usize,
+) -> PolicyEval
+    requires { ⌜ at < length (now words) ⌝ }
+    ensures { λ r. ⌜ ((depth : ℕ) (T : Table) (entries seen buf : List ℕ) → depth < 32 → EvaluatesBy (PermitWithTrace obligations outcome) T (now (words .entry)) at depth (lent count entries seen) r (lent (r .count) entries seen) buf) ⌝ }
+{
+    let none = words.len();
+    let second = at + 1;
+    if none <= second {
+        return denied(none, at, count);
+    }
+    let facts = (words[second] % 4096) as usize;
+    let size = 2 + (obligations as usize + 3) / 4 + (facts + 1) / 2;
+    if none - at < size {
+        return denied(none, at, count);
+    }
+    PolicyEval {
+        decision: decision::permitted_by(outcome, at),
+        next: at + size,
+        count,
+    }
+}
+
+// A stored deny at `at`: word three is the count of its facts.
+fn stored_deny(words: &[u32], at: usize, count: usize) -> PolicyEval
+    requires { ⌜ at < length (now words) ⌝ }
+    ensures { λ r. ⌜ ((hidden denied : Bool) (outcome depth : ℕ) (T : Table) (entries seen buf : List ℕ) → depth < 32 → EvaluatesBy (DenyWithTrace hidden denied outcome) T (now (words .entry)) at depth (lent count entries seen) r (lent (r .count) entries seen) buf) ⌝ }
+{
+    let none = words.len();
+    if none - at < 3 {
+        return denied(none, at, count);
+    }
+    let third = at + 2;
+    let facts = (words[third] % 4096) as usize;
+    let size = 3 + (facts + 1) / 2;
+    if none - at < size {
+        return denied(none, at, count);
+    }
+    PolicyEval {
+        decision: decision::denied_by(at, none),
+        next: at + size,
+        count,
+    }
+}
+
+// The policy at `at`, of at most `depth` levels.
+pub fn eval_policy(
+    words: &[u32],
+    at: usize,
+    depth: usize,
+    facts: &[u8],
+    entries: &mut [u16],
+    seen: &mut [u8],
+    count: usize,
+    buf: &mut [u8],
+) -> PolicyEval
+    requires { ⌜ Room (lent count (now entries) (now seen)) × (depth ≤ 32) × (64 * (depth + 1) ≤ length (now buf)) × (length (now words) ≤ 16384) ⌝ }
+    ensures { λ r. ⌜ EvaluatesP (tableOf (now (facts .entry))) (now (words .entry)) at depth (lent count (now (entries .entry)) (now (seen .entry))) r (lent (r .count) (now (entries .exit)) (now (seen .exit))) (now (buf .exit)) ⌝ }
+{
+    let none = words.len();
+    if none <= at {
+        return denied(none, at, count);
+    }
+    if depth == 0 {
+        return denied(none, at, count);
+    }
+    let next = at + 1;
+    let below = depth - 1;
+    match policy_model::policy_head(words[at], true) {
+        PolicyHead::Permit(outcome) => permitted(outcome, none, next, count),
+        PolicyHead::Deny => denied(none, next, count),
+        PolicyHead::Grant {
+            hidden: _,
+            obligations: held,
+            outcome,
+        } => { eval_grant(words, at, below, held, outcome, facts, entries, seen, count) }
+        PolicyHead::All(arms) => {
+            eval_all(words, at, below, arms, facts, entries, seen, count, buf)
+        }
+        PolicyHead::Any(arms) => {
+            eval_any(words, at, below, arms, facts, entries, seen, count, buf)
+        }
+        PolicyHead::OrElse => { eval_or_else(words, at, below, facts, entries, seen, count, buf) }
+        PolicyHead::PermitWithTrace {
+            obligations,
+            outcome,
+        } => { stored_permit(words, at, obligations, outcome, count) }
+        PolicyHead::DenyWithTrace {
+            hidden: _,
+            denied: _,
+            outcome: _,
+        } => { stored_deny(words, at, count) }
+        PolicyHead::BadKind => denied(none, at, count),
+        PolicyHead::BadField => denied(none, at, count),
+    }
+}
+
+// The All at `at`, whose `arms` have at most `depth` levels: meets the permits, or denies with the first denying arm. Arms after that one aren't read.
+fn eval_all(
+    words: &[u32],
+    at: usize,
+    depth: usize,
+    arms: u32,
+    facts: &[u8],
+    entries: &mut [u16],
+    seen: &mut [u8],
+    count: usize,
+    buf: &mut [u8],
+) -> PolicyEval
+    requires { ⌜ Room (lent count (now entries) (now seen)) × (at < length (now words)) × (depth < 32) × (64 * (depth + 2) ≤ length (now buf)) × (length (now words) ≤ 16384) ⌝ }
+    ensures { λ r. ⌜ EvaluatesBy (All arms) (tableOf (now (facts .entry))) (now (words .entry)) at depth (lent count (now (entries .entry)) (now (seen .entry))) r (lent (r .count) (now (entries .exit)) (now (seen .exit))) (now (buf .exit)) ⌝ }
+{
+    let mut sofar = decision::denied(words.len());
+    let mut next = at + 1;
+    let mut listed = count;
+    let mut left = arms;
+    while left != 0 {
+        let arm = eval_policy(
+            words,
+            next,
+            depth,
+            facts,
+            entries,
+            seen,
+            listed,
+            &mut buf[OBLIGATIONS..],
+        );
+        next = arm.next;
+        listed = arm.count;
+        left -= 1;
+        let decision = arm.decision;
+        let permit = decision.permit;
+        if !permit {
+            return PolicyEval {
+                decision,
+                next: policy_model::skip_policies(words, next, left),
+                count: listed,
+            };
+        }
+        sofar = met(words, sofar, decision, buf);
+    }
+    PolicyEval {
+        decision: sofar,
+        next,
+        count: listed,
+    }
+}
+
+// The Any at `at`, whose `arms` have at most `depth` levels: joins the permits, or denies with the first deny. Every arm is read.
+fn eval_any(
+    words: &[u32],
+    at: usize,
+    depth: usize,
+    arms: u32,
+    facts: &[u8],
+    entries: &mut [u16],
+    seen: &mut [u8],
+    count: usize,
+    buf: &mut [u8],
+) -> PolicyEval
+    requires { ⌜ Room (lent count (now entries) (now seen)) × (at < length (now words)) × (depth < 32) × (64 * (depth + 2) ≤ length (now buf)) × (length (now words) ≤ 16384) ⌝ }
+    ensures { λ r. ⌜ EvaluatesBy (Any arms) (tableOf (now (facts .entry))) (now (words .entry)) at depth (lent count (now (entries .entry)) (now (seen .entry))) r (lent (r .count) (now (entries .exit)) (now (seen .exit))) (now (buf .exit)) ⌝ }
+{
+    let mut sofar = decision::denied(words.len());
+    let mut begun = false;
+    let mut next = at + 1;
+    let mut listed = count;
+    let mut left = arms;
+    while left != 0 {
+        let arm = eval_policy(
+            words,
+            next,
+            depth,
+            facts,
+            entries,
+            seen,
+            listed,
+            &mut buf[OBLIGATIONS..],
+        );
+        next = arm.next;
+        listed = arm.count;
+        left -= 1;
+        let decision = arm.decision;
+        sofar = joined(words, sofar, begun, decision, buf);
+        begun = true;
+    }
+    PolicyEval {
+        decision: sofar,
+        next,
+        count: listed,
+    }
+}
+
+// The OrElse at `at`, whose two policies have at most `depth` levels: the fallback is read only where the primary denies.
+fn eval_or_else(
+    words: &[u32],
+    at: usize,
+    depth: usize,
+    facts: &[u8],
+    entries: &mut [u16],
+    seen: &mut [u8],
+    count: usize,
+    buf: &mut [u8],
+) -> PolicyEval
+    requires { ⌜ Room (lent count (now entries) (now seen)) × (at < length (now words)) × (depth < 32) × (64 * (depth + 1) ≤ length (now buf)) × (length (now words) ≤ 16384) ⌝ }
+    ensures { λ r. ⌜ EvaluatesBy OrElse (tableOf (now (facts .entry))) (now (words .entry)) at depth (lent count (now (entries .entry)) (now (seen .entry))) r (lent (r .count) (now (entries .exit)) (now (seen .exit))) (now (buf .exit)) ⌝ }
+{
+    let primary = eval_policy(words, at + 1, depth, facts, entries, seen, count, buf);
+    let next = primary.next;
+    let listed = primary.count;
+    let decision = primary.decision;
+    let permitted = decision.permit;
+    if permitted {
+        return PolicyEval {
+            decision,
+            next: policy_model::skip_policies(words, next, 1),
+            count: listed,
+        };
+    }
+    eval_policy(words, next, depth, facts, entries, seen, listed, buf)
+}

@@ -1,0 +1,14 @@
+-- What an exported call returns: document 01's number times 2^32, 0 when accepted, and the call's value.
+use mathlib.Core.Path.{_≡_}
+use mathlib.Core.List.{List}
+use Prim.Native.Nat.{ℕ, _+_, _*_, _^_}
+use Rattle.model.specs.Required.{Required}
+use Rattle.required.specs.Answers.{setAfter}
+
+abbrev pub returned : ℕ → ℕ → ℕ
+returned number value = number * 2 ^ 32 + value
+
+-- Required facts: the count, and the set afterwards; a set that doesn't have sixteen numbers is left as it was.
+pub record Requires (m : Required) (before after : List ℕ) (r : ℕ) : Type 0 where
+  pub answer : r ≡ returned (m .number) (m .count)
+  pub set-is : after ≡ setAfter before (m .set)

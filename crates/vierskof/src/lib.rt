@@ -1,0 +1,34 @@
+// The exported C interface. A slice passes as a pointer and an element count. A call returns one number: that of the refusal times 2^32, or 0
+// when it is accepted, and the call's value.
+use required::Required;
+ghost use Rattle.model.specs.Outcome.{productSets};
+ghost use Rattle.model.specs.Required.{requiredFacts, requiredResidualFacts};
+ghost use Rattle.vierskof.specs.Answers.{Requires, returned};
+ghost use mathlib.Core.Path.{_≡_};
+ghost use Rattle.required.specs.Answers.{numberOf, countOf};
+
+// The number of the refusal and the count, as one number.
+fn counted(facts: Required) -> u64
+    ensures { λ r. ⌜ r ≡ returned (numberOf facts) (countOf facts) ⌝ }
+{
+    match facts {
+        Required::Facts(count) => count as u64,
+        Required::Refused(number) => (number as u64) * 4294967296,
+    }
+}
+
+// The facts that a sheet names: their count, and their set in `set`, sixteen numbers, fact 0 the top bit of the first.
+#[no_mangle]
+pub extern "C" fn vierskof_required_facts(sheet: &[u32], set: &mut [u64]) -> u64
+    ensures { λ r. ⌜ Requires (requiredFacts productSets (now (sheet .entry))) (now (set .entry)) (now (set .exit)) r ⌝ }
+{
+    counted(required::required_facts(sheet, set))
+}
+
+// The same of a record's tree.
+#[no_mangle]
+pub extern "C" fn vierskof_required_residual_facts(residual: &[u32], set: &mut [u64]) -> u64
+    ensures { λ r. ⌜ Requires (requiredResidualFacts productSets (now (residual .entry))) (now (set .entry)) (now (set .exit)) r ⌝ }
+{
+    counted(required::required_residual_facts(residual, set))
+}

@@ -3,6 +3,7 @@ use mathlib.Core.Path.{_≡_}
 use mathlib.Core.List.{List}
 use Prim.Native.Nat.{ℕ, _+_, _*_, _^_}
 use Rattle.model.specs.Required.{Required}
+use Rattle.model.specs.Calls.{Answer, numberOf, writtenOf, afterwards}
 use Rattle.required.specs.Answers.{setAfter}
 
 abbrev pub returned : ℕ → ℕ → ℕ
@@ -12,3 +13,8 @@ returned number value = number * 2 ^ 32 + value
 pub record Requires (m : Required) (before after : List ℕ) (r : ℕ) : Type 0 where
   pub answer : r ≡ returned (m .number) (m .count)
   pub set-is : after ≡ setAfter before (m .set)
+
+-- A call that writes: the words written, and the output afterwards.
+pub record Writes (a : Answer) (before after : List ℕ) (r : ℕ) : Type 0 where
+  pub answer : r ≡ returned (numberOf a) (writtenOf a)
+  pub output-is : after ≡ afterwards a before

@@ -1,11 +1,25 @@
 // The exported C interface. A slice passes as a pointer and an element count. A call returns one number: that of the refusal times 2^32, or 0
 // when it is accepted, and the call's value.
+use calls::Answer;
 use required::Required;
 ghost use Rattle.model.specs.Outcome.{productSets};
 ghost use Rattle.model.specs.Required.{requiredFacts, requiredResidualFacts};
-ghost use Rattle.vierskof.specs.Answers.{Requires, returned};
+ghost use Rattle.model.specs.Calls.{evaluate};
 ghost use mathlib.Core.Path.{_≡_};
+ghost use lib.ListN.{length};
+ghost use Rattle.calls.specs.Answers.{numberOf as Calls·numberOf, writtenOf};
 ghost use Rattle.required.specs.Answers.{numberOf, countOf};
+ghost use Rattle.vierskof.specs.Answers.{Requires, Writes, returned};
+
+// The number of the refusal and the words written, as one number.
+fn written(answer: Answer) -> u64
+    ensures { λ r. ⌜ r ≡ returned (Calls·numberOf answer) (writtenOf answer) ⌝ }
+{
+    match answer {
+        Answer::Written(words) => words as u64,
+        Answer::Refused(number) => (number as u64) * 4294967296,
+    }
+}
 
 // The number of the refusal and the count, as one number.
 fn counted(facts: Required) -> u64
@@ -15,6 +29,14 @@ fn counted(facts: Required) -> u64
         Required::Facts(count) => count as u64,
         Required::Refused(number) => (number as u64) * 4294967296,
     }
+}
+
+// Decides a sheet with a known table, and writes the record.
+#[no_mangle]
+pub extern "C" fn vierskof_evaluate(sheet: &[u32], facts: &[u8], out: &mut [u32]) -> u64
+    ensures { λ r. ⌜ Writes (evaluate productSets (now (sheet .entry)) (now (facts .entry)) (length (now (out .entry)))) (now (out .entry)) (now (out .exit)) r ⌝ }
+{
+    written(calls::evaluate(sheet, facts, out))
 }
 
 // The facts that a sheet names: their count, and their set in `set`, sixteen numbers, fact 0 the top bit of the first.

@@ -1,0 +1,93 @@
+// The calls, after gatekeep's evaluate: words and bytes in, a record of words out, or a numbered refusal that leaves the output as it was.
+use decision::Decision;
+use facts::TableFault;
+use policy_model::SheetCheck;
+ghost use Prim.Native.Nat.{_≤_};
+ghost use lib.ListN.{length};
+ghost use Rattle.model.specs.Facts.{tableOf};
+ghost use Rattle.model.specs.Outcome.{productSets};
+ghost use Rattle.model.specs.Calls.{evaluate as Calls·evaluate};
+ghost use Rattle.calls.specs.Answers.{Answered, Put, Decides};
+
+// How many words were written, or the number of the refusal.
+pub enum Answer {
+    Written(usize),
+    Refused(u32),
+}
+
+// Writes the Resolved record of a decision and the consulted entries in use, if there is room for it. Its length is known before a word changes.
+fn put_record(
+    words: &[u32],
+    decision: Decision,
+    facts: &[u8],
+    entries: &[u16],
+    count: usize,
+    buf: &mut [u8],
+    named: &mut [u16],
+    out: &mut [u32],
+) -> Answer
+    requires { ⌜ (decision .count ≤ 64) × (64 ≤ length (now buf)) × (length (now words) ≤ length (now named)) × (4095 ≤ length (now named)) × (count ≤ length (now entries)) × (length (now entries) ≤ 1024) ⌝ }
+    ensures { λ r. ⌜ Put (now (words .entry)) (tableOf (now (facts .entry))) (now (buf .entry)) decision (now (entries .entry)) count (now (out .entry)) (now (out .exit)) r ⌝ }
+{
+    let held = decision::obligations(words, decision, buf);
+    let facts_named = clause::clause_facts(words, decision.clause, facts, named);
+    if facts_named > 4095 {
+        return Answer::Refused(11);
+    }
+    let size = clause::decision_words(decision.permit, held, facts_named);
+    if out.len() < 1 + (count + 1) / 2 + size {
+        return Answer::Refused(11);
+    }
+    let front = record::write_front(true, entries, count, out);
+    let rest = clause::write_decision(
+        words,
+        decision,
+        buf,
+        held,
+        named,
+        facts_named,
+        &mut out[front..],
+    );
+    Answer::Written(front + rest)
+}
+
+// Decides a sheet that was checked.
+fn decide(sheet: &[u32], facts: &[u8], out: &mut [u32]) -> Answer
+    requires { ⌜ length (now sheet) ≤ 4096 ⌝ }
+    ensures { λ r. ⌜ Decides (now (sheet .entry)) (tableOf (now (facts .entry))) (now (out .entry)) (now (out .exit)) r ⌝ }
+{
+    let mut entries = [0u16; 1024];
+    let mut seen = [0u8; 1024];
+    let mut buf = [0u8; 2112];
+    let mut named = [0u16; 4096];
+    let eval = evaluate::eval_policy(sheet, 0, 32, facts, &mut entries, &mut seen, 0, &mut buf);
+    put_record(
+        sheet,
+        eval.decision,
+        facts,
+        &entries,
+        eval.count,
+        &mut buf,
+        &mut named,
+        out,
+    )
+}
+
+// Decides a sheet with a known table.
+pub fn evaluate(sheet: &[u32], facts: &[u8], out: &mut [u32]) -> Answer
+    ensures { λ r. ⌜ Answered (Calls·evaluate productSets (now (sheet .entry)) (now (facts .entry)) (length (now (out .entry)))) (now (out .entry)) (now (out .exit)) r ⌝ }
+{
+    if sheet.len() == 0 {
+        return Answer::Refused(1);
+    }
+    if sheet.len() > 4096 {
+        return Answer::Refused(1);
+    }
+    match facts::known_fault(facts) {
+        TableFault::Refused(number) => Answer::Refused(number),
+        TableFault::Faultless => match policy_model::check_sheet(sheet) {
+            SheetCheck::Refused(number) => Answer::Refused(number),
+            SheetCheck::Accepted => decide(sheet, facts, out),
+        },
+    }
+}

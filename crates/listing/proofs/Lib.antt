@@ -1,0 +1,4 @@
+pub mod Fields
+pub mod Digits
+pub mod Lists
+pub mod Words

@@ -1,0 +1,70 @@
+-- `listing::put_presence` meets its contract: by the presence. Assumes nothing.
+use mathlib.Core.Path.{sym, ap}
+use mathlib.Core.List.{_∷_}
+use Rattle.model.specs.Facts.{presence}
+use Rattle.model.specs.Listing.{text, presenceText}
+use Rattle.listing.specs.Writers.{copied, wrote-as}
+use Rattle.listing.proofs.Fields.{other-presence}
+use borrow.Author.Needs.{needs}
+use Rattle.listing.proofs.put_presence.Statement.{statement}
+use Rattle.listing.proofs.put_presence.Tie as tie
+
+slice-aggregate-copy : tie.Need-slice-aggregate-copy
+slice-aggregate-copy c = search needs
+
+copy-requires : tie.Need-copy-requires
+copy-requires c κs = search needs
+
+slice-aggregate-copy-2 : tie.Need-slice-aggregate-copy-2
+slice-aggregate-copy-2 c = search needs
+
+copy-requires-2 : tie.Need-copy-requires-2
+copy-requires-2 c κs = search needs
+
+slice-aggregate-copy-3 : tie.Need-slice-aggregate-copy-3
+slice-aggregate-copy-3 c = search needs
+
+copy-requires-3 : tie.Need-copy-requires-3
+copy-requires-3 c κs = search needs
+
+same-length : tie.Need-same-length
+same-length c = search needs
+
+returns : tie.Need-returns
+returns c =
+    let put = c .before .before .copy .ensures in
+    wrote-as (ap (λ p. 61 ∷ presenceText (presence p)) (sym (c .before .before .before .before .before .match .keys1))) (copied (text "=absent") (put .0) (put .1))
+
+same-length-2 : tie.Need-same-length-2
+same-length-2 c = search needs
+
+returns-2 : tie.Need-returns-2
+returns-2 c =
+    let put = c .before .before .copy2 .ensures in
+    wrote-as (ap (λ p. 61 ∷ presenceText (presence p)) (sym (c .before .before .before .before .before .match .keys2))) (copied (text "=present") (put .0) (put .1))
+
+same-length-3 : tie.Need-same-length-3
+same-length-3 c = search needs
+
+returns-3 : tie.Need-returns-3
+returns-3 c =
+    let put = c .before .before .copy3 .ensures in
+    let rest = c .before .before .before .before .before .match .rest in
+    wrote-as (ap (λ p. 61 ∷ presenceText p) (other-presence _ (rest .0 .1) (rest .1))) (copied (text "=unknown") (put .0) (put .1))
+
+pub put-presence-spec : {M : Type 1} → statement M
+put-presence-spec =
+    tie.close
+    (tie.spec
+    slice-aggregate-copy
+    copy-requires
+    slice-aggregate-copy-2
+    copy-requires-2
+    slice-aggregate-copy-3
+    copy-requires-3
+    same-length
+    returns
+    same-length-2
+    returns-2
+    same-length-3
+    returns-3)

@@ -1,0 +1,5 @@
+pub mod Texts
+pub mod Writers
+pub mod ListTexts
+pub mod RecordTexts
+pub mod Inputs

@@ -2,7 +2,7 @@
 //!
 //! [`words`] is document 01's format, [`reference`] the nine calls, [`listing`] the listing's
 //! bytes. [`generate`] makes cases for them from a seed; [`answers`] and [`rows`] write cases with
-//! their answers as text.
+//! their answers as text. With the feature `proved`, `proved` compares the proved calls with them.
 
 pub mod answers;
 pub mod case;
@@ -10,6 +10,8 @@ pub mod generate;
 pub mod listing;
 pub mod narrow;
 pub mod products;
+#[cfg(feature = "proved")]
+pub mod proved;
 pub mod reference;
 pub mod refusal;
 pub mod rows;

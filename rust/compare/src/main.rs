@@ -33,6 +33,12 @@ enum Command {
     },
     /// The listing of a request on standard input, as the original decides it.
     Listing,
+    /// Compares the proved calls with the original, and shows the first case in which they differ.
+    #[cfg(feature = "proved")]
+    Proved {
+        #[command(flatten)]
+        sample: Sample,
+    },
 }
 
 #[derive(clap::Args)]
@@ -131,10 +137,36 @@ fn main() -> io::Result<()> {
             let made_by = format!("{} --part {}", sample.command("rows"), part.name());
             sample.write(&rows::file(&made_by, &sample.cases(part.calls())))
         }
+        #[cfg(feature = "proved")]
+        Command::Proved { sample } => proved(&sample),
         Command::Listing => {
             let mut request = Vec::new();
             io::Read::read_to_end(&mut io::stdin(), &mut request)?;
             io::Write::write_all(&mut io::stdout(), &listing(&request))
         }
     }
+}
+
+/// Cases are drawn in batches, so that a long run holds few of them at a time.
+#[cfg(feature = "proved")]
+fn proved(sample: &Sample) -> io::Result<()> {
+    use compare::proved::{CALLS, agrees};
+
+    const BATCH: usize = 20_000;
+    for (batch, first) in (0..sample.count).step_by(BATCH).enumerate() {
+        let count = BATCH.min(sample.count - first);
+        for case in cases::draw(sample.seed + batch as u64, count, &CALLS) {
+            if !agrees(&case) {
+                let line = answers::line(&case, &case.answer());
+                return Err(io::Error::other(format!(
+                    "differs from the original: {line}"
+                )));
+            }
+        }
+    }
+    println!(
+        "{} cases, seed {}: no difference",
+        sample.count, sample.seed
+    );
+    Ok(())
 }

@@ -5,6 +5,8 @@ mod files;
 mod limits;
 mod listing;
 mod original;
+#[cfg(feature = "proved")]
+mod proved;
 mod readings;
 mod stages;
 mod worked;

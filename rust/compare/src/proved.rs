@@ -1,0 +1,52 @@
+//! The proved calls against the original: answer, every word of the output before and after, sets and refusals.
+
+use crate::case::{Answer, Call, Case};
+use crate::refusal::Refusal;
+
+/// The calls that are proved so far.
+pub const CALLS: [Call; 3] = [
+    Call::Evaluate,
+    Call::RequiredFacts,
+    Call::RequiredResidualFacts,
+];
+
+/// Whether the proved call answers as the original does, and leaves what it must.
+pub fn agrees(case: &Case) -> bool {
+    let expected = case.answer();
+    match case.call {
+        Call::Evaluate => evaluates(case, &expected),
+        Call::RequiredFacts => requires(case, &expected, vierskof::required_facts),
+        Call::RequiredResidualFacts => requires(case, &expected, vierskof::required_residual_facts),
+        other => unreachable!("{} is not proved yet", other.name()),
+    }
+}
+
+fn evaluates(case: &Case, expected: &Result<Answer, Refusal>) -> bool {
+    // Words that no record has at these places, so that one that is wrongly written or left shows.
+    let before: Vec<u32> = (0x0F0F_0F0F..).take(case.room).collect();
+    let mut out = before.clone();
+    let found = vierskof::evaluate(&case.words, &case.table, &mut out);
+    match expected {
+        Ok(Answer::Record(record)) => {
+            found == Ok(record.len())
+                && out[..record.len()] == record[..]
+                && out[record.len()..] == before[record.len()..]
+        }
+        Ok(_) => false,
+        Err(refusal) => found == Err(u32::from(refusal.number())) && out == before,
+    }
+}
+
+fn requires(
+    case: &Case,
+    expected: &Result<Answer, Refusal>,
+    call: fn(&[u32], &mut vierskof::FactSet) -> Result<u32, u32>,
+) -> bool {
+    let mut set = [0xA5A5; 16];
+    let found = call(&case.words, &mut set);
+    match expected {
+        Ok(Answer::Facts(facts)) => found == Ok(facts.count()) && set == facts.0,
+        Ok(_) => false,
+        Err(refusal) => found == Err(u32::from(refusal.number())) && set == [0; 16],
+    }
+}

@@ -1,0 +1,76 @@
+//! The proved calls, as safe functions over `libvierskof.a`.
+//!
+//! A call answers its value, or the number of document 01's refusal; a refused call leaves its output as it was.
+
+mod c {
+    // Declared as the exported functions are: a slice passes as a pointer and an element count.
+    unsafe extern "C" {
+        pub fn vierskof_evaluate(
+            sheet: *const u32,
+            words: usize,
+            facts: *const u8,
+            bytes: usize,
+            out: *mut u32,
+            room: usize,
+        ) -> u64;
+        pub fn vierskof_required_facts(
+            sheet: *const u32,
+            words: usize,
+            set: *mut u64,
+            numbers: usize,
+        ) -> u64;
+        pub fn vierskof_required_residual_facts(
+            record: *const u32,
+            words: usize,
+            set: *mut u64,
+            numbers: usize,
+        ) -> u64;
+    }
+}
+
+/// Sixteen numbers, fact 0 the top bit of the first.
+pub type FactSet = [u64; 16];
+
+/// Decides a sheet with a known table, and answers how many words of `out` the record takes.
+pub fn evaluate(sheet: &[u32], facts: &[u8], out: &mut [u32]) -> Result<usize, u32> {
+    // SAFETY: each pointer comes from a slice with its own length, and the proved function reads and writes no further.
+    let returned = unsafe {
+        c::vierskof_evaluate(
+            sheet.as_ptr(),
+            sheet.len(),
+            facts.as_ptr(),
+            facts.len(),
+            out.as_mut_ptr(),
+            out.len(),
+        )
+    };
+    value(returned).map(|words| words as usize)
+}
+
+/// The facts that a sheet names, in `set`, and their count; refused, the set is empty.
+pub fn required_facts(sheet: &[u32], set: &mut FactSet) -> Result<u32, u32> {
+    // SAFETY: as above.
+    value(unsafe {
+        c::vierskof_required_facts(sheet.as_ptr(), sheet.len(), set.as_mut_ptr(), set.len())
+    })
+}
+
+/// The same of a record's tree.
+pub fn required_residual_facts(record: &[u32], set: &mut FactSet) -> Result<u32, u32> {
+    // SAFETY: as above.
+    value(unsafe {
+        c::vierskof_required_residual_facts(
+            record.as_ptr(),
+            record.len(),
+            set.as_mut_ptr(),
+            set.len(),
+        )
+    })
+}
+
+/// The upper half is the number of the refusal, 0 when accepted; the lower one is the value.
+fn value(returned: u64) -> Result<u32, u32> {
+    let number = (returned >> 32) as u32;
+    let value = (returned & 0xFFFF_FFFF) as u32;
+    if number == 0 { Ok(value) } else { Err(number) }
+}

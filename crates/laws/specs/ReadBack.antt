@@ -17,9 +17,10 @@ use Rattle.model.specs.Partial.{ReducedPolicy, resolved, pending}
 use Rattle.model.specs.Consulted.{Entry, Consulted}
 use Rattle.model.specs.Record.{Record, tree}
 use Rattle.model.specs.Writing.{obligationBits, entryBits, word, shapeBit, marked, presenceField, entryField, countC, count, encodeC, encodeCs, deniedField, encodeD, encode, encodes, encodeR}
-use Rattle.model.specs.Reading.{Parsed, got, next, unless, readList, obligation, listed, entry, consulted, many, nodeC, readCondition, whole, mark, shapeOf, outcomeOf, deniedOf, grantMore, parseGrant, grantAt, more12, parse12, at12, more13, parse13, at13, asStored, node, readPolicy, node14, parse14, parse15, rest, leads, readLead, readRecord}
+use Rattle.model.specs.Reading.{Parsed, got, next, unless, readList, obligation, listed, entry, consulted, many, nodeC, readCondition, whole, mark, shapeOf, outcomeOf, deniedOf, grantMore, parseGrant, grantAt, more12, parse12, at12, more13, parse13, at13, asStored, node, readPolicy, readSheet, node14, parse14, parse15, rest, leads, readLead, readRecord}
 use Rattle.laws.specs.Lists.{Distinct, Every, Below, eqb-sym, or-false-l, or-false-r, held-end, pigeon}
 use Rattle.laws.specs.FieldLaws.{Narrow, Passes, back-list}
+use Rattle.laws.specs.Size.{IsSheet, SheetIf, SheetsIf}
 use Rattle.laws.specs.Form.{FormC, FormCs, IfThere, FormL, FormO, FormP, FormN, FormD, FormG, Form, Forms, depthC, depthCs, depth, depths}
 
 -- ---- tests
@@ -320,53 +321,86 @@ module _ {O : Type 0} (G : O → Type 0) (number : O → ℕ) (value : ℕ → O
       parse-word true d 13 (shapeBit (q .shape) * 134217728 + deniedField number (q .denied)) ((marked (q .label) * 65536 + marked (q .reason)) ∷ length (q .facts) ∷ (pack entryBits (q .facts) ++ ws)) (omega arith)
       ∙ ap (asStored value) (back-13 q ws f)
 
+  -- what a list and an OrElse ask of their parts
+  arms-if-all : (res : Bool) (ts : Policies O) → SheetIf res (all ts) → SheetsIf res ts
+  arms-if-all true ts s = tt
+  arms-if-all false ts s = s
+
+  arms-if-any : (res : Bool) (ts : Policies O) → SheetIf res (any ts) → SheetsIf res ts
+  arms-if-any true ts s = tt
+  arms-if-any false ts s = s
+
+  primary-if : (res : Bool) (a b : Policy O) → SheetIf res (orElse a b) → SheetIf res a
+  primary-if true a b s = tt
+  primary-if false a b s = s .0
+
+  fallback-if : (res : Bool) (a b : Policy O) → SheetIf res (orElse a b) → SheetIf res b
+  fallback-if true a b s = tt
+  fallback-if false a b s = s .1
+
+  first-if : (res : Bool) (t : Policy O) (ts : Policies O) → SheetsIf res (pcons t ts) → SheetIf res t
+  first-if true t ts s = tt
+  first-if false t ts s = s .0
+
+  rest-if : (res : Bool) (t : Policy O) (ts : Policies O) → SheetsIf res (pcons t ts) → SheetsIf res ts
+  rest-if true t ts s = tt
+  rest-if false t ts s = s .1
+
   mutual
-    pub back-T : (t : Policy O) (d : ℕ) (ws : List ℕ) → depth t ≤ d → Form G t → readPolicy value true d (encode number t ++ ws) ≡ got t ws
-    back-T (permit o) zero ws h f = let z : ⊥ = omega arith in absurd z
-    back-T (permit o) (suc d) ws h f =
+    pub back-T : (t : Policy O) (res : Bool) (d : ℕ) (ws : List ℕ) → depth t ≤ d → Form G t → SheetIf res t → readPolicy value res d (encode number t ++ ws) ≡ got t ws
+    back-T (permit o) res zero ws h f s = let z : ⊥ = omega arith in absurd z
+    back-T (permit o) res (suc d) ws h f s =
         let so = small o f in
         let e₁ : number o / 65536 ≡ 0 = omega arith in
         let e₂ : number o % 65536 ≡ number o = omega arith in
-        parse-word true d 6 (number o) ws (omega arith)
+        parse-word res d 6 (number o) ws (omega arith)
         ∙ (λ i. unless (eqb (e₁ i) 0) 8 (outcomeOf value (value (e₂ i)) (λ x. got (permit x) ws)))
         ∙ outcome-back o f (λ x. got (permit x) ws)
-    back-T deny zero ws h f = let z : ⊥ = omega arith in absurd z
-    back-T deny (suc d) ws h f = parse-word true d 7 0 ws (omega arith)
-    back-T (grant g c) zero ws h f = let z : ⊥ = omega arith in absurd z
-    back-T (grant g c) (suc d) ws h f =
+    back-T deny res zero ws h f s = let z : ⊥ = omega arith in absurd z
+    back-T deny res (suc d) ws h f s = parse-word res d 7 0 ws (omega arith)
+    back-T (grant g c) res zero ws h f s = let z : ⊥ = omega arith in absurd z
+    back-T (grant g c) res (suc d) ws h f s =
         let few = obligations-few (g .obligations) (f .0 .1) in
         let so = small (g .outcome) (f .0 .0) in
         let ss = shape-small (g .shape) in
         let r = shapeBit (g .shape) * 134217728 + length (g .obligations) * 1048576 + number (g .outcome) in
         let w = marked (g .label) * 65536 + marked (g .reason) in
-        parse-word true d 8 r (w ∷ ((pack obligationBits (g .obligations) ++ encodeC c) ++ ws)) (omega arith)
+        parse-word res d 8 r (w ∷ ((pack obligationBits (g .obligations) ++ encodeC c) ++ ws)) (omega arith)
         ∙ ap (λ vs. grantAt value (λ us. readCondition d us) r (w ∷ vs)) (append-assoc (pack obligationBits (g .obligations)) (encodeC c) ws)
         ∙ back-grant (λ us. readCondition d us) g c ws (f .0) (back-C c d ws (omega arith) (f .1))
-    back-T (all ts) zero ws h f = let z : ⊥ = omega arith in absurd z
-    back-T (all ts) (suc d) ws h f =
-        parse-word true d 9 (count ts) (encodes number ts ++ ws) (omega (arith, f .0))
-        ∙ unless-is 8 (next (many pnil pcons (λ vs. readPolicy value true d vs) (count ts) (encodes number ts ++ ws)) (λ xs vs. got (all xs) vs)) (lt-ltb (count ts) 4096 (omega (arith, f .0)))
-        ∙ ap (λ q. next q (λ xs vs. got (all xs) vs)) (back-Ts ts d ws (omega arith) (f .1))
-    back-T (any ts) zero ws h f = let z : ⊥ = omega arith in absurd z
-    back-T (any ts) (suc d) ws h f =
-        parse-word true d 10 (count ts) (encodes number ts ++ ws) (omega (arith, f .0))
-        ∙ unless-is 8 (next (many pnil pcons (λ vs. readPolicy value true d vs) (count ts) (encodes number ts ++ ws)) (λ xs vs. got (any xs) vs)) (lt-ltb (count ts) 4096 (omega (arith, f .0)))
-        ∙ ap (λ q. next q (λ xs vs. got (any xs) vs)) (back-Ts ts d ws (omega arith) (f .1))
-    back-T (orElse a b) zero ws h f = let z : ⊥ = omega arith in absurd z
-    back-T (orElse a b) (suc d) ws h f =
-        parse-word true d 11 0 ((encode number a ++ encode number b) ++ ws) (omega arith)
-        ∙ ap (λ us. next (readPolicy value true d us) (λ x vs. next (readPolicy value true d vs) (λ y ts. got (orElse x y) ts))) (append-assoc (encode number a) (encode number b) ws)
-        ∙ ap (λ q. next q (λ x vs. next (readPolicy value true d vs) (λ y ts. got (orElse x y) ts))) (back-T a d (encode number b ++ ws) (omega arith) (f .0))
-        ∙ ap (λ q. next q (λ y ts. got (orElse a y) ts)) (back-T b d ws (omega arith) (f .1))
-    back-T (stored e) zero ws h f = let z : ⊥ = omega arith in absurd z
-    back-T (stored e) (suc d) ws h f = back-D d e ws f
+    back-T (all ts) res zero ws h f s = let z : ⊥ = omega arith in absurd z
+    back-T (all ts) res (suc d) ws h f s =
+        parse-word res d 9 (count ts) (encodes number ts ++ ws) (omega (arith, f .0))
+        ∙ unless-is 8 (next (many pnil pcons (λ vs. readPolicy value res d vs) (count ts) (encodes number ts ++ ws)) (λ xs vs. got (all xs) vs)) (lt-ltb (count ts) 4096 (omega (arith, f .0)))
+        ∙ ap (λ q. next q (λ xs vs. got (all xs) vs)) (back-Ts ts res d ws (omega arith) (f .1) (arms-if-all res ts s))
+    back-T (any ts) res zero ws h f s = let z : ⊥ = omega arith in absurd z
+    back-T (any ts) res (suc d) ws h f s =
+        parse-word res d 10 (count ts) (encodes number ts ++ ws) (omega (arith, f .0))
+        ∙ unless-is 8 (next (many pnil pcons (λ vs. readPolicy value res d vs) (count ts) (encodes number ts ++ ws)) (λ xs vs. got (any xs) vs)) (lt-ltb (count ts) 4096 (omega (arith, f .0)))
+        ∙ ap (λ q. next q (λ xs vs. got (any xs) vs)) (back-Ts ts res d ws (omega arith) (f .1) (arms-if-any res ts s))
+    back-T (orElse a b) res zero ws h f s = let z : ⊥ = omega arith in absurd z
+    back-T (orElse a b) res (suc d) ws h f s =
+        parse-word res d 11 0 ((encode number a ++ encode number b) ++ ws) (omega arith)
+        ∙ ap (λ us. next (readPolicy value res d us) (λ x vs. next (readPolicy value res d vs) (λ y ts. got (orElse x y) ts))) (append-assoc (encode number a) (encode number b) ws)
+        ∙ ap (λ q. next q (λ x vs. next (readPolicy value res d vs) (λ y ts. got (orElse x y) ts))) (back-T a res d (encode number b ++ ws) (omega arith) (f .0) (primary-if res a b s))
+        ∙ ap (λ q. next q (λ y ts. got (orElse a y) ts)) (back-T b res d ws (omega arith) (f .1) (fallback-if res a b s))
+    back-T (stored e) res zero ws h f s = let z : ⊥ = omega arith in absurd z
+    back-T (stored e) true (suc d) ws h f s = back-D d e ws f
+    back-T (stored e) false (suc d) ws h f s = absurd s
 
-    back-Ts : (ts : Policies O) (d : ℕ) (ws : List ℕ) → depths ts ≤ d → Forms G ts → many pnil pcons (λ vs. readPolicy value true d vs) (count ts) (encodes number ts ++ ws) ≡ got ts ws
-    back-Ts pnil d ws h f = refl
-    back-Ts (pcons t ts) d ws h f =
-        ap (λ vs. many pnil pcons (λ us. readPolicy value true d us) (suc (count ts)) vs) (append-assoc (encode number t) (encodes number ts) ws)
-        ∙ ap (λ q. next q (λ a vs. next (many pnil pcons (λ us. readPolicy value true d us) (count ts) vs) (λ xs us. got (pcons a xs) us))) (back-T t d (encodes number ts ++ ws) (omega arith) (f .0))
-        ∙ ap (λ q. next q (λ xs us. got (pcons t xs) us)) (back-Ts ts d ws (omega arith) (f .1))
+    back-Ts : (ts : Policies O) (res : Bool) (d : ℕ) (ws : List ℕ) → depths ts ≤ d → Forms G ts → SheetsIf res ts → many pnil pcons (λ vs. readPolicy value res d vs) (count ts) (encodes number ts ++ ws) ≡ got ts ws
+    back-Ts pnil res d ws h f s = refl
+    back-Ts (pcons t ts) res d ws h f s =
+        ap (λ vs. many pnil pcons (λ us. readPolicy value res d us) (suc (count ts)) vs) (append-assoc (encode number t) (encodes number ts) ws)
+        ∙ ap (λ q. next q (λ a vs. next (many pnil pcons (λ us. readPolicy value res d us) (count ts) vs) (λ xs us. got (pcons a xs) us))) (back-T t res d (encodes number ts ++ ws) (omega arith) (f .0) (first-if res t ts s))
+        ∙ ap (λ q. next q (λ xs us. got (pcons t xs) us)) (back-Ts ts res d ws (omega arith) (f .1) (rest-if res t ts s))
+
+  -- A sheet of good form is read back from its words.
+  pub back-sheet : (t : Policy O) → IsSheet t → Form G t → depth t ≤ 32 → length (encode number t) ≤ 4096 → 1 ≤ length (encode number t) → readSheet value (encode number t) ≡ got t []
+  back-sheet t s f d k m =
+      unless-is 1 (whole (readPolicy value false 32 (encode number t))) (both-is (leb 1 (length (encode number t))) (leb (length (encode number t)) 4096) (le-leb 1 (length (encode number t)) m) (le-leb (length (encode number t)) 4096 k))
+      ∙ ap (λ us. whole (readPolicy value false 32 us)) (sym (append-nil (encode number t)))
+      ∙ ap whole (back-T t false 32 [] d f s)
 
   -- ---- records
   back-14 : (e : Decision O) (ws : List ℕ) → FormD G e → parse14 value (encodeD number e ++ ws) ≡ got (resolved e) ws
@@ -407,7 +441,7 @@ module _ {O : Type 0} (G : O → Type 0) (number : O → ℕ) (value : ℕ → O
       ∙ back-rest (parse14 value) (resolved e) es (encodeD number e) ws n f (back-14 e ws g)
   back-lead (pending t) es ws n f g h =
       lead-word 15 (length es) ((pack entryBits (map entryField es) ++ encode number t) ++ ws) (omega arith)
-      ∙ back-rest (parse15 value) (pending t) es (encode number t) ws n f (ap (λ q. next q (λ x us. got (pending x) us)) (back-T t 32 ws h g))
+      ∙ back-rest (parse15 value) (pending t) es (encode number t) ws n f (ap (λ q. next q (λ x us. got (pending x) us)) (back-T t true 32 ws h g tt))
 
   -- A record of good form is read back from its words.
   pub back-R : (r : Record O) → length (r .log) < 4096 → Facts (r .log) → Form G (tree r) → depth (tree r) ≤ 32 → length (encodeR number r) ≤ 16384 → readRecord value (encodeR number r) ≡ got r []

@@ -22,7 +22,7 @@ use Rattle.model.specs.Reading.{Parsed, refuse, got, next, unless, another, rea
 use Rattle.model.specs.Calls.{fits}
 use Rattle.laws.specs.Lists.{Below, distinct-end, every-end}
 use Rattle.laws.specs.FieldLaws.{Holds, fine, nothing, if-holds, weaker, then-holds, both-hold, same-list, kept-list}
-use Rattle.laws.specs.Size.{wordsC, wordsCs, wordsD, words, wordss, wordsR, IsSheet, AreSheets}
+use Rattle.laws.specs.Size.{wordsC, wordsCs, wordsD, words, wordss, wordsR, IsSheet, SheetIf, SheetsIf}
 use Rattle.laws.specs.Form.{FormC, FormCs, IfThere, FormL, FormO, FormD, FormOf, FormsOf, Few, Free, Form, depthC, depthCs, depth, depths}
 
 and-right : (a b : Bool) → (a && b) ≡ true → b ≡ true
@@ -207,20 +207,12 @@ module _ {O : Type 0} (G : O → Type 0) (value : ℕ → Option O) (sound : (n 
       another-holds ws (more den) (λ w vs e.
       weaker (more den w vs) (λ d us h. (h .0, h .1 ∙ omega arith)) (ok-more13 sh den (w / 65536) (w % 65536) vs g))))
 
-  -- ---- trees. Where nodes 12 and 13 aren't allowed, there is none.
-  abbrev pub SheetIf : Bool → Policy O → Type 0
-  SheetIf true t = Unit {0}
-  SheetIf false t = IsSheet t
-
-  abbrev SheetsIf : Bool → Policies O → Type 0
-  SheetsIf true ts = Unit {0}
-  SheetsIf false ts = AreSheets ts
-
+  -- ---- trees
   sheet-if : (res : Bool) (t : Policy O) → IsSheet t → SheetIf res t
   sheet-if true t h = tt
   sheet-if false t h = h
 
-  nil-if : (res : Bool) → SheetsIf res pnil
+  nil-if : (res : Bool) → SheetsIf {O = O} res pnil
   nil-if true = tt
   nil-if false = tt
 

@@ -1,4 +1,5 @@
 -- How many words a tree takes, document 01, "What a call receives".
+use mathlib.Core.Bool.{Bool, true, false}
 use mathlib.Core.Option.{Option, none, some}
 use mathlib.Core.List.{List, [], _∷_}
 use Prim.Native.Nat.{ℕ, _+_, _*_, _/_}
@@ -73,3 +74,12 @@ abbrev mutual
   pub AreSheets : {O : Type 0} → Policies O → Type 0
   AreSheets pnil = Unit {0}
   AreSheets (pcons t ts) = IsSheet t × AreSheets ts
+
+-- Where nodes 12 and 13 aren't allowed, there is none.
+abbrev pub SheetIf : {O : Type 0} → Bool → Policy O → Type 0
+SheetIf true t = Unit {0}
+SheetIf false t = IsSheet t
+
+abbrev pub SheetsIf : {O : Type 0} → Bool → Policies O → Type 0
+SheetsIf true ts = Unit {0}
+SheetsIf false ts = AreSheets ts

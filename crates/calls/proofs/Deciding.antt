@@ -64,7 +64,7 @@ module _ (sheet facts out : List ℕ) where
   Call = model.evaluate productSets sheet facts (length out)
 
   refused : (n : ℕ) → Call ≡ model.refusal n → Answered Call out out (Refused n)
-  refused n e = subst (λ x. Answered x out out (Refused n)) (sym e) (record { number-is = refl; written-is = refl; output-is = refl })
+  refused n e = subst (λ x. Answered x out out (Refused n)) (sym e) (record { answer-is = refl; output-is = refl })
 
   pub no-words : length sheet ≡ 0 → Answered Call out out (Refused 1)
   no-words h =

@@ -50,7 +50,7 @@ length-record D l =
     omega (arith, e, length-append (pack entryBits (map entryField l)) (decisionWords D))
 
 refused-by : (room : ℕ) (r : Record ℕ) (out : List ℕ) → fits productSets room r ≡ false → Answered (write productSets room r) out out (Refused 11)
-refused-by room r out e = rw e (record { number-is = refl; written-is = refl; output-is = refl })
+refused-by room r out e = rw e (record { answer-is = refl; output-is = refl })
 
 -- A list that is too long to be counted; a record that is too long for the output.
 pub listed-too-long : (room : ℕ) (D : Decided ℕ) (l : Consulted) (out : List ℕ) → shortD D ≡ false → Answered (write productSets room (recordOf D l)) out out (Refused 11)
@@ -73,7 +73,7 @@ written-record room size D l before after e h k s w =
     and-is (leb n room && recordLength (recordWords D l)) (shortD D)
     (and-is (leb n room) (recordLength (recordWords D l)) (le-leb n room (omega arith))
     (and-is (leb 1 n) (leb n 16384) (le-leb 1 n (omega (arith, length-record D l))) (le-leb n 16384 (omega arith)))) s in
-    rw fit (record { number-is = refl; written-is = e; output-is = w .output ∙ ap (λ m. recordWords D l ++ drop m before) e })
+    rw fit (record { answer-is = ap Written e; output-is = w .output ∙ ap (λ m. recordWords D l ++ drop m before) e })
 
 -- ---- what was gathered of a decision gives the record's size and its words
 module _ {W : List ℕ} {T : Table} {buf : List ℕ} {d : Decision} {os : List ℕ} {held : ℕ} {fs : List ℕ} {named : ℕ} (g : Gathered W T buf d os held fs named) where

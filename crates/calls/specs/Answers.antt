@@ -1,5 +1,5 @@
 -- What the calls answer and leave in the output: document 01's number and word count for each case.
-use mathlib.Core.Path.{_≡_}
+use mathlib.Core.Path.{_≡_, refl}
 use mathlib.Core.List.{List, map}
 use Prim.Native.Nat.{ℕ}
 use lib.ListN.{length, take}
@@ -27,11 +27,24 @@ abbrev pub writtenOf : Answer → ℕ
 writtenOf (Written n) = n
 writtenOf (Refused n) = 0
 
+-- The answer to what the model's call gives.
+abbrev pub answerOf : model.Answer → Answer
+answerOf (model.refusal n) = Refused n
+answerOf (model.wrote ws) = Written (length ws)
+
 -- The answer, and the output afterwards, are those of the model's call.
 pub record Answered (a : model.Answer) (before after : List ℕ) (r : Answer) : Type 0 where
-  pub number-is : numberOf r ≡ model.numberOf a
-  pub written-is : writtenOf r ≡ model.writtenOf a
+  pub answer-is : r ≡ answerOf a
   pub output-is : after ≡ model.afterwards a before
+
+-- Its number and its word count are document 01's.
+pub number-of : (a : model.Answer) → numberOf (answerOf a) ≡ model.numberOf a
+number-of (model.refusal n) = refl
+number-of (model.wrote ws) = refl
+
+pub written-of : (a : model.Answer) → writtenOf (answerOf a) ≡ model.writtenOf a
+written-of (model.refusal n) = refl
+written-of (model.wrote ws) = refl
 
 -- A Resolved record was written: that of the decision and the consulted list which the walk left, whatever they stand for.
 pub record Put (W : List ℕ) (T : Table) (buf : List ℕ) (d : Decision) (entries : List ℕ) (count : ℕ) (before after : List ℕ) (r : Answer) : Type 0 where

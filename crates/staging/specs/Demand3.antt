@@ -31,7 +31,7 @@ use Rattle.staging.specs.ConsultedLaws.{consultedFacts, log-length}
 use Rattle.staging.specs.Chain.{AllOf, all-map, run}
 use Rattle.staging.specs.Bound.{Fit, fit-narrowBody, fit-completeBody, fit-run, fit-reduce, fit-evaluate, roomy}
 use Rattle.staging.specs.Stages.{TreeStaged, staged}
-use Rattle.staging.specs.Statement.{Call, handedOn, ifWrote, AgreesOn, Settled, answerTo, after, accepted, Staged}
+use Rattle.staging.specs.Statement.{Call, handedOn, ifWrote, AgreesOn, Settled, answerTo, after, accepted, Roomy, Staged}
 
 and-is : (a b : Bool) → a ≡ true → b ≡ true → (a && b) ≡ true
 and-is a b p q = rw (p, q)
@@ -133,6 +133,15 @@ module _ (L : Outcomes) (lawful : Lawful L) (G : L .O → Type 0) (codec : Writt
     evaluate-is : (room : ℕ) (bs : List ℕ) → evaluate L sheet bs room ≡ unlessFault (tableFault knownFacts bs) (write L room (evaluated L (tableOf bs) t))
     evaluate-is room bs = called (sheetLength sheet) (tableFault knownFacts bs) (λ x. write L room (evaluated L (tableOf bs) x)) (readSheet (L .value) sheet) t [] long-enough reads
 
+    -- Direct evaluation has room enough, and its record reads back.
+    pub evaluate-fits : (known : List ℕ) (room : ℕ) → tableFault knownFacts known ≡ none → Roomy L sheet room → evaluate L sheet known room ≡ wrote (encodeR (L .number) (evaluated L (tableOf known) t))
+    evaluate-fits known room knows h =
+        evaluate-is room known
+        ∙ write-is room (evaluated L (tableOf known) t) (tableFault knownFacts known) knows (fits-within (evaluated L (tableOf known) t) room (fit-evaluate L G (codec .meets) (codec .joins) (tableOf known) t (good .0)) h)
+
+    pub evaluate-back : (K : Table) → readRecord (L .value) (encodeR (L .number) (evaluated L K t)) ≡ got (evaluated L K t) []
+    evaluate-back K = back (evaluated L K t) (fit-evaluate L G (codec .meets) (codec .joins) K t (good .0))
+
     -- ---- the list of calls: the record after it is the record narrowed by the accepted tables
     within-narrowed : (P : Table) (r : Record (L .O)) → Within r → Within (narrowed L P r)
     within-narrowed P r h = fit-narrowBody L G (codec .meets) (codec .joins) (most t) (depth t) P (r .body) (r .log) h
@@ -207,7 +216,7 @@ module _ (L : Outcomes) (lawful : Lawful L) (G : L .O → Type 0) (codec : Writt
         completion = λ room ws e. sym (wrote-what (tableFault knownFacts known) (fits L room (completed L K lastly)) (encodeR (L .number) (completed L K lastly)) ws (sym (complete-is room known lastly fit) ∙ sym (ap (λ v. completeResidual L v known room) after-is) ∙ e));
         resolves = steps .completes;
         same-products = steps .same-products;
-        room-evaluate = λ room h. evaluate-is room known ∙ write-is room (evaluated L K t) (tableFault knownFacts known) knows (fits-within (evaluated L K t) room (fit-evaluate L G (codec .meets) (codec .joins) K t (good .0)) h);
+        room-evaluate = λ room h. evaluate-fits known room knows h;
         room-reduce = λ room bs h f. reduce-is room bs ∙ write-is room (reduced L (tableOf bs) t) (tableFault partialFacts bs) f (fits-within (reduced L (tableOf bs) t) room (fit-reduce L G (codec .meets) (codec .joins) (tableOf bs) t (good .0)) h);
         room-narrow = λ room bs h f.
             ap (λ v. narrowResidual L v bs room) after-is ∙ narrow-is room bs lastly fit
@@ -236,3 +245,12 @@ pub demand3-products : (sheet known facts given : List ℕ) (calls : List Call) 
     → AllOf (AgreesOn t (tableOf known)) (accepted productSets given calls)
     → Staged productSets sheet known facts given calls t
 demand3-products = demand3 productSets lawfulProducts InRange writtenProducts
+
+-- Direct evaluation of an accepted sheet: with room enough it is accepted, and its record reads back.
+pub evaluate-products : (sheet known : List ℕ) (t : Policy ℕ) (room : ℕ) → readSheet (productSets .value) sheet ≡ got t [] → tableFault knownFacts known ≡ none → Roomy productSets sheet room
+    → evaluate productSets sheet known room ≡ wrote (encodeR (productSets .number) (evaluated productSets (tableOf known) t))
+evaluate-products sheet known t room reads knows h = evaluate-fits productSets lawfulProducts InRange writtenProducts sheet t reads known room knows h
+
+pub evaluate-products-back : (sheet : List ℕ) (K : Table) (t : Policy ℕ) → readSheet (productSets .value) sheet ≡ got t []
+    → readRecord (productSets .value) (encodeR (productSets .number) (evaluated productSets K t)) ≡ got (evaluated productSets K t) []
+evaluate-products-back sheet K t reads = evaluate-back productSets lawfulProducts InRange writtenProducts sheet t reads K

@@ -4,15 +4,18 @@ use compare::listing::listing;
 
 use super::{bytes, words};
 
-/// The input of the program: a sheet and a table with their lengths.
-fn input(sheet: &str, table: &str) -> Vec<u8> {
-    let (sheet, table) = (words(sheet), bytes(table));
-    let length = |length: usize| u16::try_from(length).expect("16 bits").to_be_bytes();
-    let mut input = length(sheet.len()).to_vec();
+/// The input of the program: a sheet and a table with their lengths, if these have 16 bits.
+pub fn request(sheet: &[u32], table: &[u8]) -> Option<Vec<u8>> {
+    let length = |length: usize| u16::try_from(length).ok().map(u16::to_be_bytes);
+    let mut input = length(sheet.len())?.to_vec();
     input.extend(sheet.iter().flat_map(|word| word.to_be_bytes()));
-    input.extend(length(table.len()));
+    input.extend(length(table.len())?);
     input.extend(table);
-    input
+    Some(input)
+}
+
+fn input(sheet: &str, table: &str) -> Vec<u8> {
+    request(&words(sheet), &bytes(table)).expect("short lists")
 }
 
 #[track_caller]

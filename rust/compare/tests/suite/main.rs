@@ -8,6 +8,8 @@ mod original;
 #[cfg(feature = "proved")]
 mod proved;
 mod readings;
+#[cfg(feature = "proved")]
+mod sitting;
 mod stages;
 mod worked;
 

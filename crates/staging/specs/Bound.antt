@@ -1,4 +1,4 @@
--- Every record on the way from a sheet takes at most three times the sheet's words and 513 more, and is one that the next call reads.
+-- Every record on the way from a sheet takes at most three times the tree's words and 513 more, and is one that the next call reads.
 use mathlib.Core.Path.{_≡_, refl, sym, _∙_, ap}
 use mathlib.Core.List.{List, [], _∷_}
 use Prim.Native.Nat.{ℕ, _+_, _*_, _/_, _≤_, _<_}
@@ -12,9 +12,9 @@ use Rattle.model.specs.Partial.{ReducedPolicy, resolved, pending}
 use Rattle.model.specs.Consulted.{Consulted, once}
 use Rattle.model.specs.Record.{Record, tree, evaluated, reduced, narrowedFrom, narrowed, completedFrom}
 use Rattle.laws.specs.Each.{EachC, EachCs, Each, Eachs}
-use Rattle.laws.specs.Size.{words, wordsR, IsSheet}
+use Rattle.laws.specs.Size.{words, wordsR}
 use Rattle.laws.specs.Form.{FormC, FormCs, Form, Forms, depth}
-use Rattle.staging.specs.SizeLaws.{most, eval-words, red-most, words-most, sheet-most}
+use Rattle.staging.specs.SizeLaws.{most, eval-words, red-most, words-most, most-words}
 use Rattle.staging.specs.FormLaws.{form-eval, form-red, depth-red}
 use Rattle.staging.specs.ConsultedLaws.{Good, good-once, good-read, good-walk, log-length}
 use Rattle.staging.specs.Chain.{run}
@@ -108,16 +108,16 @@ module _ (L : Outcomes) (G : L .O → Type 0) (meets : (a b : L .O) → G a → 
         consulted = good-read (λ f. f < 1024) L K t [] (small-T G t h) (tt, tt);
       }
 
-  fit-words : (t : Policy (L .O)) (d : ℕ) (r : Record (L .O)) → IsSheet t → Fit G (most t) d r → wordsR r ≤ 3 * words t + 513
-  fit-words t d r s h = omega (arith, words-most (tree r), h .small, sheet-most t s, log-length (r .log) (h .consulted))
+  fit-words : (t : Policy (L .O)) (d : ℕ) (r : Record (L .O)) → Fit G (most t) d r → wordsR r ≤ 3 * words t + 513
+  fit-words t d r h = omega (arith, words-most (tree r), h .small, most-words t, log-length (r .log) (h .consulted))
 
-  -- Of a sheet of good form, nested at most 32 deep: the record of each call of a list of calls, whatever the tables say,
-  -- takes at most three times the sheet's words and 513, and is of good form, nested at most 32 deep.
+  -- Of a tree of good form, nested at most 32 deep: the record of each call of a list of calls, whatever the tables say,
+  -- takes at most three times the tree's words and 513, and is of good form, nested at most 32 deep.
   pub record RoomFor (t : Policy (L .O)) (r : Record (L .O)) : Type 0 where
     pub room : wordsR r ≤ 3 * words t + 513
     pub good : Form G (tree r)
     pub nested : depth (tree r) ≤ 32
     pub entries : Good (λ f. f < 1024) (r .log)
 
-  pub roomy : (t : Policy (L .O)) (r : Record (L .O)) → IsSheet t → depth t ≤ 32 → Fit G (most t) (depth t) r → RoomFor t r
-  roomy t r s d h = record { room = fit-words t (depth t) r s h; good = h .form; nested = omega (arith, h .deep); entries = h .consulted }
+  pub roomy : (t : Policy (L .O)) (r : Record (L .O)) → depth t ≤ 32 → Fit G (most t) (depth t) r → RoomFor t r
+  roomy t r d h = record { room = fit-words t (depth t) r h; good = h .form; nested = omega (arith, h .deep); entries = h .consulted }

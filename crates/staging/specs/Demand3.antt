@@ -92,7 +92,7 @@ module _ (L : Outcomes) (lawful : Lawful L) (G : L .O → Type 0) (codec : Writt
     Within r = Fit G (most t) (depth t) r
 
     within-words : (r : Record (L .O)) → Within r → length (encodeR (L .number) r) ≤ 3 * length sheet + 513
-    within-words r h = omega (arith, length-encodeR (L .number) r, roomy L G (codec .meets) (codec .joins) t r (good .3) (good .1) h .room, good .2)
+    within-words r h = omega (arith, length-encodeR (L .number) r, roomy L G (codec .meets) (codec .joins) t r (good .1) h .room, good .2)
 
     few : (r : Record (L .O)) → Within r → recordLength (encodeR (L .number) r) ≡ true
     few r h =
@@ -110,7 +110,7 @@ module _ (L : Outcomes) (lawful : Lawful L) (G : L .O → Type 0) (codec : Writt
 
     back : (r : Record (L .O)) → Within r → readRecord (L .value) (encodeR (L .number) r) ≡ got r []
     back r h =
-        let y = roomy L G (codec .meets) (codec .joins) t r (good .3) (good .1) h in
+        let y = roomy L G (codec .meets) (codec .joins) t r (good .1) h in
         let n = within-words r h in
         let m = good .4 in
         let e = good .2 in

@@ -13,7 +13,7 @@ use Rattle.model.specs.Decision.{Permit, Denial, Decision, permits, denies, com
 use Rattle.model.specs.Policy.{Grant, Policy, permit, deny, grant, all, any, orElse, stored, Policies, pnil, pcons}
 use Rattle.model.specs.Evaluate.{evalGrant, firstOf, firstDeny, allEnd, allFrom, anyEnd, anyFrom, evalPolicy, evalPolicies}
 use Rattle.model.specs.Partial.{ReducedCondition, known, pendingC, reduceHas, flipR, ConditionWalk, stopped, through, stepAllC, stepAnyC, endAllC, endAnyC, reduceCondition, reduceConditionAll, reduceConditionAny, ReducedPolicy, resolved, pending, asResidual, arms, kept, AllWalk, stop, go, stepAll, AnyWalk, parts, stepAny, reduceGrant, reduceOrElse, endAll, endAny, reducePolicy, reduceAll, reduceAny}
-use Rattle.laws.specs.Size.{quads, wordsC, wordsCs, wordsP, wordsN, wordsD, words, wordss, IsSheet, AreSheets}
+use Rattle.laws.specs.Size.{quads, wordsC, wordsCs, wordsP, wordsN, wordsD, words, wordss}
 
 -- The bound: what a tree may grow to when it is reduced, narrowed or completed, however often.
 abbrev mutual
@@ -321,15 +321,19 @@ mutual
   wordss-mosts (pcons t ts) = omega (arith, words-most t, wordss-mosts ts)
 
 mutual
-  pub sheet-most : {O : Type 0} (t : Policy O) → IsSheet t → most t ≤ 3 * words t
-  sheet-most (permit o) h = omega arith
-  sheet-most deny h = omega arith
-  sheet-most (grant g c) h = omega arith
-  sheet-most (all ts) h = omega (arith, sheets-most ts h)
-  sheet-most (any ts) h = omega (arith, sheets-most ts h)
-  sheet-most (orElse a b) h = omega (arith, sheet-most a (h .0), sheet-most b (h .1))
-  sheet-most (stored d) h = absurd h
+  pub most-words : {O : Type 0} (t : Policy O) → most t ≤ 3 * words t
+  most-words (permit o) = omega arith
+  most-words deny = omega arith
+  most-words (grant g c) = omega arith
+  most-words (all ts) = omega (arith, mosts-wordss ts)
+  most-words (any ts) = omega (arith, mosts-wordss ts)
+  most-words (orElse a b) = omega (arith, most-words a, most-words b)
+  most-words (stored d) = omega arith
 
-  sheets-most : {O : Type 0} (ts : Policies O) → AreSheets ts → mosts ts ≤ 3 * wordss ts
-  sheets-most pnil h = omega arith
-  sheets-most (pcons t ts) h = omega (arith, sheet-most t (h .0), sheets-most ts (h .1))
+  mosts-wordss : {O : Type 0} (ts : Policies O) → mosts ts ≤ 3 * wordss ts
+  mosts-wordss pnil = omega arith
+  mosts-wordss (pcons t ts) = omega (arith, most-words t, mosts-wordss ts)
+
+-- What is left of a tree takes at most three times its words.
+pub reduced-words : (L : Outcomes) (P : Table) (t : Policy (L .O)) → words (asResidual (reducePolicy L P t)) ≤ 3 * words t
+reduced-words L P t = omega (arith, words-most (asResidual (reducePolicy L P t)), red-most L P t, most-words t)

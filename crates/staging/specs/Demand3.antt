@@ -133,7 +133,12 @@ module _ (L : Outcomes) (lawful : Lawful L) (G : L .O → Type 0) (codec : Writt
     evaluate-is : (room : ℕ) (bs : List ℕ) → evaluate L sheet bs room ≡ unlessFault (tableFault knownFacts bs) (write L room (evaluated L (tableOf bs) t))
     evaluate-is room bs = called (sheetLength sheet) (tableFault knownFacts bs) (λ x. write L room (evaluated L (tableOf bs) x)) (readSheet (L .value) sheet) t [] long-enough reads
 
-    -- Direct evaluation has room enough, and its record reads back.
+    -- Direct evaluation: what it writes, that it has room enough, and that its record reads back.
+    pub evaluate-wrote : (known : List ℕ) (room : ℕ) (ws : List ℕ) → evaluate L sheet known room ≡ wrote ws → ws ≡ encodeR (L .number) (evaluated L (tableOf known) t)
+    evaluate-wrote known room ws e =
+        let r = evaluated L (tableOf known) t in
+        sym (wrote-what (tableFault knownFacts known) (fits L room r) (encodeR (L .number) r) ws (sym (evaluate-is room known) ∙ e))
+
     pub evaluate-fits : (known : List ℕ) (room : ℕ) → tableFault knownFacts known ≡ none → Roomy L sheet room → evaluate L sheet known room ≡ wrote (encodeR (L .number) (evaluated L (tableOf known) t))
     evaluate-fits known room knows h =
         evaluate-is room known
@@ -203,6 +208,12 @@ module _ (L : Outcomes) (lawful : Lawful L) (G : L .O → Type 0) (codec : Writt
       unfolding K P Ps
       steps = staged L lawful K P t Ps (each-of (Agrees K P) t agrees) (all-map (AgreesOn t K) (λ S. Each (Agrees K S) t) Ps (λ S h. each-of (Agrees K S) t h) later)
 
+      completion-is : (room : ℕ) (ws : List ℕ) → completeResidual L (after L given calls) known room ≡ wrote ws → ws ≡ encodeR (L .number) (completed L K lastly)
+      unfolding K
+      completion-is room ws e =
+          sym (wrote-what (tableFault knownFacts known) (fits L room (completed L K lastly)) (encodeR (L .number) (completed L K lastly)) ws
+          (sym (complete-is room known lastly fit) ∙ sym (ap (λ v. completeResidual L v known room) after-is) ∙ e))
+
       pub demand3-of : Staged L sheet known facts given calls t
       unfolding K P r₀ Ps lastly
       demand3-of = record {
@@ -213,7 +224,9 @@ module _ (L : Outcomes) (lawful : Lawful L) (G : L .O → Type 0) (codec : Writt
         settled-first = of-each (λ n. P n ≡ unknown) (tree lastly) (steps .settled-first);
         settled-later = all-map (λ S. Each (λ n. S n ≡ unknown) (tree lastly)) (Settled (tree lastly)) Ps (λ S h. of-each (λ n. S n ≡ unknown) (tree lastly) h) (steps .settled-later);
         decision = steps .decision;
-        completion = λ room ws e. sym (wrote-what (tableFault knownFacts known) (fits L room (completed L K lastly)) (encodeR (L .number) (completed L K lastly)) ws (sym (complete-is room known lastly fit) ∙ sym (ap (λ v. completeResidual L v known room) after-is) ∙ e));
+        completion = completion-is;
+        completion-reads = λ room ws e.
+            ap (readRecord (L .value)) (completion-is room ws e) ∙ back (completed L K lastly) (fit-completeBody L G (codec .meets) (codec .joins) (most t) (depth t) K (lastly .body) (lastly .log) fit);
         resolves = steps .completes;
         same-products = steps .same-products;
         room-evaluate = λ room h. evaluate-fits known room knows h;
@@ -246,7 +259,11 @@ pub demand3-products : (sheet known facts given : List ℕ) (calls : List Call) 
     → Staged productSets sheet known facts given calls t
 demand3-products = demand3 productSets lawfulProducts InRange writtenProducts
 
--- Direct evaluation of an accepted sheet: with room enough it is accepted, and its record reads back.
+-- Direct evaluation of an accepted sheet: what it writes, that it is accepted with room enough, and that its record reads back.
+pub evaluate-products-wrote : (sheet known : List ℕ) (t : Policy ℕ) (room : ℕ) (ws : List ℕ) → readSheet (productSets .value) sheet ≡ got t [] → evaluate productSets sheet known room ≡ wrote ws
+    → ws ≡ encodeR (productSets .number) (evaluated productSets (tableOf known) t)
+evaluate-products-wrote sheet known t room ws reads e = evaluate-wrote productSets lawfulProducts InRange writtenProducts sheet t reads known room ws e
+
 pub evaluate-products : (sheet known : List ℕ) (t : Policy ℕ) (room : ℕ) → readSheet (productSets .value) sheet ≡ got t [] → tableFault knownFacts known ≡ none → Roomy productSets sheet room
     → evaluate productSets sheet known room ≡ wrote (encodeR (productSets .number) (evaluated productSets (tableOf known) t))
 evaluate-products sheet known t room reads knows h = evaluate-fits productSets lawfulProducts InRange writtenProducts sheet t reads known room knows h

@@ -71,6 +71,7 @@ module _ (L : Outcomes) where
     -- An accepted completion with the known table is Resolved, with direct evaluation's effect and products.
     pub decision : Decision (L .O)
     pub completion : (room : ℕ) (ws : List ℕ) → completeResidual L (after given calls) known room ≡ wrote ws → ws ≡ encodeR (L .number) (completed L (tableOf known) last)
+    pub completion-reads : (room : ℕ) (ws : List ℕ) → completeResidual L (after given calls) known room ≡ wrote ws → readRecord (L .value) ws ≡ got (completed L (tableOf known) last) []
     pub resolves : completed L (tableOf known) last .body ≡ resolved decision
     pub same-products : products decision ≡ products (evalPolicy L (tableOf known) t)
     -- With room enough direct evaluation, a reduction of the sheet, a narrowing and the completion are accepted whenever their table is faultless.

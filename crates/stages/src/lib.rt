@@ -1,0 +1,1 @@
+// The staged theorem, in specs/: this crate has no code.

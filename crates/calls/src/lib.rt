@@ -17,7 +17,7 @@ pub enum Answer {
 }
 
 // Writes the Resolved record of a decision and the consulted entries in use, if there is room for it. Its length is known before a word changes.
-fn put_record(
+pub fn put_record(
     words: &[u32],
     decision: Decision,
     facts: &[u8],

@@ -1,9 +1,8 @@
 -- `completion::complete_with` meets its contract. Assumes nothing.
-use mathlib.Core.Path.{_∙_}
 use native.Mathlib.Nat.{le-refl}
 use native.Mathlib.Omega.{arith}
-use Rattle.condition.proofs.Listing.{first-room, no-facts}
-use Rattle.calls.proofs.Deciding.{few-entries}
+use Rattle.model.specs.Facts.{factCount}
+use Rattle.condition.proofs.Listing.{unseen-none, first-room, no-facts}
 use Rattle.completion.proofs.Completing.{room-after, completes}
 use borrow.Author.Needs.{needs}
 use Rattle.completion.proofs.complete_with.Statement.{statement}
@@ -41,7 +40,7 @@ put-record-requires : tie.Need-put-record-requires
 put-record-requires c κs =
     let eval = c .before .before .before .before .before .before .before in
     let load = eval .before .before .before .before .before .before in
-    (search needs, search needs, search needs, search needs, omega (arith, slice-aggregate-put-record (c .before .before .before), few-entries _ _ (eval .eval-policy .ensures .room ∙ load .load-consulted .ensures .room)), omega (arith, slice-aggregate-put-record (c .before .before .before)))
+    (search needs, search needs, search needs, search needs, omega (arith, slice-aggregate-put-record (c .before .before .before), eval .eval-policy .ensures .room, load .load-consulted .ensures .room, unseen-none factCount), omega (arith, slice-aggregate-put-record (c .before .before .before)))
 
 same-length : tie.Need-same-length
 same-length c = search needs

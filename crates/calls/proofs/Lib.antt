@@ -1,2 +1,3 @@
 pub mod Putting
+pub mod Steps
 pub mod Deciding

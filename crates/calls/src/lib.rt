@@ -2,10 +2,11 @@
 use decision::Decision;
 use facts::TableFault;
 use policy_model::SheetCheck;
-ghost use Prim.Native.Nat.{_≤_};
+ghost use Prim.Native.Nat.{_*_, _≤_, min};
 ghost use lib.ListN.{length};
 ghost use Rattle.model.specs.Facts.{tableOf};
 ghost use Rattle.model.specs.Outcome.{productSets};
+ghost use Rattle.model.specs.Writing.{mostListed};
 ghost use Rattle.model.specs.Calls.{evaluate as Calls·evaluate};
 ghost use Rattle.calls.specs.Answers.{Answered, Put, Decides};
 
@@ -16,7 +17,7 @@ pub enum Answer {
 }
 
 // Writes the Resolved record of a decision and the consulted entries in use, if there is room for it. Its length is known before a word changes.
-fn put_record(
+pub fn put_record(
     words: &[u32],
     decision: Decision,
     facts: &[u8],
@@ -26,7 +27,7 @@ fn put_record(
     named: &mut [u16],
     out: &mut [u32],
 ) -> Answer
-    requires { ⌜ (decision .count ≤ 64) × (64 ≤ length (now buf)) × (length (now words) ≤ length (now named)) × (4095 ≤ length (now named)) × (count ≤ length (now entries)) × (length (now entries) ≤ 1024) ⌝ }
+    requires { ⌜ (decision .count ≤ 64) × (64 ≤ length (now buf)) × (length (now words) ≤ length (now named)) × (min (2 * length (now words)) mostListed ≤ length (now named)) × (count ≤ length (now entries)) × (length (now entries) ≤ 1024) ⌝ }
     ensures { λ r. ⌜ Put (now (words .entry)) (tableOf (now (facts .entry))) (now (buf .entry)) decision (now (entries .entry)) count (now (out .entry)) (now (out .exit)) r ⌝ }
 {
     let held = decision::obligations(words, decision, buf);
@@ -51,15 +52,14 @@ fn put_record(
     Answer::Written(front + rest)
 }
 
-// Decides a sheet that was checked.
-fn decide(sheet: &[u32], facts: &[u8], out: &mut [u32]) -> Answer
-    requires { ⌜ length (now sheet) ≤ 4096 ⌝ }
+// Decides a sheet that was checked. `named` is lent for the facts of the clause that decides.
+fn decide_with(sheet: &[u32], facts: &[u8], named: &mut [u16], out: &mut [u32]) -> Answer
+    requires { ⌜ (length (now sheet) ≤ 4096) × (length (now sheet) ≤ length (now named)) × (min (2 * length (now sheet)) mostListed ≤ length (now named)) ⌝ }
     ensures { λ r. ⌜ Decides (now (sheet .entry)) (tableOf (now (facts .entry))) (now (out .entry)) (now (out .exit)) r ⌝ }
 {
     let mut entries = [0u16; 1024];
     let mut seen = [0u8; 1024];
     let mut buf = [0u8; 2112];
-    let mut named = [0u16; 4096];
     let eval = evaluate::eval_policy(sheet, 0, 32, facts, &mut entries, &mut seen, 0, &mut buf);
     put_record(
         sheet,
@@ -68,9 +68,30 @@ fn decide(sheet: &[u32], facts: &[u8], out: &mut [u32]) -> Answer
         &entries,
         eval.count,
         &mut buf,
-        &mut named,
+        named,
         out,
     )
+}
+
+// The same of a small sheet, with a short list: to clear a long one would take longer than to decide.
+fn decide_small(sheet: &[u32], facts: &[u8], out: &mut [u32]) -> Answer
+    requires { ⌜ length (now sheet) ≤ 64 ⌝ }
+    ensures { λ r. ⌜ Decides (now (sheet .entry)) (tableOf (now (facts .entry))) (now (out .entry)) (now (out .exit)) r ⌝ }
+{
+    let mut named = [0u16; 128];
+    decide_with(sheet, facts, &mut named, out)
+}
+
+// The same of any sheet.
+fn decide(sheet: &[u32], facts: &[u8], out: &mut [u32]) -> Answer
+    requires { ⌜ length (now sheet) ≤ 4096 ⌝ }
+    ensures { λ r. ⌜ Decides (now (sheet .entry)) (tableOf (now (facts .entry))) (now (out .entry)) (now (out .exit)) r ⌝ }
+{
+    if sheet.len() <= 64 {
+        return decide_small(sheet, facts, out);
+    }
+    let mut named = [0u16; 4096];
+    decide_with(sheet, facts, &mut named, out)
 }
 
 // Decides a sheet with a known table.

@@ -6,7 +6,7 @@ use record::Denied;
 use record::Mark;
 ghost use mathlib.Core.Path.{_≡_};
 ghost use mathlib.Core.List.{List};
-ghost use Prim.Native.Nat.{ℕ, _+_, _^_, _≤_, _<_};
+ghost use Prim.Native.Nat.{ℕ, _+_, _*_, _^_, _≤_, _<_, min};
 ghost use lib.ListN.{length, getD};
 ghost use Rattle.model.specs.Facts.{tableOf};
 ghost use Rattle.model.specs.Writing.{countBits, mostListed};
@@ -36,7 +36,7 @@ fn word_at(words: &[u32], at: usize) -> u32
 
 // Writes the list of `count` facts at `at` to the front of `out`, and returns how many there are: none where no node lists so many, or the words end.
 fn load_facts(words: &[u32], at: usize, count: usize, out: &mut [u16]) -> usize
-    requires { ⌜ mostListed ≤ length (now out) ⌝ }
+    requires { ⌜ min (2 * length (now words)) mostListed ≤ length (now out) ⌝ }
     ensures { λ r. ⌜ FactsListed (now (words .entry)) at count (now (out .exit)) r ⌝ }
 {
     if count > MOST_LISTED {
@@ -59,7 +59,7 @@ fn load_facts(words: &[u32], at: usize, count: usize, out: &mut [u16]) -> usize
 // Writes the facts of the clause of the node at `at` to the front of `out`, and returns how many there are: of a Grant those that decide its condition,
 // of a stored decision those of its list. Other nodes, and a position past the end, have none.
 pub fn clause_facts(words: &[u32], at: usize, facts: &[u8], out: &mut [u16]) -> usize
-    requires { ⌜ (length (now words) ≤ length (now out)) × (mostListed ≤ length (now out)) ⌝ }
+    requires { ⌜ (length (now words) ≤ length (now out)) × (min (2 * length (now words)) mostListed ≤ length (now out)) ⌝ }
     ensures { λ r. ⌜ ClauseFacts (now (words .entry)) (tableOf (now (facts .entry))) at (now (out .exit)) r ⌝ }
 {
     if words.len() <= at {

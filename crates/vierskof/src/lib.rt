@@ -4,7 +4,7 @@ use calls::Answer;
 use required::Required;
 ghost use Rattle.model.specs.Outcome.{productSets};
 ghost use Rattle.model.specs.Required.{requiredFacts, requiredResidualFacts};
-ghost use Rattle.model.specs.Calls.{evaluate};
+ghost use Rattle.model.specs.Calls.{evaluate, completeResidual};
 ghost use mathlib.Core.Path.{_≡_};
 ghost use lib.ListN.{length};
 ghost use Rattle.calls.specs.Answers.{numberOf as Calls·numberOf, writtenOf};
@@ -37,6 +37,18 @@ pub extern "C" fn vierskof_evaluate(sheet: &[u32], facts: &[u8], out: &mut [u32]
     ensures { λ r. ⌜ Writes (evaluate productSets (now (sheet .entry)) (now (facts .entry)) (length (now (out .entry)))) (now (out .entry)) (now (out .exit)) r ⌝ }
 {
     written(calls::evaluate(sheet, facts, out))
+}
+
+// Completes a record with a known table, and writes the record that results.
+#[no_mangle]
+pub extern "C" fn vierskof_complete_residual(
+    residual: &[u32],
+    facts: &[u8],
+    out: &mut [u32],
+) -> u64
+    ensures { λ r. ⌜ Writes (completeResidual productSets (now (residual .entry)) (now (facts .entry)) (length (now (out .entry)))) (now (out .entry)) (now (out .exit)) r ⌝ }
+{
+    written(completion::complete_residual(residual, facts, out))
 }
 
 // The facts that a sheet names: their count, and their set in `set`, sixteen numbers, fact 0 the top bit of the first.

@@ -4,8 +4,9 @@ use crate::case::{Answer, Call, Case};
 use crate::refusal::Refusal;
 
 /// The calls that are proved so far.
-pub const CALLS: [Call; 3] = [
+pub const CALLS: [Call; 4] = [
     Call::Evaluate,
+    Call::CompleteResidual,
     Call::RequiredFacts,
     Call::RequiredResidualFacts,
 ];
@@ -14,18 +15,23 @@ pub const CALLS: [Call; 3] = [
 pub fn agrees(case: &Case) -> bool {
     let expected = case.answer();
     match case.call {
-        Call::Evaluate => evaluates(case, &expected),
+        Call::Evaluate => writes(case, &expected, vierskof::evaluate),
+        Call::CompleteResidual => writes(case, &expected, vierskof::complete_residual),
         Call::RequiredFacts => requires(case, &expected, vierskof::required_facts),
         Call::RequiredResidualFacts => requires(case, &expected, vierskof::required_residual_facts),
         other => unreachable!("{} is not proved yet", other.name()),
     }
 }
 
-fn evaluates(case: &Case, expected: &Result<Answer, Refusal>) -> bool {
+fn writes(
+    case: &Case,
+    expected: &Result<Answer, Refusal>,
+    call: fn(&[u32], &[u8], &mut [u32]) -> Result<usize, u32>,
+) -> bool {
     // Words that no record has at these places, so that one that is wrongly written or left shows.
     let before: Vec<u32> = (0x0F0F_0F0F..).take(case.room).collect();
     let mut out = before.clone();
-    let found = vierskof::evaluate(&case.words, &case.table, &mut out);
+    let found = call(&case.words, &case.table, &mut out);
     match expected {
         Ok(Answer::Record(record)) => {
             found == Ok(record.len())

@@ -13,6 +13,14 @@ mod c {
             out: *mut u32,
             room: usize,
         ) -> u64;
+        pub fn vierskof_complete_residual(
+            record: *const u32,
+            words: usize,
+            facts: *const u8,
+            bytes: usize,
+            out: *mut u32,
+            room: usize,
+        ) -> u64;
         pub fn vierskof_required_facts(
             sheet: *const u32,
             words: usize,
@@ -38,6 +46,22 @@ pub fn evaluate(sheet: &[u32], facts: &[u8], out: &mut [u32]) -> Result<usize, u
         c::vierskof_evaluate(
             sheet.as_ptr(),
             sheet.len(),
+            facts.as_ptr(),
+            facts.len(),
+            out.as_mut_ptr(),
+            out.len(),
+        )
+    };
+    value(returned).map(|words| words as usize)
+}
+
+/// Completes a record with a known table, and answers how many words of `out` the resulting record takes.
+pub fn complete_residual(record: &[u32], facts: &[u8], out: &mut [u32]) -> Result<usize, u32> {
+    // SAFETY: as above.
+    let returned = unsafe {
+        c::vierskof_complete_residual(
+            record.as_ptr(),
+            record.len(),
             facts.as_ptr(),
             facts.len(),
             out.as_mut_ptr(),

@@ -49,6 +49,7 @@ fn the_limits_agree_on_a_small_stack() {
         let mut set = [0; 16];
         for (words, table) in words.iter().zip(&tables) {
             let _ = vierskof::evaluate(words, table, &mut out);
+            let _ = vierskof::complete_residual(words, table, &mut out);
             let _ = vierskof::required_facts(words, &mut set);
             let _ = vierskof::required_residual_facts(words, &mut set);
         }

@@ -1,0 +1,103 @@
+-- The entries of a record, listed one after the other. Assumes nothing.
+use mathlib.Core.Path.{_≡_, refl, sym, _∙_, ap, ap₂, subst}
+use mathlib.Core.List.{List, [], _∷_, _++_, map}
+use Prim.Native.Nat.{ℕ, zero, suc, _+_, _/_, _%_, _≤_, _<_}
+use native.Mathlib.Numerals.{add-one}
+use native.Mathlib.Omega.{arith}
+use lib.ListN.{length, take, drop, getD, length-map, length-append, length-drop}
+use lib.Seq.{take-suc, take-all}
+use Rattle.model.specs.Fields.{pack}
+use Rattle.model.specs.Facts.{Presence, absent, present, unknown, presence, factCount}
+use Rattle.model.specs.Consulted.{Entry, Consulted, consult, onceFrom}
+use Rattle.model.specs.Writing.{entryBits, entryField}
+use Rattle.laws.specs.Lengths.{length-pack}
+use Rattle.laws.specs.ReadForm.{Named}
+use Rattle.packing.specs.FieldAt.{fieldAt, entry-field}
+use Rattle.condition.specs.Listing.{entryOf, Lent, most, Consults, Recorded}
+use Rattle.condition.proofs.Listing.{consults-none, consults-then, consults-as}
+use Rattle.completion.specs.Answers.{LoadsConsulted}
+
+-- ---- an entry by its field
+abbrev nothing-yet : Entry
+nothing-yet = entryOf 0 absent
+
+field-of : (es : Consulted) (i : ℕ) → i < length es → getD (map entryField es) i 0 ≡ entryField (getD es i nothing-yet)
+field-of [] i h = absurd (omega arith)
+field-of (e ∷ es) zero h = refl
+field-of (e ∷ es) (suc i) h = field-of es i (omega arith)
+
+names-fact : (es : Consulted) (i : ℕ) → Named es → i < length es → getD es i nothing-yet .fact < factCount
+names-fact [] i n h = absurd (omega arith)
+names-fact (e ∷ es) zero n h = n .0
+names-fact (e ∷ es) (suc i) n h = names-fact es i (n .1) (omega arith)
+
+fact-of : (f b : ℕ) (p : Presence) → f < factCount → b ≡ entryField (entryOf f p) → b % 1024 ≡ f
+fact-of f b absent h e = omega arith
+fact-of f b present h e = omega arith
+fact-of f b unknown h e = omega arith
+
+presence-of : (f b : ℕ) (p : Presence) → f < factCount → b ≡ entryField (entryOf f p) → presence (b / 16384) ≡ p
+presence-of f b absent h e = ap presence (let k : b / 16384 ≡ 0 = omega arith in k)
+presence-of f b present h e = ap presence (let k : b / 16384 ≡ 1 = omega arith in k)
+presence-of f b unknown h e = ap presence (let k : b / 16384 ≡ 2 = omega arith in k)
+
+-- ---- one entry more
+once-end : (l es : Consulted) (e : Entry) → onceFrom l (es ++ e ∷ []) ≡ consult (onceFrom l es) (e .fact) (e .seen)
+once-end l [] e = refl
+once-end l (x ∷ es) e = once-end (consult l (x .fact) (x .seen)) es e
+
+-- The first i entries are listed.
+pub record Loading (words : List ℕ) (count : ℕ) (s t : Lent) (i : ℕ) : Type 0 where
+  pub within : i ≤ count
+  pub room : most t ≡ most s
+  pub entries-long : length (t .entries) ≡ length (s .entries)
+  pub seen-long : length (t .seen) ≡ length (s .seen)
+  pub log : (es : Consulted) (rest : List ℕ) → Named es → count ≡ length es → pack entryBits (map entryField es) ++ rest ≡ drop 1 words → Consults (λ l. onceFrom l (take i es)) s t
+
+module _ (words : List ℕ) (count : ℕ) (s : Lent) where
+  pub load-none : Loading words count s s 0
+  load-none = record { within = omega arith; room = refl; entries-long = refl; seen-long = refl; log = λ es rest n e were. consults-none }
+
+  entry-listed : (t u : Lent) (i b f : ℕ) (p : Presence) (es : Consulted) → Named es → i < length es → b ≡ getD (map entryField es) i 0 → f ≡ b % 1024 → p ≡ presence (b / 16384) →
+      Recorded f p t u → Consults (λ l. onceFrom l (take i es)) s t → Consults (λ l. onceFrom l (take (i + 1) es)) s u
+  entry-listed t u i b f p es n h eb ef ep r k =
+      let e = getD es i nothing-yet in
+      let is : b ≡ entryField e = eb ∙ field-of es i h in
+      let below = names-fact es i n h in
+      let fact : f ≡ e .fact = ef ∙ fact-of (e .fact) b (e .seen) below is in
+      let seen : p ≡ e .seen = ep ∙ presence-of (e .fact) b (e .seen) below is in
+      consults-as (λ l.
+      ap (λ j. onceFrom l (take j es)) (add-one i) ∙ ap (onceFrom l) (take-suc es i nothing-yet h) ∙ once-end l (take i es) e
+      ∙ ap₂ (λ g q. consult (onceFrom l (take i es)) g q) (sym fact) (sym seen))
+      (consults-then k (r .log))
+
+  pub load-more : (t u : Lent) (i b f : ℕ) (p : Presence) → i < count → Loading words count s t i → b ≡ fieldAt entryBits (drop 1 words) i → f ≡ b % 1024 → p ≡ presence (b / 16384) →
+      Recorded f p t u → length (u .entries) ≡ length (t .entries) → length (u .seen) ≡ length (t .seen) → Loading words count s u (i + 1)
+  load-more t u i b f p h k eb ef ep r le ls =
+      record {
+        within = omega arith;
+        room = r .room ∙ k .room;
+        entries-long = le ∙ k .entries-long;
+        seen-long = ls ∙ k .seen-long;
+        log = λ es rest n c were.
+            let here : i < length es = omega arith in
+            entry-listed t u i b f p es n here (eb ∙ entry-field es rest (drop 1 words) i n here were) ef ep r (k .log es rest n c were);
+      }
+
+  pub load-all : (t : Lent) (i : ℕ) → count ≤ i → Loading words count s t i → LoadsConsulted words count s t
+  load-all t i h k =
+      record {
+        room = k .room;
+        log = λ es rest n c were. consults-as (λ l. ap (onceFrom l) (sym (take-all i es (omega arith)))) (k .log es rest n c were);
+      }
+
+  -- Words that end before their entries do hold none.
+  pub load-cut : (t : Lent) (i : ℕ) → i < count → length words ≤ 1 + i / 2 → Loading words count s t i → LoadsConsulted words count s t
+  load-cut t i h short k =
+      record {
+        room = k .room;
+        log = λ es rest n c were.
+            let long : length (pack entryBits (map entryField es)) ≡ (length es + 1) / 2 = length-pack entryBits (map entryField es) ∙ ap (λ m. (m + 1) / 2) (length-map es entryField) in
+            let z : ⊥ = omega (arith, long, ap length were, length-append (pack entryBits (map entryField es)) rest, length-drop 1 words) in
+            absurd z;
+      }

@@ -1,0 +1,111 @@
+-- `completion::complete_residual` meets its contract. Assumes nothing.
+use mathlib.Core.Path.{sym, ap, _∙_}
+use Rattle.facts.specs.Answers.{faultOf}
+use Rattle.policy_model.specs.Answers.{recordLead}
+use Rattle.completion.proofs.Completing.{no-words, too-many-words, bad-table, bad-record, resolved-answered, pending-answered}
+use borrow.Author.Needs.{needs}
+use Rattle.completion.proofs.complete_residual.Statement.{statement}
+use Rattle.completion.proofs.complete_residual.Tie as tie
+
+returns : tie.Need-returns
+returns c =
+    let args = c .before .before .before .before .args in
+    no-words (args .words .now) (args .facts .now) (args .out .now) (c .if1 .taken)
+
+returns-2 : tie.Need-returns-2
+returns-2 c =
+    let args = c .before .before .before .before .before .args in
+    too-many-words (args .words .now) (args .facts .now) (args .out .now) (c .if2 .taken)
+
+known-fault-requires : tie.Need-known-fault-requires
+known-fault-requires c κs = search needs
+
+enum-known-number : tie.Need-enum-known-number
+enum-known-number c = search needs
+
+enum-told : tie.Need-enum-told
+enum-told c = search needs
+
+check-record-requires : tie.Need-check-record-requires
+check-record-requires c κs = search needs
+
+enum-known-number-2 : tie.Need-enum-known-number-2
+enum-known-number-2 c = search needs
+
+enum-told-2 : tie.Need-enum-told-2
+enum-told-2 c = search needs
+
+copy-record-requires : tie.Need-copy-record-requires
+copy-record-requires c κs = search needs
+
+enum-known-consulted : tie.Need-enum-known-consulted
+enum-known-consulted c = search needs
+
+cast-complete-pending : tie.Need-cast-complete-pending
+cast-complete-pending c = search needs
+
+complete-pending-requires : tie.Need-complete-pending-requires
+complete-pending-requires c κs = search needs
+
+returns-3 : tie.Need-returns-3
+returns-3 c =
+    let fault = c .before .before .before in
+    let args = fault .before .before .before .before .before .before .args in
+    bad-table (args .words .now) (args .facts .now) (args .out .now) (fault .before .before .if1 .left) (fault .before .if2 .left) _ (ap faultOf (sym (c .before .number .given .1)) ∙ fault .known-fault .ensures)
+
+returns-4 : tie.Need-returns-4
+returns-4 c =
+    let check = c .before .before .before in
+    let fault = check .before .before .before in
+    let args = fault .before .before .before .before .before .before .args in
+    bad-record (args .words .now) (args .facts .now) (args .out .now) (fault .before .before .if1 .left) (fault .before .if2 .left) (ap faultOf (sym (check .before .enum-told .given .1)) ∙ fault .known-fault .ensures) _
+    (ap recordLead (sym (c .before .number2 .given .1)) ∙ check .check-record .ensures)
+
+same-length : tie.Need-same-length
+same-length c = search needs
+
+returns-5 : tie.Need-returns-5
+returns-5 c =
+    let copy = c .before .before in
+    let told = copy .before .before in
+    let check = told .before .before in
+    let fault = check .before .before .before in
+    let args = fault .before .before .before .before .before .before .args in
+    resolved-answered (args .words .now) (args .facts .now) (args .out .now) (fault .before .before .if1 .left) (fault .before .if2 .left) (ap faultOf (sym (check .before .enum-told .given .1)) ∙ fault .known-fault .ensures) _ _ _ _
+    (ap recordLead (sym (told .enum-told2 .given .1)) ∙ check .check-record .ensures) (copy .copy-record .ensures)
+
+same-length-2 : tie.Need-same-length-2
+same-length-2 c = search needs
+
+returns-6 : tie.Need-returns-6
+returns-6 c =
+    let done = c .before .before in
+    let told = done .before .before .before in
+    let check = told .before .before in
+    let fault = check .before .before .before in
+    let args = fault .before .before .before .before .before .before .args in
+    pending-answered (args .words .now) (args .facts .now) (args .out .now) (fault .before .before .if1 .left) (fault .before .if2 .left) (ap faultOf (sym (check .before .enum-told .given .1)) ∙ fault .known-fault .ensures) _ _ _ _
+    (ap recordLead (sym (told .consulted .given .1)) ∙ check .check-record .ensures) (done .complete-pending .ensures)
+
+pub complete-residual-spec : {M : Type 1} → statement M
+complete-residual-spec =
+    tie.close
+    (tie.spec
+    returns
+    returns-2
+    known-fault-requires
+    enum-known-number
+    enum-told
+    check-record-requires
+    enum-known-number-2
+    enum-told-2
+    copy-record-requires
+    enum-known-consulted
+    cast-complete-pending
+    complete-pending-requires
+    returns-3
+    returns-4
+    same-length
+    returns-5
+    same-length-2
+    returns-6)

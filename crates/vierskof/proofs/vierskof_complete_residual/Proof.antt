@@ -1,0 +1,21 @@
+-- `vierskof::vierskof_complete_residual` meets its contract: that of the call. Assumes nothing.
+use Rattle.vierskof.proofs.Writing.{writes}
+use borrow.Author.Needs.{needs}
+use Rattle.vierskof.proofs.vierskof_complete_residual.Statement.{statement}
+use Rattle.vierskof.proofs.vierskof_complete_residual.Tie as tie
+
+complete-residual-requires : tie.Need-complete-residual-requires
+complete-residual-requires c κs = search needs
+
+written-requires : tie.Need-written-requires
+written-requires c κs = search needs
+
+same-length : tie.Need-same-length
+same-length c = search needs
+
+returns : tie.Need-returns
+returns c = writes (c .before .before .before .complete-residual .ensures) (c .written .ensures)
+
+pub vierskof-complete-residual-spec : {M : Type 1} → statement M
+vierskof-complete-residual-spec =
+    tie.close (tie.spec complete-residual-requires written-requires same-length returns)

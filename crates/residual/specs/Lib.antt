@@ -1,0 +1,2 @@
+pub mod Weight
+pub mod Answers

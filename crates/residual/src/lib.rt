@@ -1,0 +1,70 @@
+// What a residual keeps, after gatekeep's partial.rs: the node of a resolved part, and a list of such nodes and pending arms.
+// An output may be too short for the words, and then only their size is right.
+use decision::Decision;
+ghost use Prim.Native.Nat.{_+_, _≤_};
+ghost use lib.ListN.{length};
+ghost use Rattle.model.specs.Facts.{tableOf};
+ghost use Rattle.sizes.specs.Laid.{tooMany};
+ghost use Rattle.residual.specs.Answers.{NodeLaid, Moved, ListPut};
+
+// No node lists more facts.
+const MOST_LISTED: usize = 4095;
+
+// Lays the node of a resolved part, a PermitWithTrace or a DenyWithTrace, at the front of `out`, and returns its size: too many words for a record
+// where its facts can't be counted.
+pub fn policy_from_decision(
+    words: &[u32],
+    decision: Decision,
+    facts: &[u8],
+    buf: &mut [u8],
+    named: &mut [u16],
+    out: &mut [u32],
+) -> usize
+    requires { ⌜ (decision .count ≤ 64) × (64 ≤ length (now buf)) × (length (now words) ≤ length (now named)) × (4095 ≤ length (now named)) ⌝ }
+    ensures { λ r. ⌜ NodeLaid (now (words .entry)) (tableOf (now (facts .entry))) decision (now (buf .entry)) (now (buf .exit)) (now (out .exit)) r ⌝ }
+{
+    let held = decision::obligations(words, decision, buf);
+    let facts_named = clause::clause_facts(words, decision.clause, facts, named);
+    if facts_named > MOST_LISTED {
+        return sizes::LIMIT + 1;
+    }
+    let size = clause::decision_words(decision.permit, held, facts_named);
+    if out.len() < size {
+        return size;
+    }
+    clause::write_decision(words, decision, buf, held, named, facts_named, out)
+}
+
+// Moves the `n` words after the first one up by `by` words.
+fn move_up(out: &mut [u32], n: usize, by: usize)
+    requires { ⌜ 1 + n + by ≤ length (now out) ⌝ }
+    ensures { λ r. ⌜ Moved n by (now (out .entry)) (now (out .exit)) ⌝ }
+{
+    let mut i = n;
+    while i != 0 {
+        out[i + by] = out[i];
+        i -= 1;
+    }
+}
+
+// Makes a list of the first `kept` words of `front`, the nodes of its resolved parts, and of the pending arms in `out`, which are the words after the
+// first among its first `size`. Returns the list's size.
+pub fn put_list(lead: u32, front: &[u32], kept: usize, out: &mut [u32], size: usize) -> usize
+    requires { ⌜ (kept ≤ tooMany) × (size ≤ tooMany) × (1 ≤ size) ⌝ }
+    ensures { λ r. ⌜ ListPut lead (now (front .entry)) kept size (now (out .entry)) (now (out .exit)) r ⌝ }
+{
+    let total = sizes::plus(kept, size);
+    if total > sizes::LIMIT {
+        return total;
+    }
+    if out.len() < total {
+        return total;
+    }
+    if front.len() < kept {
+        return total;
+    }
+    move_up(out, size - 1, kept);
+    packing::copy_words(front, 0, kept, &mut out[1..]);
+    out[0] = lead;
+    total
+}

@@ -1,9 +1,10 @@
 // What a residual keeps, after gatekeep's partial.rs: the node of a resolved part, and a list of such nodes and pending arms.
 // An output may be too short for the words, and then only their size is right.
 use decision::Decision;
-ghost use Prim.Native.Nat.{_+_, _≤_};
+ghost use Prim.Native.Nat.{_+_, _*_, _≤_, min};
 ghost use lib.ListN.{length};
 ghost use Rattle.model.specs.Facts.{tableOf};
+ghost use Rattle.model.specs.Writing.{mostListed};
 ghost use Rattle.sizes.specs.Laid.{tooMany};
 ghost use Rattle.residual.specs.Answers.{NodeLaid, Moved, ListPut};
 
@@ -20,7 +21,7 @@ pub fn policy_from_decision(
     named: &mut [u16],
     out: &mut [u32],
 ) -> usize
-    requires { ⌜ (decision .count ≤ 64) × (64 ≤ length (now buf)) × (length (now words) ≤ length (now named)) × (4095 ≤ length (now named)) ⌝ }
+    requires { ⌜ (decision .count ≤ 64) × (64 ≤ length (now buf)) × (length (now words) ≤ length (now named)) × (min (2 * length (now words)) mostListed ≤ length (now named)) ⌝ }
     ensures { λ r. ⌜ NodeLaid (now (words .entry)) (tableOf (now (facts .entry))) decision (now (buf .entry)) (now (buf .exit)) (now (out .exit)) r ⌝ }
 {
     let held = decision::obligations(words, decision, buf);

@@ -1,0 +1,71 @@
+-- `partial::put_pending` meets its contract. Assumes nothing.
+use native.Mathlib.Omega.{arith}
+use Rattle.partial.proofs.Putting.{put-too-long, put-no-room, put-not-laid, put-written}
+use borrow.Author.Needs.{needs}
+use Rattle.partial.proofs.put_pending.Statement.{statement}
+use Rattle.partial.proofs.put_pending.Tie as tie
+
+add-total : tie.Need-add-total
+add-total c = search needs
+
+add-total-2 : tie.Need-add-total-2
+add-total-2 c = search needs
+
+add-total-3 : tie.Need-add-total-3
+add-total-3 c = search needs
+
+returns : tie.Need-returns
+returns c = put-too-long (c .if1 .taken)
+
+returns-2 : tie.Need-returns-2
+returns-2 c = put-no-room (c .before .if1 .left) (c .if2 .taken)
+
+returns-3 : tie.Need-returns-3
+returns-3 c = put-not-laid (c .before .before .if1 .left) (c .if3 .taken)
+
+write-front-requires : tie.Need-write-front-requires
+write-front-requires c κs = search needs
+
+mul-copy-words : tie.Need-mul-copy-words
+mul-copy-words c = search needs
+
+sub-copy-words : tie.Need-sub-copy-words
+sub-copy-words c = search needs
+
+part-copy-words-start : tie.Need-part-copy-words-start
+part-copy-words-start c = search needs
+
+part-copy-words-end : tie.Need-part-copy-words-end
+part-copy-words-end c = search needs
+
+copy-words-requires : tie.Need-copy-words-requires
+copy-words-requires c κs = search needs
+
+add-t11 : tie.Need-add-t11
+add-t11 c = search needs
+
+same-length : tie.Need-same-length
+same-length c = search needs
+
+returns-4 : tie.Need-returns-4
+returns-4 c = put-written (c .before .before .before .before .before .before .before .before .before .before .if1 .left) (c .before .before .before .before .before .before .before .before .before .if2 .left) (c .before .before .before .before .before .before .before .before .if3 .left) (c .before .before .before .before .before .before .write-front .ensures .1) (c .before .before .copy-words .ensures .0) (c .before .before .copy-words .ensures .1)
+
+pub put-pending-spec : {M : Type 1} → statement M
+put-pending-spec =
+    tie.close
+    (tie.spec
+    add-total
+    add-total-2
+    add-total-3
+    returns
+    returns-2
+    returns-3
+    write-front-requires
+    mul-copy-words
+    sub-copy-words
+    part-copy-words-start
+    part-copy-words-end
+    copy-words-requires
+    add-t11
+    same-length
+    returns-4)

@@ -3,6 +3,7 @@ use mathlib.Core.Path.{_≡_}
 use mathlib.Core.List.{List}
 use Prim.Native.Nat.{ℕ, _+_, _*_, _^_}
 use Rattle.model.specs.Required.{Required}
+use Rattle.model.specs.Required.{oneBit, Asked}
 use Rattle.model.specs.Calls.{Answer, numberOf, writtenOf, afterwards}
 use Rattle.required.specs.Answers.{setAfter}
 
@@ -18,3 +19,7 @@ pub record Requires (m : Required) (before after : List ℕ) (r : ℕ) : Type 0 
 pub record Writes (a : Answer) (before after : List ℕ) (r : ℕ) : Type 0 where
   pub answer : r ≡ returned (numberOf a) (writtenOf a)
   pub output-is : after ≡ afterwards a before
+
+-- A question: 1 for yes, 0 for no.
+abbrev pub said : Asked → ℕ
+said a = returned (a .number) (oneBit (a .yes))

@@ -1,15 +1,19 @@
 // The exported C interface. A slice passes as a pointer and an element count. A call returns one number: that of the refusal times 2^32, or 0
 // when it is accepted, and the call's value.
 use calls::Answer;
+use questions::Told;
 use required::Required;
 ghost use Rattle.model.specs.Outcome.{productSets};
 ghost use Rattle.model.specs.Required.{requiredFacts, requiredResidualFacts};
+ghost use Rattle.model.specs.Required.{isPermitConstant, isDenyConstant, carriesObligation};
 ghost use Rattle.model.specs.Calls.{evaluate, completeResidual};
 ghost use mathlib.Core.Path.{_≡_};
 ghost use lib.ListN.{length};
 ghost use Rattle.calls.specs.Answers.{numberOf as Calls·numberOf, writtenOf};
 ghost use Rattle.required.specs.Answers.{numberOf, countOf};
+ghost use Rattle.questions.specs.Answers.{asked};
 ghost use Rattle.vierskof.specs.Answers.{Requires, Writes, returned};
+ghost use Rattle.vierskof.specs.Answers.{said};
 
 // The number of the refusal and the words written, as one number.
 fn written(answer: Answer) -> u64
@@ -65,4 +69,38 @@ pub extern "C" fn vierskof_required_residual_facts(residual: &[u32], set: &mut [
     ensures { λ r. ⌜ Requires (requiredResidualFacts productSets (now (residual .entry))) (now (set .entry)) (now (set .exit)) r ⌝ }
 {
     counted(required::required_residual_facts(residual, set))
+}
+
+// The number of the refusal and yes or no, as one number.
+fn told(answer: Told) -> u64
+    ensures { λ r. ⌜ r ≡ said (asked answer) ⌝ }
+{
+    match answer {
+        Told::Says(yes) => if yes { 1 } else { 0 },
+        Told::Refused(number) => (number as u64) * 4294967296,
+    }
+}
+
+// Whether a record's tree is a permit: 1 if its top node is 6 or 12.
+#[no_mangle]
+pub extern "C" fn vierskof_is_permit_constant(residual: &[u32]) -> u64
+    ensures { λ r. ⌜ r ≡ said (isPermitConstant productSets (now (residual .entry))) ⌝ }
+{
+    told(questions::is_permit_constant(residual))
+}
+
+// Whether it is a deny: 1 if its top node is 7 or 13.
+#[no_mangle]
+pub extern "C" fn vierskof_is_deny_constant(residual: &[u32]) -> u64
+    ensures { λ r. ⌜ r ≡ said (isDenyConstant productSets (now (residual .entry))) ⌝ }
+{
+    told(questions::is_deny_constant(residual))
+}
+
+// Whether it carries an obligation: 1 if any 8 or 12 in it has obligations.
+#[no_mangle]
+pub extern "C" fn vierskof_carries_obligation(residual: &[u32]) -> u64
+    ensures { λ r. ⌜ r ≡ said (carriesObligation productSets (now (residual .entry))) ⌝ }
+{
+    told(questions::carries_obligation(residual))
 }

@@ -4,11 +4,14 @@ use crate::case::{Answer, Call, Case};
 use crate::refusal::Refusal;
 
 /// The calls that are proved so far.
-pub const CALLS: [Call; 4] = [
+pub const CALLS: [Call; 7] = [
     Call::Evaluate,
     Call::CompleteResidual,
     Call::RequiredFacts,
     Call::RequiredResidualFacts,
+    Call::IsPermitConstant,
+    Call::IsDenyConstant,
+    Call::CarriesObligation,
 ];
 
 /// Whether the proved call answers as the original does, and leaves what it must.
@@ -19,6 +22,9 @@ pub fn agrees(case: &Case) -> bool {
         Call::CompleteResidual => writes(case, &expected, vierskof::complete_residual),
         Call::RequiredFacts => requires(case, &expected, vierskof::required_facts),
         Call::RequiredResidualFacts => requires(case, &expected, vierskof::required_residual_facts),
+        Call::IsPermitConstant => says(case, &expected, vierskof::is_permit_constant),
+        Call::IsDenyConstant => says(case, &expected, vierskof::is_deny_constant),
+        Call::CarriesObligation => says(case, &expected, vierskof::carries_obligation),
         other => unreachable!("{} is not proved yet", other.name()),
     }
 }
@@ -54,5 +60,18 @@ fn requires(
         Ok(Answer::Facts(facts)) => found == Ok(facts.count()) && set == facts.0,
         Ok(_) => false,
         Err(refusal) => found == Err(u32::from(refusal.number())) && set == [0; 16],
+    }
+}
+
+fn says(
+    case: &Case,
+    expected: &Result<Answer, Refusal>,
+    call: fn(&[u32]) -> Result<bool, u32>,
+) -> bool {
+    let found = call(&case.words);
+    match expected {
+        Ok(Answer::Says(yes)) => found == Ok(*yes),
+        Ok(_) => false,
+        Err(refusal) => found == Err(u32::from(refusal.number())),
     }
 }

@@ -33,6 +33,9 @@ mod c {
             set: *mut u64,
             numbers: usize,
         ) -> u64;
+        pub fn vierskof_is_permit_constant(record: *const u32, words: usize) -> u64;
+        pub fn vierskof_is_deny_constant(record: *const u32, words: usize) -> u64;
+        pub fn vierskof_carries_obligation(record: *const u32, words: usize) -> u64;
     }
 }
 
@@ -90,6 +93,29 @@ pub fn required_residual_facts(record: &[u32], set: &mut FactSet) -> Result<u32,
             set.len(),
         )
     })
+}
+
+/// Whether a record's tree is a permit: its top node is 6 or 12.
+pub fn is_permit_constant(record: &[u32]) -> Result<bool, u32> {
+    // SAFETY: as above.
+    says(unsafe { c::vierskof_is_permit_constant(record.as_ptr(), record.len()) })
+}
+
+/// Whether a record's tree is a deny: its top node is 7 or 13.
+pub fn is_deny_constant(record: &[u32]) -> Result<bool, u32> {
+    // SAFETY: as above.
+    says(unsafe { c::vierskof_is_deny_constant(record.as_ptr(), record.len()) })
+}
+
+/// Whether any 8 or 12 of a record's tree has obligations.
+pub fn carries_obligation(record: &[u32]) -> Result<bool, u32> {
+    // SAFETY: as above.
+    says(unsafe { c::vierskof_carries_obligation(record.as_ptr(), record.len()) })
+}
+
+/// 1 for yes, 0 for no.
+fn says(returned: u64) -> Result<bool, u32> {
+    value(returned).map(|yes| yes == 1)
 }
 
 /// The upper half is the number of the refusal, 0 when accepted; the lower one is the value.

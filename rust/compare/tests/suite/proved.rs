@@ -52,6 +52,9 @@ fn the_limits_agree_on_a_small_stack() {
             let _ = vierskof::complete_residual(words, table, &mut out);
             let _ = vierskof::required_facts(words, &mut set);
             let _ = vierskof::required_residual_facts(words, &mut set);
+            let _ = vierskof::is_permit_constant(words);
+            let _ = vierskof::is_deny_constant(words);
+            let _ = vierskof::carries_obligation(words);
         }
     });
     walked.expect("a thread").join().expect("no overflow");

@@ -1,85 +1,39 @@
--- From a record's parts to the call's answer. Assumes nothing.
-use mathlib.Core.Path.{_≡_, refl, sym, _∙_, ap, ap₂, subst}
-use mathlib.Core.Bool.{Bool, true, false, cond, _&&_}
-use mathlib.Core.Option.{none, some}
-use mathlib.Core.List.{List, [], _++_}
-use Prim.Native.Nat.{ℕ, _+_, _≤_, _<_}
+-- A Pending record that is completed: its entries are listed, its tree is decided, and the record of both is put. Assumes nothing.
+use mathlib.Core.Path.{_≡_, refl, sym, _∙_, ap}
+use mathlib.Core.Bool.{true}
+use mathlib.Core.Option.{none}
+use mathlib.Core.List.{List, []}
+use Prim.Native.Nat.{ℕ, _+_, _≤_}
 use native.Mathlib.Omega.{arith}
-use borrow.Author.Tests.{le-leb, lt-leb}
-use lib.Dec.{leb}
 use lib.ListN.{length, drop, replicate}
 use lib.Seq.{drop-drop}
 use Rattle.model.specs.Facts.{Table, factCount, tableOf, knownFacts, tableFault}
 use Rattle.model.specs.Outcome.{productSets}
-use Rattle.model.specs.Decision.{Decision, permits, denies}
-use Rattle.model.specs.Policy.{Policy}
+use Rattle.model.specs.Decision.{Decision}
 use Rattle.model.specs.Partial.{ReducedPolicy, resolved, pending}
-use Rattle.model.specs.Consulted.{Consulted, once, read}
-use Rattle.model.specs.Evaluate.{evalPolicy}
-use Rattle.model.specs.Record.{Record, tree, completed, completedFrom}
-use Rattle.model.specs.Writing.{encode, encodeR, leadKind, shortD, short}
-use Rattle.model.specs.Reading.{Parsed, refuse, got, unless, recordLength, readPolicy, readRecord}
+use Rattle.model.specs.Consulted.{Consulted, once}
+use Rattle.model.specs.Record.{Record, completedFrom}
+use Rattle.model.specs.Writing.{encode, leadKind}
+use Rattle.model.specs.Reading.{got, readPolicy, readRecord}
 use Rattle.model.specs.Calls as model
-use Rattle.laws.specs.FieldLaws.{Holds}
-use Rattle.laws.specs.Form.{FormD}
 use Rattle.laws.specs.Size.{pairs, words}
 use Rattle.laws.specs.Products.{InRange, writtenProducts}
 use Rattle.laws.specs.ReadForm.{ok-record}
 use Rattle.laws.specs.Canon.{same-record}
-use Rattle.packing.specs.Written as packing
-use Rattle.policy_model.specs.Answers.{Lead, leadOf, recordLead}
-use Rattle.policy_model.specs.declared.RecordCheck.the-variants.{Resolved, Pending}
-use Rattle.policy_model.proofs.Records.{Parts, TreeRead, record-parts, lead-is}
+use Rattle.policy_model.specs.Answers.{leadOf, recordLead}
+use Rattle.policy_model.specs.declared.RecordCheck.the-variants.{Pending}
+use Rattle.policy_model.proofs.Records.{record-parts, lead-is}
 use Rattle.condition.specs.Listing.{Lent, lent, unseen, Room, Listed}
 use Rattle.condition.proofs.Listing.{unseen-none}
 use Rattle.evaluate.specs.declared.PolicyEval.{PolicyEval}
 use Rattle.evaluate.specs.Evaluating.{EvaluatesP}
 use Rattle.evaluate.proofs.Nodes.{held-at}
 use Rattle.calls.specs.declared.Answer.{Answer}
-use Rattle.calls.specs.declared.Answer.the-variants.{Written, Refused}
 use Rattle.calls.specs.Answers.{Answered, Put}
 use Rattle.calls.proofs.Deciding.{decided-after}
-use Rattle.calls.proofs.Steps.{no-length, long-length, good-length, bad-length, bad-fields, bad-words, words-read}
-use Rattle.completion.specs.Answers.{LoadsConsulted, copied, Completes}
+use Rattle.completion.specs.Answers.{LoadsConsulted, Completes}
+use Rattle.completion.proofs.Records.{on-read, pending-answered}
 
--- ---- a record that is copied
-module _ (rec before : List ℕ) where
-  pub no-room : length before < length rec → Answered (copied rec (length before)) before before (Refused 11)
-  no-room h = rw (lt-leb (length rec) (length before) h) (record { answer-is = refl; output-is = refl })
-
-  pub copy-written : (after : List ℕ) (n : ℕ) → length rec ≤ length before → n ≡ length rec → packing.Written rec before after n → Answered (copied rec (length before)) before after (Written n)
-  copy-written after n h e w = rw (le-leb (length rec) (length before) h) (record { answer-is = ap Written e; output-is = w .output ∙ ap (λ m. rec ++ drop m before) e })
-
--- A Resolved record that was read is written as it stands: its lists are short, and it has the length of a record.
-short-decision : (d : Decision ℕ) → FormD InRange d → shortD d ≡ true
-short-decision (permits p) h = le-leb (length (p .facts)) 4095 (h .3 .0)
-short-decision (denies n) h = le-leb (length (n .facts)) 4095 (h .1 .0)
-
-read-length : {A : Type 0} (b : Bool) (q : Parsed A) (a : A) (vs : List ℕ) → unless b 1 q ≡ got a vs → b ≡ true
-read-length true q a vs e = refl
-read-length false q a vs e = let z : _≡_ {A = ℕ} 0 1 = cc in let n : ⊥ = omega arith in absurd n
-
-and-true : (a : Bool) → ((a && true) && true) ≡ a
-and-true true = refl
-and-true false = refl
-
-write-copied : (rec : List ℕ) (room : ℕ) (x : Record ℕ) → encodeR (productSets .number) x ≡ rec → recordLength rec ≡ true → short (tree x) ≡ true → model.write productSets room x ≡ copied rec room
-write-copied rec room x same long few =
-    (λ i. cond ((leb (length (same i)) room && recordLength (same i)) && few i) (model.wrote (same i)) (model.refusal 11))
-    ∙ ap (λ b. cond ((leb (length rec) room && b) && true) (model.wrote rec) (model.refusal 11)) long
-    ∙ ap (λ b. cond b (model.wrote rec) (model.refusal 11)) (and-true (leb (length rec) room))
-
-pub came-back : (rec : List ℕ) (room : ℕ) (d : Decision ℕ) (l : Consulted) (vs : List ℕ) → readRecord (productSets .value) rec ≡ got (record { body = resolved d; log = l }) vs →
-    model.write productSets room (record { body = resolved d; log = l }) ≡ copied rec room
-came-back rec room d l vs e =
-    let ok = held-at (ok-record InRange (productSets .value) (writtenProducts .sound) rec) e in
-    write-copied rec room (record { body = resolved d; log = l }) (same-record (productSets .number) (productSets .value) (writtenProducts .only) rec (record { body = resolved d; log = l }) vs e)
-    (read-length (recordLength rec) _ _ vs e) (short-decision d (ok .form))
-
-on-read : {A : Type 0} {before after : List ℕ} {a : Answer} (q : Parsed A) (k : A → model.Answer) (x : A) (vs : List ℕ) → q ≡ got x vs → Answered (k x) before after a → Answered (model.onRead q k) before after a
-on-read {before = before} {after = after} {a = a} q k x vs e h = subst (λ p. Answered (model.onRead p k) before after a) (sym e) h
-
--- ---- a Pending record: its entries are listed, its tree is decided, and the record of both is put
 pub room-after : (count : ℕ) (entries seen : List ℕ) → length entries ≡ 1024 → length seen ≡ 1024 → count + unseen seen ≡ 0 + unseen (replicate factCount 0) → Room (lent count entries seen)
 room-after count entries seen e f k = record { flags = f; enough = omega (arith, unseen-none factCount) }
 
@@ -103,48 +57,13 @@ module _ {W : List ℕ} {count at : ℕ} {T : Table} {s u : Lent} {r : PolicyEva
             on-read (readRecord (productSets .value) W) _ x vs q (tree-decided (x .body) (x .log) vs q k c p));
       }
 
--- ---- the call's refusals, and its answers
-refused-by : (n : ℕ) (q : Parsed (Record ℕ)) → refuse n ≡ leadOf q → q ≡ refuse n
-unfolding leadOf
-refused-by n (refuse m) e = ap refuse (let h : m ≡ n = cc in h)
-refused-by n (got x ws) e = let z : _≡_ {A = ℕ} 0 1 = cc in let b : ⊥ = omega arith in absurd b
+-- The record of completing, from the table's bytes.
+abbrev pub completion : List ℕ → ReducedPolicy ℕ → Consulted → Record ℕ
+completion facts b l = completedFrom productSets (tableOf facts) b l
 
-module _ (rec facts out : List ℕ) where
-  abbrev Stored : Parsed (Record ℕ)
-  Stored = readRecord (productSets .value) rec
+pub comes-back : (facts : List ℕ) (d : Decision ℕ) (l : Consulted) → completion facts (resolved d) l ≡ record { body = resolved d; log = l }
+comes-back facts d l = refl
 
-  abbrev Wrote : Record ℕ → model.Answer
-  Wrote x = model.write productSets (length out) (completed productSets (tableOf facts) x)
-
-  abbrev Call : model.Answer
-  Call = model.completeResidual productSets rec facts (length out)
-
-  pub no-words : length rec ≡ 0 → Answered Call out out (Refused 1)
-  no-words h = bad-length (recordLength rec) (tableFault knownFacts facts) Stored Wrote out (no-length (length rec) 16384 h)
-
-  pub too-many-words : 16384 < length rec → Answered Call out out (Refused 1)
-  too-many-words h = bad-length (recordLength rec) (tableFault knownFacts facts) Stored Wrote out (long-length (length rec) 16384 h)
-
-  module _ (some-words : length rec ≡ 0 → ⊥) (few : length rec ≤ 16384) where
-    fits : recordLength rec ≡ true
-    fits = good-length (length rec) 16384 some-words few
-
-    pub bad-table : (n : ℕ) → some n ≡ tableFault knownFacts facts → Answered Call out out (Refused n)
-    bad-table n e = bad-fields (recordLength rec) (tableFault knownFacts facts) Stored Wrote fits out n e
-
-    module _ (faultless : none ≡ tableFault knownFacts facts) where
-      pub bad-record : (n : ℕ) → refuse n ≡ leadOf Stored → Answered Call out out (Refused n)
-      bad-record n e = bad-words (recordLength rec) (tableFault knownFacts facts) Stored Wrote fits faultless out n (refused-by n Stored e)
-
-      body-copied : (after : List ℕ) (r : Answer) (body : ReducedPolicy ℕ) (log : Consulted) (vs : List ℕ) → Stored ≡ got (record { body = body; log = log }) vs → 14 ≡ leadKind (productSets .number) body →
-          Answered (copied rec (length out)) out after r → Answered (model.write productSets (length out) (completedFrom productSets (tableOf facts) body log)) out after r
-      body-copied after r (resolved d) log vs q k h = subst (λ x. Answered x out after r) (sym (came-back rec (length out) d log vs q)) h
-      body-copied after r (pending t) log vs q k h = let z : ⊥ = omega arith in absurd z
-
-      pub resolved-answered : (after : List ℕ) (r : Answer) (count at : ℕ) → recordLead (Resolved count at) ≡ leadOf Stored → Answered (copied rec (length out)) out after r → Answered Call out after r
-      resolved-answered after r count at e h =
-          words-read (recordLength rec) (tableFault knownFacts facts) Stored Wrote fits faultless out after r
-          (lead-is Stored (record { kind = 14; consulted = count; tree = at }) e (λ x vs q k c p. on-read Stored Wrote x vs q (body-copied after r (x .body) (x .log) vs q k h)))
-
-      pub pending-answered : (after : List ℕ) (r : Answer) (count at : ℕ) → recordLead (Pending count at) ≡ leadOf Stored → Completes rec count at (tableOf facts) out after r → Answered Call out after r
-      pending-answered after r count at e h = words-read (recordLength rec) (tableFault knownFacts facts) Stored Wrote fits faultless out after r (h .completes e)
+pub pending-completed : (rec facts out : List ℕ) → (length rec ≡ 0 → ⊥) → length rec ≤ 16384 → none ≡ tableFault knownFacts facts → (after : List ℕ) (r : Answer) (count at : ℕ) →
+    recordLead (Pending count at) ≡ leadOf (readRecord (productSets .value) rec) → Completes rec count at (tableOf facts) out after r → Answered (model.completeResidual productSets rec facts (length out)) out after r
+pending-completed rec facts out some-words few faultless after r count at e h = pending-answered knownFacts completion comes-back rec facts out some-words few faultless after r (h .completes e)

@@ -2,7 +2,9 @@
 use mathlib.Core.Path.{sym, ap, _∙_}
 use Rattle.facts.specs.Answers.{faultOf}
 use Rattle.policy_model.specs.Answers.{recordLead}
-use Rattle.completion.proofs.Completing.{no-words, too-many-words, bad-table, bad-record, resolved-answered, pending-answered}
+use Rattle.model.specs.Facts.{knownFacts}
+use Rattle.completion.proofs.Records.{no-words, too-many-words, bad-table, bad-record, resolved-answered}
+use Rattle.completion.proofs.Completing.{completion, comes-back, pending-completed}
 use borrow.Author.Needs.{needs}
 use Rattle.completion.proofs.complete_residual.Statement.{statement}
 use Rattle.completion.proofs.complete_residual.Tie as tie
@@ -10,12 +12,12 @@ use Rattle.completion.proofs.complete_residual.Tie as tie
 returns : tie.Need-returns
 returns c =
     let args = c .before .before .before .before .args in
-    no-words (args .words .now) (args .facts .now) (args .out .now) (c .if1 .taken)
+    no-words knownFacts completion comes-back (args .words .now) (args .facts .now) (args .out .now) (c .if1 .taken)
 
 returns-2 : tie.Need-returns-2
 returns-2 c =
     let args = c .before .before .before .before .before .args in
-    too-many-words (args .words .now) (args .facts .now) (args .out .now) (c .if2 .taken)
+    too-many-words knownFacts completion comes-back (args .words .now) (args .facts .now) (args .out .now) (c .if2 .taken)
 
 known-fault-requires : tie.Need-known-fault-requires
 known-fault-requires c κs = search needs
@@ -51,14 +53,14 @@ returns-3 : tie.Need-returns-3
 returns-3 c =
     let fault = c .before .before .before in
     let args = fault .before .before .before .before .before .before .args in
-    bad-table (args .words .now) (args .facts .now) (args .out .now) (fault .before .before .if1 .left) (fault .before .if2 .left) _ (ap faultOf (sym (c .before .number .given .1)) ∙ fault .known-fault .ensures)
+    bad-table knownFacts completion comes-back (args .words .now) (args .facts .now) (args .out .now) (fault .before .before .if1 .left) (fault .before .if2 .left) _ (ap faultOf (sym (c .before .number .given .1)) ∙ fault .known-fault .ensures)
 
 returns-4 : tie.Need-returns-4
 returns-4 c =
     let check = c .before .before .before in
     let fault = check .before .before .before in
     let args = fault .before .before .before .before .before .before .args in
-    bad-record (args .words .now) (args .facts .now) (args .out .now) (fault .before .before .if1 .left) (fault .before .if2 .left) (ap faultOf (sym (check .before .enum-told .given .1)) ∙ fault .known-fault .ensures) _
+    bad-record knownFacts completion comes-back (args .words .now) (args .facts .now) (args .out .now) (fault .before .before .if1 .left) (fault .before .if2 .left) (ap faultOf (sym (check .before .enum-told .given .1)) ∙ fault .known-fault .ensures) _
     (ap recordLead (sym (c .before .number2 .given .1)) ∙ check .check-record .ensures)
 
 same-length : tie.Need-same-length
@@ -71,7 +73,7 @@ returns-5 c =
     let check = told .before .before in
     let fault = check .before .before .before in
     let args = fault .before .before .before .before .before .before .args in
-    resolved-answered (args .words .now) (args .facts .now) (args .out .now) (fault .before .before .if1 .left) (fault .before .if2 .left) (ap faultOf (sym (check .before .enum-told .given .1)) ∙ fault .known-fault .ensures) _ _ _ _
+    resolved-answered knownFacts completion comes-back (args .words .now) (args .facts .now) (args .out .now) (fault .before .before .if1 .left) (fault .before .if2 .left) (ap faultOf (sym (check .before .enum-told .given .1)) ∙ fault .known-fault .ensures) _ _ _ _
     (ap recordLead (sym (told .enum-told2 .given .1)) ∙ check .check-record .ensures) (copy .copy-record .ensures)
 
 same-length-2 : tie.Need-same-length-2
@@ -84,7 +86,7 @@ returns-6 c =
     let check = told .before .before in
     let fault = check .before .before .before in
     let args = fault .before .before .before .before .before .before .args in
-    pending-answered (args .words .now) (args .facts .now) (args .out .now) (fault .before .before .if1 .left) (fault .before .if2 .left) (ap faultOf (sym (check .before .enum-told .given .1)) ∙ fault .known-fault .ensures) _ _ _ _
+    pending-completed (args .words .now) (args .facts .now) (args .out .now) (fault .before .before .if1 .left) (fault .before .if2 .left) (ap faultOf (sym (check .before .enum-told .given .1)) ∙ fault .known-fault .ensures) _ _ _ _
     (ap recordLead (sym (told .consulted .given .1)) ∙ check .check-record .ensures) (done .complete-pending .ensures)
 
 pub complete-residual-spec : {M : Type 1} → statement M

@@ -1,7 +1,7 @@
 -- `completion::copy_record` meets its contract. Assumes nothing.
 use lib.Seq.{take-length}
 use Rattle.packing.specs.Written.{written-same}
-use Rattle.completion.proofs.Completing.{no-room, copy-written}
+use Rattle.completion.proofs.Records.{no-room, copy-written}
 use borrow.Author.Needs.{needs}
 use Rattle.completion.proofs.copy_record.Statement.{statement}
 use Rattle.completion.proofs.copy_record.Tie as tie

@@ -6,7 +6,7 @@ use Prim.Native.Nat.{ℕ, zero, suc, _+_, _-_, _≤_, _<_, min}
 use native.Mathlib.Nat.{sub-zero}
 use native.Mathlib.Numerals.{add-one, sub-one}
 use native.Mathlib.Omega.{arith}
-use lib.ListN.{length, take, drop, getD, set, length-append, length-take, length-set, take-append-drop, List·getD-append}
+use lib.ListN.{length, take, drop, getD, set, length-append, length-take, length-drop, length-set, take-append-drop, List·getD-append}
 use lib.Seq.{length-take-le, take-suc, take-take, take-add, take-append-add, take-at, drop-at, drop-cons, append-snoc, set-at, getD-take}
 use Rattle.sizes.specs.Laid.{mostWords, tooMany, capped, Laid}
 use Rattle.partial_condition.specs.Holding.{MovedUp}
@@ -17,6 +17,17 @@ pub record Returned (used from : ℕ) (mid part out : List ℕ) : Type 0 where
   pub part-long : length part ≡ length mid - from
   pub long : length out ≡ length mid
   pub back : out ≡ take from mid ++ (part ++ drop (length mid - from) (drop from mid))
+
+pub returned : (used from : ℕ) (mid part : List ℕ) → from ≡ min used (length mid) → length (take from mid ++ (part ++ drop (length mid - from) (drop from mid))) ≡ length mid →
+    Returned used from mid part (take from mid ++ (part ++ drop (length mid - from) (drop from mid)))
+returned used from mid part e long =
+    let rest = drop (length mid - from) (drop from mid) in
+    record {
+      from-is = e;
+      part-long = omega (arith, length-append (take from mid) (part ++ rest), length-append part rest, length-take from mid, length-drop (length mid - from) (drop from mid), length-drop from mid);
+      long = long;
+      back = refl;
+    }
 
 -- Up to there it has not changed.
 pub front-same : {used from : ℕ} {mid part out : List ℕ} → Returned used from mid part out → take from out ≡ take from mid

@@ -88,13 +88,13 @@ module _ (h : Held) (next count : ℕ) (before : List ℕ) where
       alone true (ccons c cnil) k = (refl, k .2)
       alone stop (ccons c (ccons d cs)) k = absurd (omega (arith, k .0))
 
-  pub ends-list : (stop : Bool) (w : ℕ) (after : List ℕ) → (h .count ≡ 0 → ⊥) → (h .count ≡ 1 → ⊥) → h .used ≤ tooMany → w ≡ word (listKind stop) (h .count) → after ≡ set before 0 w →
+  pub ends-list : (stop : Bool) (w : ℕ) (after : List ℕ) → 2 ≤ h .count → h .used ≤ tooMany → w ≡ word (listKind stop) (h .count) → after ≡ set before 0 w →
       Ends stop h next count before (leftOf (h .used) next count) after
-  ends-list stop w after z o most v e = record { next-is = refl; count-is = refl; bound = most; ends = λ cs k. rw (e, v) (list stop cs k) }
+  ends-list stop w after some most v e = record { next-is = refl; count-is = refl; bound = most; ends = λ cs k. rw (e, v) (list stop cs k) }
     where
       list : (stop : Bool) (cs : Conditions) → Holding cs before h → Left (endOf stop (through cs)) (leftOf (h .used) next count) (set before 0 (word (listKind stop) (h .count)))
-      list stop cnil k = absurd (z (k .0))
-      list stop (ccons c cnil) k = absurd (o (k .0))
+      list stop cnil k = absurd (omega (arith, k .0))
+      list stop (ccons c cnil) k = absurd (omega (arith, k .0))
       list false (ccons c (ccons d cs)) k = (refl, laid-as refl (ap (λ n. word 4 n ∷ encodeCs (ccons c (ccons d cs))) (k .0)) (laid-lead (word 4 (h .count)) before (omega arith) (k .1 .laid)))
       list true (ccons c (ccons d cs)) k = (refl, laid-as refl (ap (λ n. word 5 n ∷ encodeCs (ccons c (ccons d cs))) (k .0)) (laid-lead (word 5 (h .count)) before (omega arith) (k .1 .laid)))
 

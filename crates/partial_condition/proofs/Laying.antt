@@ -111,25 +111,34 @@ rising-none size out =
     }
 
 module _ (size : ℕ) (out₀ out : List ℕ) (fits : size < length out₀) where
-  rising-suc : (j : ℕ) → Rising size out₀ out (suc j) → Rising size out₀ (set out (suc j) (getD out j 0)) j
-  rising-suc j s =
-      let f = s .few in
-      let moved = take (size - suc j) (drop (suc j) out₀) ++ drop (size + 1) out₀ in
+  -- What stands below i is what stood there.
+  below-same : (j : ℕ) (rest : List ℕ) → out ≡ take (suc (suc j)) out₀ ++ rest → j < length out₀ → getD out j 0 ≡ getD out₀ j 0
+  below-same j rest e lt =
+      ap (λ l. getD l j 0) e
+      ∙ List·getD-append (take (suc (suc j)) out₀) rest 0 j (omega (arith, length-take (suc (suc j)) out₀))
+      ∙ getD-take (suc (suc j)) out₀ j 0 (omega arith)
+
+  -- The word below i is one more of those that are moved.
+  one-moved : (j : ℕ) → suc j ≤ size → take (size - j) (drop j out₀) ≡ getD out₀ j 0 ∷ take (size - suc j) (drop (suc j) out₀)
+  one-moved j f =
       let one : size - j ≡ suc (size - suc j) = omega arith in
-      let there : j < length out₀ = omega arith in
-      let rest : take (size - j) (drop j out₀) ≡ getD out₀ j 0 ∷ take (size - suc j) (drop (suc j) out₀) = rw (one, drop-cons out₀ j 0 there) in
-      let here : getD out j 0 ≡ getD out₀ j 0 =
-      ap (λ l. getD l j 0) (s .is)
-      ∙ List·getD-append (take (suc (suc j)) out₀) moved 0 j (omega (arith, length-take (suc (suc j)) out₀))
-      ∙ getD-take (suc (suc j)) out₀ j 0 (omega arith) in
-      record {
-        few = omega arith;
-        long = length-set out (suc j) (getD out j 0) ∙ s .long;
-        is =
-            ap₂ (λ l x. set l (suc j) x) (s .is ∙ ap (λ l. l ++ moved) (take-suc out₀ (suc j) 0 (omega arith)) ∙ append-snoc (take (suc j) out₀) (getD out₀ (suc j) 0) moved) here
-            ∙ set-at (take (suc j) out₀) (getD out₀ (suc j) 0) moved (getD out₀ j 0) (suc j) (length-take-le (suc j) out₀ (omega arith))
-            ∙ ap (λ l. take (suc j) out₀ ++ (l ++ drop (size + 1) out₀)) (sym rest);
-      }
+      let lt : j < length out₀ = omega arith in
+      rw (one, drop-cons out₀ j 0 lt)
+
+  set-last : (j x : ℕ) (rest : List ℕ) → suc j < length out₀ → out ≡ take (suc (suc j)) out₀ ++ rest → set out (suc j) x ≡ take (suc j) out₀ ++ x ∷ rest
+  set-last j x rest lt e =
+      ap (λ l. set l (suc j) x) (e ∙ ap (λ l. l ++ rest) (take-suc out₀ (suc j) 0 lt) ∙ append-snoc (take (suc j) out₀) (getD out₀ (suc j) 0) rest)
+      ∙ set-at (take (suc j) out₀) (getD out₀ (suc j) 0) rest x (suc j) (length-take-le (suc j) out₀ (omega arith))
+
+  rising-suc : (j : ℕ) → Rising size out₀ out (suc j) → Rising size out₀ (set out (suc j) (getD out j 0)) j
+  rising-suc j s = record {
+    few = omega (arith, s .few);
+    long = length-set out (suc j) (getD out j 0) ∙ s .long;
+    is =
+        set-last j (getD out j 0) (take (size - suc j) (drop (suc j) out₀) ++ drop (size + 1) out₀) (omega (arith, s .few)) (s .is)
+        ∙ ap (λ x. take (suc j) out₀ ++ ((x ∷ take (size - suc j) (drop (suc j) out₀)) ++ drop (size + 1) out₀)) (below-same j (take (size - suc j) (drop (suc j) out₀) ++ drop (size + 1) out₀) (s .is) (omega (arith, s .few)))
+        ∙ ap (λ l. take (suc j) out₀ ++ (l ++ drop (size + 1) out₀)) (sym (one-moved j (s .few)));
+  }
 
   pub rising-more : (i : ℕ) → (i ≡ 0 → ⊥) → Rising size out₀ out i → Rising size out₀ (set out i (getD out (i - 1) 0)) (i - 1)
   rising-more zero f s = absurd (f refl)

@@ -2,7 +2,7 @@
 use mathlib.Core.Path.{_≡_, refl, sym, ap, subst, _∙_}
 use mathlib.Core.Bool.{Bool, true, false, not, cond}
 use mathlib.Core.List.{List, [], _∷_, _++_}
-use Prim.Native.Nat.{ℕ, zero, suc, _+_, _-_, _≤_, _<_}
+use Prim.Native.Nat.{ℕ, zero, suc, _+_, _-_, _/_, _%_, _≤_, _<_}
 use native.Mathlib.Omega.{arith}
 use borrow.Author.Tests.{ltb-true}
 use lib.Dec.{eqb, ltb}
@@ -21,7 +21,7 @@ use Rattle.policy_model.specs.declared.ConditionHead.the-variants.{Always, Neve
 use Rattle.policy_model.specs.Heads.{conditionHeads, conditionHead, conditionNode}
 use Rattle.condition.specs.Listing.{Lent, lent, Recorded}
 use Rattle.condition.proofs.Listing.{consults-as, consults-none}
-use Rattle.decisive.proofs.Positions.{no-words, no-levels, by-head, Some, some-arms}
+use Rattle.decisive.proofs.Positions.{no-words, no-levels, by-head, Some, some-arms, has-word}
 use Rattle.sizes.specs.Laid.{tooMany, laid-word, laid-lead, laid-then}
 use Rattle.partial_condition.specs.declared.ReducedCondition.{ReducedCondition}
 use Rattle.partial_condition.specs.Reducing.{knownOf, leftOf, Left, ReducedTo, ReducesC, ReducesHas, ReducesList, ReducesAll, ReducesAny}
@@ -138,6 +138,12 @@ module _ (P : Table) (words : List ℕ) (at depth : ℕ) (s : Lent) (r : Reduced
           (then-holds (many cnil ccons (readCondition (depth - 1)) n (drop (at + 1) words)) (λ cs vs. got (anyC cs) vs) (a .says) (λ cs vs i.
           fine (record { left = i .left; next-is = omega (arith, i .next-is); log = i .log })));
     }
+
+-- A word that one division shows to be a Has, of however many levels.
+pub reduce-has-word : (P : Table) (words : List ℕ) (at depth : ℕ) (s : Lent) (r : ReducedCondition) (t : Lent) (out : List ℕ) → at < length words → getD words at 0 / 1024 ≡ 524288 →
+    ReducesHas P (getD words at 0 % 1024) (at + 1) s r t out → ReducesC P words at depth s r t out
+reduce-has-word P words at zero s r t out lt e a = record { room = a .room; bound = a .bound; says = no-levels 0 (drop at words) refl }
+reduce-has-word P words at (suc depth) s r t out lt e a = reduce-has P words at (suc depth) s r lt (λ z. omega arith) t out (getD words at 0 % 1024) (has-word (getD words at 0) e) a
 
 -- ---- a list has at most 4,095 arms
 abbrev Few : ConditionHead → Type 0

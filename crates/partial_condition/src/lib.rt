@@ -168,6 +168,30 @@ pub fn reduce_condition(
     }
 }
 
+// The same of an arm. A Has, the commonest arm, is seen here, so that the list rule reads it with no call.
+fn reduce_arm(
+    words: &[u32],
+    at: usize,
+    depth: usize,
+    facts: &[u8],
+    entries: &mut [u16],
+    seen: &mut [u8],
+    count: usize,
+    out: &mut [u32],
+) -> ReducedCondition
+    requires { ⌜ Room (lent count (now entries) (now seen)) ⌝ }
+    ensures { λ r. ⌜ ReducesC (tableOf (now (facts .entry))) (now (words .entry)) at depth (lent count (now (entries .entry)) (now (seen .entry))) r (lent (r .count) (now (entries .exit)) (now (seen .exit))) (now (out .exit)) ⌝ }
+{
+    if words.len() <= at {
+        return known(false, at, count);
+    }
+    let word = words[at];
+    if word / 1024 == 524288 {
+        return reduce_has(word % 1024, at + 1, facts, entries, seen, count, out);
+    }
+    reduce_condition(words, at, depth, facts, entries, seen, count, out)
+}
+
 // A known arm of the value `stop` decides a list rule.
 fn decides(arm: ReducedCondition, stop: bool) -> bool
     ensures { λ r. ⌜ r ≡ (not (arm .pending) && Bool·beq (arm .satisfied) stop) ⌝ }
@@ -231,7 +255,7 @@ fn ended(stop: bool, held: Held, next: usize, count: usize, out: &mut [u32]) -> 
     if held.count == 0 {
         return known(!stop, next, count);
     }
-    if held.count == 1 {
+    if held.count < 2 {
         return left(held.first, next, count);
     }
     put_first(lead(stop, held.count), out);
@@ -264,7 +288,7 @@ fn reduce_arms(
     let mut left = arms;
     while left != 0 {
         let from = sizes::tail_from(held.used, out.len());
-        let arm = reduce_condition(
+        let arm = reduce_arm(
             words,
             next,
             depth,

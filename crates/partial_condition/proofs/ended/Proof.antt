@@ -15,7 +15,7 @@ left-requires : tie.Need-left-requires
 left-requires c κs = search needs
 
 returns-2 : tie.Need-returns-2
-returns-2 c = rw (c .left .ensures) (ends-alone _ _ _ _ _ (c .before .if2 .taken) (omega arith))
+returns-2 c = rw (c .left .ensures) (ends-alone _ _ _ _ _ (omega arith) (omega arith))
 
 lead-requires : tie.Need-lead-requires
 lead-requires c κs = search needs
@@ -34,7 +34,7 @@ returns-3 c =
     let put = c .before .before .before in
     let lead = put .before .before in
     rw (c .left2 .ensures)
-    (ends-list _ _ _ _ _ _ _ (lead .before .before .before .if1 .left) (lead .before .if2 .left) (omega arith) (lead .lead .ensures) (put .put-first .ensures))
+    (ends-list _ _ _ _ _ _ _ (lead .before .if2 .left) (omega arith) (lead .lead .ensures) (put .put-first .ensures))
 
 pub ended-spec : {M : Type 1} → statement M
 ended-spec =

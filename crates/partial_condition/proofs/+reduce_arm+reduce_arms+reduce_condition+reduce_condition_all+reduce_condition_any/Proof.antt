@@ -1,6 +1,6 @@
 -- The cycle of calls of `partial_condition::reduce_condition` meets its contracts: a condition by its head; the arms of a list rule by a loop, whose
 -- invariant is that what answers for the arms that are left, behind those that are held, answers for all. The measure is the depth, and within a level
--- All or Any, then the arms, then the condition. Assumes nothing.
+-- All or Any, then the arms, then an arm, then the condition. Assumes nothing.
 use borrow.Author.Needs.{needs}
 use mathlib.Core.Path.{refl, sym, _∙_}
 use Prim.Native.Nat.{ℕ, _+_, _*_, _<_}
@@ -9,22 +9,25 @@ use Rattle.model.specs.Facts.{tableOf}
 use Rattle.condition.specs.Listing.{lent}
 use Rattle.decisive.proofs.Positions.{fact-below}
 use Rattle.partial_condition.proofs.Laying.{returned}
-use Rattle.partial_condition.proofs.Reducing.{reduce-end, reduce-limit, reduce-bad-kind, reduce-bad-field, reduce-always, reduce-never, reduce-not, reduce-has, reduce-all, reduce-any, all-below, any-below, all-none, all-with-arms, any-arms}
+use Rattle.partial_condition.proofs.Reducing.{reduce-end, reduce-limit, reduce-bad-kind, reduce-bad-field, reduce-always, reduce-never, reduce-not, reduce-has, reduce-has-word, reduce-all, reduce-any, all-below, any-below, all-none, all-with-arms, any-arms}
 use Rattle.partial_condition.proofs.Arms.{Going, going-none, going-more, going-stop, going-end}
 use borrow.Fn.Kinds.{In}
 use borrow.Fn.PlainCycle.{Measures, is, falls, and}
+use Rattle.partial_condition.proofs.reduce_arm.Reads as reduce-arm
+use Rattle.partial_condition.proofs.reduce_arm.Kinds as reduce-arm-kinds
+use Rattle.partial_condition.proofs.+reduce_arm+reduce_arms+reduce_condition+reduce_condition_all+reduce_condition_any.Lts-reduce_arm as reduce-arm-lts
 use Rattle.partial_condition.proofs.reduce_arms.Reads as reduce-arms
 use Rattle.partial_condition.proofs.reduce_arms.Kinds as reduce-arms-kinds
-use Rattle.partial_condition.proofs.+reduce_arms+reduce_condition+reduce_condition_all+reduce_condition_any.Lts-reduce_arms as reduce-arms-lts
+use Rattle.partial_condition.proofs.+reduce_arm+reduce_arms+reduce_condition+reduce_condition_all+reduce_condition_any.Lts-reduce_arms as reduce-arms-lts
 use Rattle.partial_condition.proofs.reduce_condition.Reads as reduce-condition
 use Rattle.partial_condition.proofs.reduce_condition.Kinds as reduce-condition-kinds
-use Rattle.partial_condition.proofs.+reduce_arms+reduce_condition+reduce_condition_all+reduce_condition_any.Lts-reduce_condition as reduce-condition-lts
+use Rattle.partial_condition.proofs.+reduce_arm+reduce_arms+reduce_condition+reduce_condition_all+reduce_condition_any.Lts-reduce_condition as reduce-condition-lts
 use Rattle.partial_condition.proofs.reduce_condition_all.Reads as reduce-condition-all
 use Rattle.partial_condition.proofs.reduce_condition_all.Kinds as reduce-condition-all-kinds
-use Rattle.partial_condition.proofs.+reduce_arms+reduce_condition+reduce_condition_all+reduce_condition_any.Lts-reduce_condition_all as reduce-condition-all-lts
+use Rattle.partial_condition.proofs.+reduce_arm+reduce_arms+reduce_condition+reduce_condition_all+reduce_condition_any.Lts-reduce_condition_all as reduce-condition-all-lts
 use Rattle.partial_condition.proofs.reduce_condition_any.Reads as reduce-condition-any
 use Rattle.partial_condition.proofs.reduce_condition_any.Kinds as reduce-condition-any-kinds
-use Rattle.partial_condition.proofs.+reduce_arms+reduce_condition+reduce_condition_all+reduce_condition_any.Lts-reduce_condition_any as reduce-condition-any-lts
+use Rattle.partial_condition.proofs.+reduce_arm+reduce_arms+reduce_condition+reduce_condition_all+reduce_condition_any.Lts-reduce_condition_any as reduce-condition-any-lts
 use Rattle.condition.proofs.skip_conditions.Reads as skip-conditions-reads
 use Rattle.partial_condition.proofs.decides.Reads as decides-reads
 use Rattle.partial_condition.proofs.ended.Reads as ended-reads
@@ -34,20 +37,23 @@ use Rattle.partial_condition.proofs.negated.Reads as negated-reads
 use Rattle.partial_condition.proofs.reduce_has.Reads as reduce-has-reads
 use Rattle.policy_model.proofs.condition_head.Reads as condition-head-reads
 use Rattle.sizes.proofs.tail_from.Reads as tail-from-reads
-use Rattle.partial_condition.proofs.+reduce_arms+reduce_condition+reduce_condition_all+reduce_condition_any.{statement}
-use Rattle.partial_condition.proofs.+reduce_arms+reduce_condition+reduce_condition_all+reduce_condition_any.Tie.{close}
+use Rattle.partial_condition.proofs.+reduce_arm+reduce_arms+reduce_condition+reduce_condition_all+reduce_condition_any.{statement}
+use Rattle.partial_condition.proofs.+reduce_arm+reduce_arms+reduce_condition+reduce_condition_all+reduce_condition_any.Tie.{close}
+
+abbrev μ-reduce-arm : Measures 5 reduce-arm-kinds.ps ℕ
+μ-reduce-arm κs a = a .1 .1 .0 * 4 + 1
 
 abbrev μ-reduce-arms : Measures 5 reduce-arms-kinds.ps ℕ
-μ-reduce-arms κs a = a .1 .1 .0 * 3 + 1
+μ-reduce-arms κs a = a .1 .1 .0 * 4 + 2
 
 abbrev μ-reduce-condition : Measures 5 reduce-condition-kinds.ps ℕ
-μ-reduce-condition κs a = a .1 .1 .0 * 3
+μ-reduce-condition κs a = a .1 .1 .0 * 4
 
 abbrev μ-reduce-condition-all : Measures 5 reduce-condition-all-kinds.ps ℕ
-μ-reduce-condition-all κs a = a .1 .1 .0 * 3 + 2
+μ-reduce-condition-all κs a = a .1 .1 .0 * 4 + 3
 
 abbrev μ-reduce-condition-any : Measures 5 reduce-condition-any-kinds.ps ℕ
-μ-reduce-condition-any κs a = a .1 .1 .0 * 3 + 2
+μ-reduce-condition-any κs a = a .1 .1 .0 * 4 + 3
 
 abbrev reduce-arms-Inv-loop : reduce-arms-lts.InvT-loop
 reduce-arms-Inv-loop words at depth arms stop facts entries₀ seen₀ count out₀ held₀ next₀ listed₀ left₀ entries seen out held next listed left =
@@ -57,6 +63,12 @@ abbrev reduce-arms-μ-loop : reduce-arms-lts.MeasureT-loop
 reduce-arms-μ-loop words at depth arms stop facts entries₀ seen₀ count out₀ held₀ next₀ listed₀ left₀ entries seen out held next listed left = left
 
 module _ (t : ℕ) where
+  abbrev reduce-arm-at : In 5 reduce-arm-kinds.ps
+  reduce-arm-at = and 5 reduce-arm-kinds.ps (is 5 reduce-arm-kinds.ps μ-reduce-arm t) reduce-arm.Pre
+
+  abbrev reduce-arm-below : In 5 reduce-arm-kinds.ps
+  reduce-arm-below = and 5 reduce-arm-kinds.ps (falls 5 reduce-arm-kinds.ps _<_ μ-reduce-arm t) reduce-arm.Pre
+
   abbrev reduce-arms-at : In 5 reduce-arms-kinds.ps
   reduce-arms-at = and 5 reduce-arms-kinds.ps (is 5 reduce-arms-kinds.ps μ-reduce-arms t) reduce-arms.Pre
 
@@ -81,9 +93,61 @@ module _ (t : ℕ) where
   abbrev reduce-condition-any-below : In 5 reduce-condition-any-kinds.ps
   reduce-condition-any-below = and 5 reduce-condition-any-kinds.ps (falls 5 reduce-condition-any-kinds.ps _<_ μ-reduce-condition-any t) reduce-condition-any.Pre
 
+  -- what `reduce-arm` calls
+  abbrev reduce-arm-calls : reduce-arm-lts.Claims
+  reduce-arm-calls = (known-reads.Asked, known-reads.Learnt, reduce-has-reads.Asked, reduce-has-reads.Learnt, reduce-condition-below, reduce-condition.Post)
+
+  reduce-arm-known-requires : reduce-arm-lts.Need-known-requires reduce-arm-calls reduce-arm-at reduce-arm.Post
+  reduce-arm-known-requires c κs = search needs
+
+  reduce-arm-returns : reduce-arm-lts.Need-returns reduce-arm-calls reduce-arm-at reduce-arm.Post
+  reduce-arm-returns c = rw (c .known .ensures) (reduce-end _ _ _ _ _ _ _ _ _ (c .before .if1 .taken))
+
+  reduce-arm-mul-word : reduce-arm-lts.Need-mul-word reduce-arm-calls reduce-arm-at reduce-arm.Post
+  reduce-arm-mul-word c = search needs
+
+  reduce-arm-shared-slice-read-word : reduce-arm-lts.Need-shared-slice-read-word reduce-arm-calls reduce-arm-at reduce-arm.Post
+  reduce-arm-shared-slice-read-word c = search needs
+
+  reduce-arm-add-reduce-has : reduce-arm-lts.Need-add-reduce-has reduce-arm-calls reduce-arm-at reduce-arm.Post
+  reduce-arm-add-reduce-has c = search needs
+
+  reduce-arm-reduce-has-requires : reduce-arm-lts.Need-reduce-has-requires reduce-arm-calls reduce-arm-at reduce-arm.Post
+  reduce-arm-reduce-has-requires c κs = search needs
+
+  reduce-arm-same-length : reduce-arm-lts.Need-same-length reduce-arm-calls reduce-arm-at reduce-arm.Post
+  reduce-arm-same-length c = search needs
+
+  reduce-arm-same-length-2 : reduce-arm-lts.Need-same-length-2 reduce-arm-calls reduce-arm-at reduce-arm.Post
+  reduce-arm-same-length-2 c = search needs
+
+  reduce-arm-same-length-3 : reduce-arm-lts.Need-same-length-3 reduce-arm-calls reduce-arm-at reduce-arm.Post
+  reduce-arm-same-length-3 c = search needs
+
+  reduce-arm-returns-2 : reduce-arm-lts.Need-returns-2 reduce-arm-calls reduce-arm-at reduce-arm.Post
+  reduce-arm-returns-2 c =
+      let call = c .before .before .before .before .before .before in
+      let has = call .before .before .before .before in
+      reduce-has-word _ _ _ _ _ _ _ _ (has .before .before .if1 .left) (has .if2 .taken) (call .reduce-has .ensures)
+
+  reduce-arm-reduce-condition-requires : reduce-arm-lts.Need-reduce-condition-requires reduce-arm-calls reduce-arm-at reduce-arm.Post
+  reduce-arm-reduce-condition-requires c κs = search needs
+
+  reduce-arm-same-length-4 : reduce-arm-lts.Need-same-length-4 reduce-arm-calls reduce-arm-at reduce-arm.Post
+  reduce-arm-same-length-4 c = search needs
+
+  reduce-arm-same-length-5 : reduce-arm-lts.Need-same-length-5 reduce-arm-calls reduce-arm-at reduce-arm.Post
+  reduce-arm-same-length-5 c = search needs
+
+  reduce-arm-same-length-6 : reduce-arm-lts.Need-same-length-6 reduce-arm-calls reduce-arm-at reduce-arm.Post
+  reduce-arm-same-length-6 c = search needs
+
+  reduce-arm-returns-3 : reduce-arm-lts.Need-returns-3 reduce-arm-calls reduce-arm-at reduce-arm.Post
+  reduce-arm-returns-3 c = c .before .before .before .before .before .before .reduce-condition .ensures
+
   -- what `reduce-arms` calls
   abbrev reduce-arms-calls : reduce-arms-lts.Claims
-  reduce-arms-calls = (tail-from-reads.Asked, tail-from-reads.Learnt, reduce-condition-below, reduce-condition.Post, decides-reads.Asked, decides-reads.Learnt, skip-conditions-reads.Asked, skip-conditions-reads.Learnt, known-reads.Asked, known-reads.Learnt, heed-reads.Asked, heed-reads.Learnt, ended-reads.Asked, ended-reads.Learnt)
+  reduce-arms-calls = (tail-from-reads.Asked, tail-from-reads.Learnt, reduce-arm-below, reduce-arm.Post, decides-reads.Asked, decides-reads.Learnt, skip-conditions-reads.Asked, skip-conditions-reads.Learnt, known-reads.Asked, known-reads.Learnt, heed-reads.Asked, heed-reads.Learnt, ended-reads.Asked, ended-reads.Learnt)
 
   reduce-arms-loop-holds : reduce-arms-lts.Need-loop-holds reduce-arms-calls reduce-arms-at reduce-arms.Post reduce-arms-Inv-loop reduce-arms-μ-loop
   reduce-arms-loop-holds c = going-none _ _ _ _ _ _ _ _
@@ -91,20 +155,20 @@ module _ (t : ℕ) where
   reduce-arms-tail-from-requires : reduce-arms-lts.Need-tail-from-requires reduce-arms-calls reduce-arms-at reduce-arms.Post reduce-arms-Inv-loop reduce-arms-μ-loop
   reduce-arms-tail-from-requires c κs = search needs
 
-  reduce-arms-mul-reduce-condition : reduce-arms-lts.Need-mul-reduce-condition reduce-arms-calls reduce-arms-at reduce-arms.Post reduce-arms-Inv-loop reduce-arms-μ-loop
-  reduce-arms-mul-reduce-condition c = search needs
+  reduce-arms-mul-reduce-arm : reduce-arms-lts.Need-mul-reduce-arm reduce-arms-calls reduce-arms-at reduce-arms.Post reduce-arms-Inv-loop reduce-arms-μ-loop
+  reduce-arms-mul-reduce-arm c = search needs
 
-  reduce-arms-sub-reduce-condition : reduce-arms-lts.Need-sub-reduce-condition reduce-arms-calls reduce-arms-at reduce-arms.Post reduce-arms-Inv-loop reduce-arms-μ-loop
-  reduce-arms-sub-reduce-condition c = search needs
+  reduce-arms-sub-reduce-arm : reduce-arms-lts.Need-sub-reduce-arm reduce-arms-calls reduce-arms-at reduce-arms.Post reduce-arms-Inv-loop reduce-arms-μ-loop
+  reduce-arms-sub-reduce-arm c = search needs
 
-  reduce-arms-part-reduce-condition-start : reduce-arms-lts.Need-part-reduce-condition-start reduce-arms-calls reduce-arms-at reduce-arms.Post reduce-arms-Inv-loop reduce-arms-μ-loop
-  reduce-arms-part-reduce-condition-start c = search needs
+  reduce-arms-part-reduce-arm-start : reduce-arms-lts.Need-part-reduce-arm-start reduce-arms-calls reduce-arms-at reduce-arms.Post reduce-arms-Inv-loop reduce-arms-μ-loop
+  reduce-arms-part-reduce-arm-start c = search needs
 
-  reduce-arms-part-reduce-condition-end : reduce-arms-lts.Need-part-reduce-condition-end reduce-arms-calls reduce-arms-at reduce-arms.Post reduce-arms-Inv-loop reduce-arms-μ-loop
-  reduce-arms-part-reduce-condition-end c = search needs
+  reduce-arms-part-reduce-arm-end : reduce-arms-lts.Need-part-reduce-arm-end reduce-arms-calls reduce-arms-at reduce-arms.Post reduce-arms-Inv-loop reduce-arms-μ-loop
+  reduce-arms-part-reduce-arm-end c = search needs
 
-  reduce-arms-reduce-condition-requires : reduce-arms-lts.Need-reduce-condition-requires reduce-arms-calls reduce-arms-at reduce-arms.Post reduce-arms-Inv-loop reduce-arms-μ-loop
-  reduce-arms-reduce-condition-requires c κs = search needs
+  reduce-arms-reduce-arm-requires : reduce-arms-lts.Need-reduce-arm-requires reduce-arms-calls reduce-arms-at reduce-arms.Post reduce-arms-Inv-loop reduce-arms-μ-loop
+  reduce-arms-reduce-arm-requires c κs = search needs
 
   reduce-arms-sub-left : reduce-arms-lts.Need-sub-left reduce-arms-calls reduce-arms-at reduce-arms.Post reduce-arms-Inv-loop reduce-arms-μ-loop
   reduce-arms-sub-left c = search needs
@@ -133,7 +197,7 @@ module _ (t : ℕ) where
       let call = test .before .before .before .before .before .before .before .before in
       let turn = call .before .before .before .before .before in
       rw (c .known .ensures)
-      (going-stop _ _ _ _ _ _ _ _ _ _ _ _ _ _ _ _ (turn .loop-test .taken) (turn .before .loop .inv) (call .reduce-condition .ensures) _ _ _ (sym (test .before .decides .ensures) ∙ test .if1 .taken) (c .before .skip-conditions .ensures))
+      (going-stop _ _ _ _ _ _ _ _ _ _ _ _ _ _ _ _ (turn .loop-test .taken) (turn .before .loop .inv) (call .reduce-arm .ensures) _ _ _ (sym (test .before .decides .ensures) ∙ test .if1 .taken) (c .before .skip-conditions .ensures))
 
   reduce-arms-heed-requires : reduce-arms-lts.Need-heed-requires reduce-arms-calls reduce-arms-at reduce-arms.Post reduce-arms-Inv-loop reduce-arms-μ-loop
   reduce-arms-heed-requires c κs = search needs
@@ -148,8 +212,8 @@ module _ (t : ℕ) where
       let back = test .before .before .before in
       let call = back .before .before .before .before .before in
       let turn = call .before .before .before .before .before in
-      going-more _ _ _ _ _ _ _ _ _ _ _ _ _ _ _ _ (turn .loop-test .taken) (turn .before .loop .inv) (call .reduce-condition .ensures) _ _ _ _ (sym (test .before .decides .ensures) ∙ test .if1 .left)
-      (returned _ _ (turn .before .loop .out) (call .reduce-condition .last .1 .1 .1 .1 .1 .1 .1 .0) (call .before .before .before .before .tail-from .ensures) (back .out .given .1)) (heed .heed .ensures) (c .before .out2 .given) (back .before .before .before .before .entries .given) (back .before .before .seen .given)
+      going-more _ _ _ _ _ _ _ _ _ _ _ _ _ _ _ _ (turn .loop-test .taken) (turn .before .loop .inv) (call .reduce-arm .ensures) _ _ _ _ (sym (test .before .decides .ensures) ∙ test .if1 .left)
+      (returned _ _ (turn .before .loop .out) (call .reduce-arm .last .1 .1 .1 .1 .1 .1 .1 .0) (call .before .before .before .before .tail-from .ensures) (back .out .given .1)) (heed .heed .ensures) (c .before .out2 .given) (back .before .before .before .before .entries .given) (back .before .before .seen .given)
 
   reduce-arms-ended-requires : reduce-arms-lts.Need-ended-requires reduce-arms-calls reduce-arms-at reduce-arms.Post reduce-arms-Inv-loop reduce-arms-μ-loop
   reduce-arms-ended-requires c κs = search needs
@@ -409,17 +473,33 @@ module _ (t : ℕ) where
   reduce-condition-any-returns : reduce-condition-any-lts.Need-returns reduce-condition-any-calls reduce-condition-any-at reduce-condition-any.Post
   reduce-condition-any-returns c = any-arms _ _ _ _ _ _ _ _ _ (c .before .before .before .before .before .before .reduce-arms .ensures)
 
-pub +reduce-arms+reduce-condition+reduce-condition-all+reduce-condition-any-spec : {M : Type 1} → statement M
-+reduce-arms+reduce-condition+reduce-condition-all+reduce-condition-any-spec =
-    close μ-reduce-arms μ-reduce-condition μ-reduce-condition-all μ-reduce-condition-any
+pub +reduce-arm+reduce-arms+reduce-condition+reduce-condition-all+reduce-condition-any-spec : {M : Type 1} → statement M
++reduce-arm+reduce-arms+reduce-condition+reduce-condition-all+reduce-condition-any-spec =
+    close μ-reduce-arm μ-reduce-arms μ-reduce-condition μ-reduce-condition-all μ-reduce-condition-any
+    (λ t. reduce-arm-lts.spec (reduce-arm-calls t) (reduce-arm-at t) reduce-arm.Post
+    (reduce-arm-known-requires t)
+    (reduce-arm-returns t)
+    (reduce-arm-mul-word t)
+    (reduce-arm-shared-slice-read-word t)
+    (reduce-arm-add-reduce-has t)
+    (reduce-arm-reduce-has-requires t)
+    (reduce-arm-same-length t)
+    (reduce-arm-same-length-2 t)
+    (reduce-arm-same-length-3 t)
+    (reduce-arm-returns-2 t)
+    (reduce-arm-reduce-condition-requires t)
+    (reduce-arm-same-length-4 t)
+    (reduce-arm-same-length-5 t)
+    (reduce-arm-same-length-6 t)
+    (reduce-arm-returns-3 t))
     (λ t. reduce-arms-lts.spec (reduce-arms-calls t) (reduce-arms-at t) reduce-arms.Post reduce-arms-Inv-loop reduce-arms-μ-loop
     (reduce-arms-loop-holds t)
     (reduce-arms-tail-from-requires t)
-    (reduce-arms-mul-reduce-condition t)
-    (reduce-arms-sub-reduce-condition t)
-    (reduce-arms-part-reduce-condition-start t)
-    (reduce-arms-part-reduce-condition-end t)
-    (reduce-arms-reduce-condition-requires t)
+    (reduce-arms-mul-reduce-arm t)
+    (reduce-arms-sub-reduce-arm t)
+    (reduce-arms-part-reduce-arm-start t)
+    (reduce-arms-part-reduce-arm-end t)
+    (reduce-arms-reduce-arm-requires t)
     (reduce-arms-sub-left t)
     (reduce-arms-decides-requires t)
     (reduce-arms-skip-conditions-requires t)

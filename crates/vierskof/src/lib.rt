@@ -45,11 +45,7 @@ pub extern "C" fn vierskof_evaluate(sheet: &[u32], facts: &[u8], out: &mut [u32]
 
 // Completes a record with a known table, and writes the record that results.
 #[no_mangle]
-pub extern "C" fn vierskof_complete_residual(
-    residual: &[u32],
-    facts: &[u8],
-    out: &mut [u32],
-) -> u64
+pub extern "C" fn vierskof_complete_residual(residual: &[u32], facts: &[u8], out: &mut [u32]) -> u64
     ensures { λ r. ⌜ Writes (completeResidual productSets (now (residual .entry)) (now (facts .entry)) (length (now (out .entry)))) (now (out .entry)) (now (out .exit)) r ⌝ }
 {
     written(completion::complete_residual(residual, facts, out))

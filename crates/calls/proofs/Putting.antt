@@ -1,7 +1,7 @@
 -- A Resolved record that is measured and then written, or refused with 11. Assumes nothing.
 use mathlib.Core.Path.{_≡_, refl, sym, _∙_, ap, ap₂}
-use mathlib.Core.Bool.{Bool, true, false, cond, _&&_}
-use mathlib.Core.List.{List, [], _∷_, _++_, map}
+use mathlib.Core.Bool.{Bool, true, false, _&&_}
+use mathlib.Core.List.{List, _++_, map}
 use Prim.Native.Nat.{ℕ, _+_, _-_, _/_, _≤_, _<_}
 use native.Mathlib.Omega.{arith}
 use borrow.Author.Tests.{le-leb, lt-leb}
@@ -13,10 +13,10 @@ use Rattle.model.specs.Decision.{Decision as Decided}
 use Rattle.model.specs.Partial.{resolved}
 use Rattle.model.specs.Consulted.{Consulted}
 use Rattle.model.specs.Record.{Record}
-use Rattle.model.specs.Writing.{entryBits, entryField, encodeR, mostListed, shortD}
+use Rattle.model.specs.Writing.{entryBits, entryField, encodeR, shortD}
 use Rattle.model.specs.Fields.{pack}
 use Rattle.model.specs.Reading.{recordLength}
-use Rattle.model.specs.Calls.{refusal, wrote, fits, write}
+use Rattle.model.specs.Calls.{fits, write}
 use Rattle.laws.specs.Lengths.{length-pack}
 use Rattle.packing.specs.Written as packing
 use Rattle.packing.specs.Written.{written-lent, written-same}

@@ -5,7 +5,6 @@ use Prim.Native.Nat.{ℕ}
 use lib.ListN.{length, take}
 use Rattle.model.specs.Facts.{Table}
 use Rattle.model.specs.Outcome.{productSets}
-use Rattle.model.specs.Decision.{Decision as Decided}
 use Rattle.model.specs.Partial.{resolved}
 use Rattle.model.specs.Consulted.{Consulted}
 use Rattle.model.specs.Record.{evaluated}

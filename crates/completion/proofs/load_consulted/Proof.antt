@@ -1,7 +1,6 @@
 -- `completion::load_consulted` meets its contract. The loop's invariant: the first i entries are listed. Assumes nothing.
 use mathlib.Core.Path.{refl}
 use Prim.Native.Nat.{_-_}
-use native.Mathlib.Omega.{arith}
 use Rattle.condition.specs.Listing.{lent}
 use Rattle.completion.proofs.Loading.{Loading, load-none, load-more, load-all, load-cut}
 use borrow.Author.Needs.{needs}

@@ -14,6 +14,9 @@ pub const CALLS: [Call; 7] = [
     Call::CarriesObligation,
 ];
 
+/// A proved call that takes words, a table and an output.
+type Writer = fn(&[u32], &[u8], &mut [u32]) -> Result<usize, u32>;
+
 /// Whether the proved call answers as the original does, and leaves what it must.
 pub fn agrees(case: &Case) -> bool {
     let expected = case.answer();
@@ -29,11 +32,7 @@ pub fn agrees(case: &Case) -> bool {
     }
 }
 
-fn writes(
-    case: &Case,
-    expected: &Result<Answer, Refusal>,
-    call: fn(&[u32], &[u8], &mut [u32]) -> Result<usize, u32>,
-) -> bool {
+fn writes(case: &Case, expected: &Result<Answer, Refusal>, call: Writer) -> bool {
     // Words that no record has at these places, so that one that is wrongly written or left shows.
     let before: Vec<u32> = (0x0F0F_0F0F..).take(case.room).collect();
     let mut out = before.clone();

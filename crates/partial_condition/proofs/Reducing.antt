@@ -11,7 +11,6 @@ use Rattle.model.specs.Facts.{Presence, absent, present, unknown, Table, factCo
 use Rattle.model.specs.Condition.{Condition, has, notC, allC, anyC, Conditions, cnil, ccons}
 use Rattle.model.specs.Partial.{known, pendingC, reduceHas, flipR, endAllC, reduceCondition, reduceConditionAll}
 use Rattle.model.specs.Partial as model
-use Rattle.model.specs.Consulted.{consultKnown}
 use Rattle.model.specs.Writing.{word, encodeC}
 use Rattle.model.specs.Reading.{got, many, kindOf, restOf, readCondition}
 use Rattle.laws.specs.FieldLaws.{Holds, fine, nothing, weaker, then-holds, both-hold}
@@ -67,14 +66,14 @@ module _ (P : Table) (f end : ℕ) (s t : Lent) (count : ℕ) (out : List ℕ) w
   has-absent e a = record {
     room = a .room;
     bound = omega arith;
-    says = record { left = subst (λ p. Left (reduceHas f p) (knownOf false end count) out) (sym e) (refl, refl); next-is = refl; log = consults-as (λ l. ap (consultKnown l f) e) (a .log) };
+    says = record { left = subst (λ p. Left (reduceHas f p) (knownOf false end count) out) (sym e) (refl, refl); next-is = refl; log = simp e (a .log) };
   }
 
   pub has-present : P f ≡ present → Recorded f present s t → ReducesHas P f end s (knownOf true end count) t out
   has-present e a = record {
     room = a .room;
     bound = omega arith;
-    says = record { left = subst (λ p. Left (reduceHas f p) (knownOf true end count) out) (sym e) (refl, refl); next-is = refl; log = consults-as (λ l. ap (consultKnown l f) e) (a .log) };
+    says = record { left = subst (λ p. Left (reduceHas f p) (knownOf true end count) out) (sym e) (refl, refl); next-is = refl; log = simp e (a .log) };
   }
 
 -- An Unknown fact is what is left, and isn't consulted.
@@ -85,7 +84,7 @@ has-unknown P f end s count before out e w = record {
   says = record {
     left = subst (λ p. Left (reduceHas f p) (leftOf 1 end count) out) (sym e) (refl, rw w (laid-word (word 2 f) before));
     next-is = refl;
-    log = consults-as (λ l. ap (consultKnown l f) e) consults-none;
+    log = simp e consults-none;
   };
 }
 
@@ -117,7 +116,7 @@ module _ (P : Table) (words : List ℕ) (at depth : ℕ) (s : Lent) (r : Reduced
   module _ (t : Lent) (out : List ℕ) where
     pub reduce-has : (f : ℕ) → Has f ≡ conditionHead (getD words at 0) → ReducesHas P f (at + 1) s r t out → ReducesC P words at depth s r t out
     unfolding conditionNode
-    reduce-has f e a = record { room = a .room; bound = a .bound; says = by-head words at depth (Has f) lt deep e (fine (a .says)) }
+    reduce-has f e a = record { room = a .room; bound = a .bound; says = by-head words at depth (Has f) lt deep e (fine (record { left = a .says .left; next-is = a .says .next-is; log = consults-as (λ l. refl) (a .says .log) })) }
 
     pub reduce-all : (n : ℕ) → All n ≡ conditionHead (getD words at 0) → ReducesAll P words (at + 1) (depth - 1) n s r t out → ReducesC P words at depth s r t out
     unfolding conditionNode

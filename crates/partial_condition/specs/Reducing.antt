@@ -5,10 +5,10 @@ use mathlib.Core.List.{List}
 use Prim.Native.Nat.{ℕ, _+_, _≤_}
 use lib.ListN.{drop}
 use Rattle.model.specs.Facts.{Table}
-use Rattle.model.specs.Condition.{Condition, Conditions, cnil, ccons, has, allC, anyC}
-use Rattle.model.specs.Partial.{known, pendingC, ConditionWalk, endAllC, endAnyC, reduceCondition, reduceConditionAll, reduceConditionAny}
+use Rattle.model.specs.Condition.{Condition, Conditions, cnil, ccons, allC, anyC}
+use Rattle.model.specs.Partial.{known, pendingC, reduceHas, ConditionWalk, endAllC, endAnyC, reduceCondition, reduceConditionAll, reduceConditionAny}
 use Rattle.model.specs.Partial as model
-use Rattle.model.specs.Consulted.{Consulted, walkC, walkAllC, walkAnyC}
+use Rattle.model.specs.Consulted.{Consulted, consultKnown, walkC, walkAllC, walkAnyC}
 use Rattle.model.specs.Writing.{encodeC}
 use Rattle.model.specs.Reading.{many, readCondition}
 use Rattle.laws.specs.FieldLaws.{Holds}
@@ -45,7 +45,7 @@ pub record ReducesC (P : Table) (words : List ℕ) (at depth : ℕ) (s : Lent) (
 pub record ReducesHas (P : Table) (f end : ℕ) (s : Lent) (r : ReducedCondition) (t : Lent) (out : List ℕ) : Type 0 where
   pub room : most t ≡ most s
   pub bound : r .size ≤ tooMany
-  pub says : ReducedTo (reduceCondition P (has f)) end (walkC P (has f)) s r t out
+  pub says : ReducedTo (reduceHas f (P f)) end (λ l. consultKnown l f (P f)) s r t out
 
 -- The same of arms, for a list rule: what it reduces to with them, and what it consults.
 pub record ReducesArms (value : Conditions → model.ReducedCondition) (read : Conditions → Consulted → Consulted) (words : List ℕ) (at depth arms : ℕ) (s : Lent) (r : ReducedCondition) (t : Lent) (out : List ℕ) : Type 0 where

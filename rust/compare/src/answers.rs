@@ -1,18 +1,77 @@
-//! Stored answers: a text file with one case a line.
+//! Stored answers, for programs that have no Rust at hand, and a case with its answer in one line of text.
 
 use std::fmt::{UpperHex, Write as _};
 
-use crate::case::{Answer, Case};
+use crate::case::{Answer, Call, Case};
+use crate::reference::FactSet;
 use crate::refusal::Refusal;
 
-/// The file's text: a comment that says how it was made, then the cases with their answers.
-pub fn file(made_by: &str, cases: &[Case]) -> String {
-    let mut text = format!("# Made by: {made_by} (gatekeep at commit 4acf26c4c1)\n");
+/// Words of a set of facts: sixteen 64-bit numbers, the upper half of each first.
+const SET_WORDS: usize = 32;
+
+/// The file's bytes: a line of text that says how it was made, then the cases with their answers.
+pub fn file(made_by: &str, cases: &[Case]) -> Vec<u8> {
+    let mut bytes = format!("# Made by: {made_by} (gatekeep at commit 4acf26c4c1)\n").into_bytes();
     for case in cases {
-        text.push_str(&line(case, &case.answer()));
-        text.push('\n');
+        bytes.extend(stored(case, &case.answer()));
     }
-    text
+    bytes
+}
+
+/// Seven 16-bit numbers: call, room, table bytes, words, number, value, answer words. Then the
+/// table, the words, and the words that stand first in the output afterwards, all most significant
+/// byte first. The rest of the output is as it was.
+pub fn stored(case: &Case, answer: &Result<Answer, Refusal>) -> Vec<u8> {
+    let number = answer
+        .as_ref()
+        .map_or_else(|refusal| refusal.number(), |_| 0);
+    let (value, words) = given(case.call, answer);
+    let room = if counts(case.call) {
+        SET_WORDS
+    } else {
+        case.room
+    };
+    let numbers = [
+        case.call as usize,
+        room,
+        case.table.len(),
+        case.words.len(),
+        usize::from(number),
+        value,
+        words.len(),
+    ];
+    let mut bytes = Vec::new();
+    for number in numbers {
+        let number = u16::try_from(number).expect("a stored number has 16 bits");
+        bytes.extend(number.to_be_bytes());
+    }
+    bytes.extend(&case.table);
+    for word in case.words.iter().chain(&words) {
+        bytes.extend(word.to_be_bytes());
+    }
+    bytes
+}
+
+/// What the call returns besides its number (words written, facts counted, yes or no), and the
+/// words that it leaves. Refused, a call leaves none, but for a set of facts, which it empties.
+fn given(call: Call, answer: &Result<Answer, Refusal>) -> (usize, Vec<u32>) {
+    match answer {
+        Ok(Answer::Record(record)) => (record.len(), record.clone()),
+        Ok(Answer::Facts(set)) => (set.count() as usize, halves(set)),
+        Ok(Answer::Says(yes)) => (usize::from(*yes), Vec::new()),
+        Err(_) if counts(call) => (0, halves(&FactSet::default())),
+        Err(_) => (0, Vec::new()),
+    }
+}
+
+/// Whether the call answers with a set of facts.
+const fn counts(call: Call) -> bool {
+    matches!(call, Call::RequiredFacts | Call::RequiredResidualFacts)
+}
+
+fn halves(set: &FactSet) -> Vec<u32> {
+    let halves = |number: &u64| [(number >> 32) as u32, (number & 0xFFFF_FFFF) as u32];
+    set.0.iter().flat_map(halves).collect()
 }
 
 /// `CALL TABLE WORDS ROOM NUMBER ANSWER`.

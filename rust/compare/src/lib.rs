@@ -1,8 +1,8 @@
 //! Document 01's calls on words and bytes, answered by the original evaluation core.
 //!
 //! [`words`] is document 01's format, [`reference`] the nine calls, [`listing`] the listing's
-//! bytes. [`generate`] makes cases for them from a seed; [`answers`] and [`rows`] write cases with
-//! their answers as text. With the feature `proved`, `proved` compares the proved calls with them.
+//! bytes. [`worked`] has document 01's worked sheets as cases, [`generate`] makes cases from a seed;
+//! [`answers`] and [`rows`] write cases with their answers. With the feature `proved`, `proved` compares the proved calls with them.
 
 pub mod answers;
 pub mod case;
@@ -16,3 +16,4 @@ pub mod reference;
 pub mod refusal;
 pub mod rows;
 pub mod words;
+pub mod worked;

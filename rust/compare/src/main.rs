@@ -7,7 +7,7 @@ use clap::{Parser, Subcommand, ValueEnum};
 use compare::case::{Call, Case};
 use compare::generate::cases;
 use compare::listing::listing;
-use compare::{answers, rows};
+use compare::{answers, rows, worked};
 
 /// Cases of document 01's calls, and what the original answers to them.
 #[derive(Parser)]
@@ -18,7 +18,7 @@ struct Arguments {
 
 #[derive(Subcommand)]
 enum Command {
-    /// Stored answers, one case a line; only calls that the original has.
+    /// Stored answers: document 01's worked sheets and limits, then drawn cases; only calls that the original has.
     Answers {
         #[command(flatten)]
         sample: Sample,
@@ -119,10 +119,10 @@ impl Sample {
         format!("cargo run --release --offline -p compare -- {name} --seed {seed} --count {count}")
     }
 
-    fn write(&self, text: &str) -> io::Result<()> {
+    fn write(&self, bytes: &[u8]) -> io::Result<()> {
         match &self.out {
-            Some(file) => fs::write(file, text),
-            None => io::Write::write_all(&mut io::stdout(), text.as_bytes()),
+            Some(file) => fs::write(file, bytes),
+            None => io::Write::write_all(&mut io::stdout(), bytes),
         }
     }
 }
@@ -130,12 +130,12 @@ impl Sample {
 fn main() -> io::Result<()> {
     match Arguments::parse().command {
         Command::Answers { sample } => {
-            let text = answers::file(&sample.command("answers"), &sample.cases(&ANSWERED));
-            sample.write(&text)
+            let cases = [worked::cases(), sample.cases(&ANSWERED)].concat();
+            sample.write(&answers::file(&sample.command("answers"), &cases))
         }
         Command::Rows { sample, part } => {
             let made_by = format!("{} --part {}", sample.command("rows"), part.name());
-            sample.write(&rows::file(&made_by, &sample.cases(part.calls())))
+            sample.write(rows::file(&made_by, &sample.cases(part.calls())).as_bytes())
         }
         #[cfg(feature = "proved")]
         Command::Proved { sample } => proved(&sample),

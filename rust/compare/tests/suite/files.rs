@@ -3,17 +3,26 @@
 use std::process::Command;
 
 use compare::case::{Answer, Call, Case};
-use compare::{answers, rows};
+use compare::refusal::Refusal;
+use compare::{answers, rows, worked};
 
 use super::{bytes, words};
 
-fn run(arguments: &str) -> String {
+fn run(arguments: &str) -> Vec<u8> {
     let output = Command::new(env!("CARGO_BIN_EXE_compare"))
         .args(arguments.split(' '))
         .output()
         .expect("the command runs");
     assert!(output.status.success(), "{arguments}");
-    String::from_utf8(output.stdout).expect("plain text")
+    output.stdout
+}
+
+/// The first line, and what stands after it.
+fn divided(file: &[u8]) -> (String, &[u8]) {
+    let end = file.iter().position(|byte| *byte == b'\n');
+    let (line, rest) = file.split_at(end.expect("a first line"));
+    let line = String::from_utf8(line.to_vec()).expect("plain text");
+    (line, &rest[1..])
 }
 
 #[test]
@@ -23,63 +32,118 @@ fn the_same_seed_gives_the_same_bytes() {
         "rows --seed 5 --count 300 --part original",
         "rows --seed 5 --count 300 --part narrow_residual",
     ] {
-        let text = run(arguments);
-        assert_eq!(run(arguments), text);
-        assert_ne!(run(&arguments.replace("--seed 5", "--seed 6")), text);
+        let file = run(arguments);
+        assert_eq!(run(arguments), file);
+        assert_ne!(run(&arguments.replace("--seed 5", "--seed 6")), file);
         let made_by = format!("cargo run --release --offline -p compare -- {arguments}");
-        let first = text.lines().next().expect("a first line");
+        let (first, _) = divided(&file);
         assert!(first.contains(&made_by), "{first}");
     }
 }
 
-/// The digits, in groups of this many.
-fn grouped(text: &str, digits: usize) -> String {
-    let text = if text == "-" { "" } else { text };
-    let groups = text.as_bytes().chunks(digits);
-    let groups: Vec<_> = groups.map(String::from_utf8_lossy).collect();
-    groups.join(" ")
+/// A stored answer, read back: its case, its number, and all its bytes.
+struct Stored<'a> {
+    case: Case,
+    number: u16,
+    bytes: &'a [u8],
 }
 
-/// A line of stored answers, read back by its columns.
-fn parsed(line: &str) -> Case {
-    let columns: Vec<&str> = line.split(' ').collect();
-    let [call, table, given, room, _, _] = columns[..] else {
-        panic!("six columns: {line}");
+/// Takes the stored answer at the front.
+fn taken<'a>(rest: &mut &'a [u8]) -> Stored<'a> {
+    let numbers: Vec<u16> = rest[..14]
+        .chunks(2)
+        .map(|pair| u16::from_be_bytes([pair[0], pair[1]]))
+        .collect();
+    let [call, room, table, given, number, _, answer] = numbers[..] else {
+        unreachable!("seven numbers");
     };
-    Case {
-        call: Call::ALL
-            .into_iter()
-            .find(|known| known.name() == call)
-            .expect("a call"),
-        table: bytes(&grouped(table, 2)),
-        words: words(&grouped(given, 8)),
-        room: room.parse().expect("a number"),
+    let call = Call::ALL[usize::from(call)];
+    let words_at = 14 + usize::from(table);
+    let answer_at = words_at + 4 * usize::from(given);
+    let (bytes, after) = rest.split_at(answer_at + 4 * usize::from(answer));
+    *rest = after;
+    let words = bytes[words_at..answer_at]
+        .chunks(4)
+        .map(|word| u32::from_be_bytes(word.try_into().expect("four bytes")))
+        .collect();
+    let case = Case {
+        call,
+        table: bytes[14..words_at].to_vec(),
+        words,
+        // A set of facts is stored with the room of its 32 words.
+        room: if call.writes() { usize::from(room) } else { 0 },
+    };
+    Stored {
+        case,
+        number,
+        bytes,
     }
+}
+
+fn all_of(mut rest: &[u8]) -> Vec<Stored<'_>> {
+    let mut found = Vec::new();
+    while !rest.is_empty() {
+        found.push(taken(&mut rest));
+    }
+    found
 }
 
 #[test]
 fn stored_answers_replay() {
-    let text = run("answers --seed 9 --count 2000");
-    let (comment, cases) = text.split_once('\n').expect("a first line");
+    let file = run("answers --seed 9 --count 2000");
+    let (comment, rest) = divided(&file);
     assert!(comment.starts_with("# ") && comment.contains("4acf26c4c1"));
-    assert_eq!(cases.lines().count(), 2_000);
-    for line in cases.lines() {
-        let case = parsed(line);
+    let found = all_of(rest);
+    assert_eq!(found.len(), worked::cases().len() + 2_000);
+    for Stored { case, bytes, .. } in found {
         assert_ne!(case.call, Call::NarrowResidual);
-        assert_eq!(answers::line(&case, &case.answer()), line);
+        assert_eq!(answers::stored(&case, &case.answer()), bytes);
     }
 }
 
 #[test]
+fn stored_answers_begin_with_the_worked_sheets() {
+    let file = run("answers --seed 9 --count 1");
+    let (_, rest) = divided(&file);
+    let found = all_of(rest).into_iter().map(|stored| stored.case);
+    assert!(found.take(worked::cases().len()).eq(worked::cases()));
+}
+
+#[test]
 fn stored_answers_cover_the_table_of_refusals() {
-    let text = run("answers --seed 9 --count 2000");
+    let file = run("answers --seed 9 --count 2000");
+    let found = all_of(divided(&file).1);
     for number in 0..=11 {
-        let found = text
-            .lines()
-            .skip(1)
-            .filter(|line| line.split(' ').nth(4) == Some(&number.to_string()));
-        assert!(found.count() > 0, "{number}");
+        let mut evaluated = found
+            .iter()
+            .filter(|stored| stored.case.call == Call::Evaluate);
+        assert!(evaluated.any(|stored| stored.number == number), "{number}");
     }
+}
+
+#[test]
+fn case_i_is_among_the_worked_sheets() {
+    let number = |case: &Case| case.answer().map_or_else(Refusal::number, |_| 0);
+    let has = |call, words: usize, table: usize, room: usize, expected: u8| {
+        worked::cases().iter().any(|case| {
+            (case.call, case.words.len(), case.table.len()) == (call, words, table)
+                && (!call.writes() || case.room == room)
+                && number(case) == expected
+        })
+    };
+    for (words, expected) in [(32, 0), (33, 7), (4_096, 0), (4_097, 1)] {
+        assert!(has(Call::Evaluate, words, 256, 16_384, expected), "{words}");
+        assert!(has(Call::RequiredFacts, words, 0, 0, expected), "{words}");
+    }
+    for (words, expected) in [(33, 0), (34, 7), (16_384, 0), (16_385, 1)] {
+        assert!(
+            has(Call::RequiredResidualFacts, words, 0, 0, expected),
+            "{words}"
+        );
+    }
+    assert!(has(Call::Evaluate, 1, 256, 16_384, 0) && has(Call::Evaluate, 1, 257, 16_384, 2));
+    assert!(has(Call::Evaluate, 3, 2, 5, 0) && has(Call::Evaluate, 3, 2, 4, 11));
+    assert!(has(Call::PartialEvaluate, 3, 2, 4, 0) && has(Call::PartialEvaluate, 3, 2, 3, 11));
 }
 
 fn case(call: Call, table: &str, given: &str, room: usize) -> Case {
@@ -92,7 +156,46 @@ fn case(call: Call, table: &str, given: &str, room: usize) -> Case {
 }
 
 #[test]
-fn lines_of_stored_answers() {
+fn bytes_of_stored_answers() {
+    let stored = |case: Case| answers::stored(&case, &case.answer());
+    assert_eq!(
+        stored(case(
+            Call::Evaluate,
+            "00 10",
+            "88000003 00000000 20000005",
+            6
+        )),
+        bytes(
+            "00 00 00 06 00 02 00 03 00 00 00 05 00 05 00 10 \
+             88 00 00 03 00 00 00 00 20 00 00 05 \
+             E0 00 00 01 40 05 00 00 C0 00 00 03 00 00 00 01 00 05 00 00"
+        )
+    );
+    assert_eq!(
+        stored(case(Call::PartialEvaluate, "", "70000001", 100)),
+        bytes("00 01 00 64 00 00 00 01 00 08 00 00 00 00 70 00 00 01")
+    );
+    assert_eq!(
+        stored(case(Call::IsPermitConstant, "", "F0000000 60000001", 0)),
+        bytes("00 06 00 00 00 00 00 02 00 00 00 01 00 00 F0 00 00 00 60 00 00 01")
+    );
+    let refused = "00 05 00 20 00 00 00 00 00 01 00 00 00 20";
+    assert_eq!(
+        stored(case(Call::RequiredResidualFacts, "", "", 0)),
+        [bytes(refused), vec![0; 128]].concat()
+    );
+    let set = [vec![0x80], vec![0; 126], vec![1]].concat();
+    let sheet = "80000001 00000000 40000002 20000000 200003FF";
+    let found = stored(case(Call::RequiredFacts, "", sheet, 0));
+    assert_eq!(
+        found[..14],
+        bytes("00 04 00 20 00 00 00 05 00 00 00 02 00 20")
+    );
+    assert_eq!(found[34..], set);
+}
+
+#[test]
+fn cases_in_one_line() {
     let line = |case: Case| answers::line(&case, &case.answer());
     assert_eq!(
         line(case(

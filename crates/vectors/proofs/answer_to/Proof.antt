@@ -1,0 +1,65 @@
+-- `vectors::answer_to` meets its contract: by the call. Assumes nothing.
+use mathlib.Core.Path.{ap}
+use native.Mathlib.Omega.{arith}
+use Rattle.vectors.proofs.Replying.{evaluated, sheet-required, record-required, none-replied}
+use borrow.Author.Needs.{needs}
+use Rattle.vectors.proofs.answer_to.Statement.{statement}
+use Rattle.vectors.proofs.answer_to.Tie as tie
+
+evaluate-requires : tie.Need-evaluate-requires
+evaluate-requires c κs = search needs
+
+written-requires : tie.Need-written-requires
+written-requires c κs = search needs
+
+sheet-facts-requires : tie.Need-sheet-facts-requires
+sheet-facts-requires c κs = search needs
+
+record-facts-requires : tie.Need-record-facts-requires
+record-facts-requires c κs = search needs
+
+same-length : tie.Need-same-length
+same-length c = search needs
+
+returns : tie.Need-returns
+returns c =
+    let args = c .before .before .before .before .before .before .before .before .before .args in
+    evaluated (args .call) (args .words .now) (args .table .now) (args .out .now) _ _ _ (c .before .before .before .before .before .match .keys1) (c .before .before .before .evaluate .ensures) (c .written .ensures .0) (c .written .ensures .1)
+
+same-length-2 : tie.Need-same-length-2
+same-length-2 c = search needs
+
+returns-2 : tie.Need-returns-2
+returns-2 c =
+    let args = c .before .before .before .before .before .before .before .before .args in
+    sheet-required (args .call) (args .words .now) (args .table .now) (args .out .now) _ _ (c .before .before .before .before .match .keys2) (c .before .before .sheet-facts .ensures)
+
+same-length-3 : tie.Need-same-length-3
+same-length-3 c = search needs
+
+returns-3 : tie.Need-returns-3
+returns-3 c =
+    let args = c .before .before .before .before .before .before .before .before .args in
+    record-required (args .call) (args .words .now) (args .table .now) (args .out .now) _ _ (c .before .before .before .before .match .keys3) (c .before .before .record-facts .ensures)
+
+returns-4 : tie.Need-returns-4
+returns-4 c =
+    let args = c .before .before .before .before .args in
+    let none = none-replied (args .call) (args .words .now) (args .table .now) (args .out .now) (λ e. omega arith) (λ e. omega arith) (λ e. omega arith) in
+    record { number-is = ap (λ m. m .number) none; value-is = ap (λ m. m .value) none; output-is = ap (λ m. m .output) none }
+
+pub answer-to-spec : {M : Type 1} → statement M
+answer-to-spec =
+    tie.close
+    (tie.spec
+    evaluate-requires
+    written-requires
+    sheet-facts-requires
+    record-facts-requires
+    same-length
+    returns
+    same-length-2
+    returns-2
+    same-length-3
+    returns-3
+    returns-4)

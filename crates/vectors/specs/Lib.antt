@@ -1,0 +1,4 @@
+pub mod Words
+pub mod Replies
+pub mod Stored
+pub mod Tallies

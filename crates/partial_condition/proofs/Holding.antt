@@ -1,8 +1,8 @@
 -- The arms that a list rule holds, from one arm to the next and at the end. Assumes nothing.
-use mathlib.Core.Path.{_≡_, refl, sym, _∙_, ap, ap₂}
+use mathlib.Core.Path.{_≡_, refl, sym, _∙_, ap}
 use mathlib.Core.Bool.{Bool, true, false, not}
-use mathlib.Core.List.{List, [], _∷_, _++_, append-assoc, append-nil}
-use Prim.Native.Nat.{ℕ, zero, suc, _+_, _≤_, _<_, min}
+use mathlib.Core.List.{List, _∷_, _++_, append-assoc, append-nil}
+use Prim.Native.Nat.{ℕ, suc, _+_, _≤_, min}
 use native.Mathlib.Omega.{arith}
 use lib.ListN.{length, getD, set}
 use Rattle.model.specs.Condition.{Condition, Conditions, cnil, ccons}
@@ -14,7 +14,7 @@ use Rattle.sizes.specs.Laid.{tooMany, capped, Laid, laid-as, laid-none, laid-le
 use Rattle.partial_condition.specs.declared.ReducedCondition.{ReducedCondition}
 use Rattle.partial_condition.specs.declared.Held.{Held}
 use Rattle.partial_condition.specs.Reducing.{knownOf, leftOf, Left, endOf}
-use Rattle.partial_condition.specs.Holding.{heldOf, listKind, Behind, Holding, MovedUp, Heeds, Negates, Ends}
+use Rattle.partial_condition.specs.Holding.{heldOf, listKind, Holding, MovedUp, Heeds, Negates, Ends}
 use Rattle.partial_condition.proofs.Laying.{Returned, front-same, laid-under, laid-gap, laid-moved}
 
 -- ---- one arm more, at the end

@@ -7,8 +7,8 @@ use native.Mathlib.Nat.{sub-zero}
 use native.Mathlib.Numerals.{add-one, sub-one}
 use native.Mathlib.Omega.{arith}
 use lib.ListN.{length, take, drop, getD, set, length-append, length-take, length-drop, length-set, take-append-drop, List·getD-append}
-use lib.Seq.{length-take-le, take-suc, take-take, take-add, take-append-add, take-at, drop-at, drop-cons, append-snoc, set-at, getD-take}
-use Rattle.sizes.specs.Laid.{mostWords, tooMany, capped, Laid}
+use lib.Seq.{length-take-le, take-suc, take-take, take-add, take-at, drop-at, drop-cons, append-snoc, set-at, getD-take}
+use Rattle.sizes.specs.Laid.{mostWords, capped, Laid, take-both}
 use Rattle.partial_condition.specs.Holding.{MovedUp}
 
 -- What comes back of an output whose tail was lent, from behind `used` words on.
@@ -60,9 +60,6 @@ laid-gap {n} {a} {r} {xs} {out} l e =
     }
 
 -- ---- words that are moved up by one, over the free word behind them
-take-both : (xs ys : List ℕ) (a b : ℕ) → length xs ≡ a → take (a + b) (xs ++ ys) ≡ xs ++ take b ys
-take-both xs ys a b e = ap (λ i. take (i + b) (xs ++ ys)) (sym e) ∙ take-append-add xs ys b
-
 module _ (n m w : ℕ) (xs ys out : List ℕ) (long : length xs ≡ n) (fits : n + 1 + m ≤ length out) (is : take (n + 1 + m) out ≡ (xs ++ w ∷ []) ++ ys) where
   first-words : take n out ≡ xs
   first-words =

@@ -1,29 +1,28 @@
 -- What a condition reduces to and what it consults, from what is known of its parts. Assumes nothing.
 use mathlib.Core.Path.{_≡_, refl, sym, ap, subst, _∙_}
 use mathlib.Core.Bool.{Bool, true, false, not, cond}
-use mathlib.Core.List.{List, [], _∷_, _++_}
+use mathlib.Core.List.{List}
 use Prim.Native.Nat.{ℕ, zero, suc, _+_, _-_, _/_, _%_, _≤_, _<_}
 use native.Mathlib.Omega.{arith}
 use borrow.Author.Tests.{ltb-true}
 use lib.Dec.{eqb, ltb}
 use lib.ListN.{length, drop, getD, set}
-use Rattle.model.specs.Facts.{Presence, absent, present, unknown, Table, factCount}
-use Rattle.model.specs.Condition.{Condition, has, notC, allC, anyC, Conditions, cnil, ccons}
+use Rattle.model.specs.Facts.{absent, present, unknown, Table, factCount}
+use Rattle.model.specs.Condition.{notC, allC, anyC, Conditions, cnil, ccons}
 use Rattle.model.specs.Partial.{known, pendingC, reduceHas, flipR, endAllC, reduceCondition, reduceConditionAll}
 use Rattle.model.specs.Partial as model
-use Rattle.model.specs.Writing.{word, encodeC}
+use Rattle.model.specs.Writing.{word}
 use Rattle.model.specs.Reading.{got, many, kindOf, restOf, readCondition}
-use Rattle.laws.specs.FieldLaws.{Holds, fine, nothing, weaker, then-holds, both-hold}
-use Rattle.laws.specs.Size.{wordsC}
+use Rattle.laws.specs.FieldLaws.{fine, nothing, weaker, then-holds, both-hold}
 use Rattle.policy_model.specs.declared.ConditionHead.{ConditionHead}
 use Rattle.policy_model.specs.declared.ConditionHead.the-variants.{Always, Never, Has, Not, All, Any, BadKind, BadField}
 use Rattle.policy_model.specs.Heads.{conditionHeads, conditionHead, conditionNode}
 use Rattle.condition.specs.Listing.{Lent, lent, Recorded}
 use Rattle.condition.proofs.Listing.{consults-as, consults-none}
 use Rattle.decisive.proofs.Positions.{no-words, no-levels, by-head, Some, some-arms, has-word}
-use Rattle.sizes.specs.Laid.{tooMany, laid-word, laid-lead, laid-then}
+use Rattle.sizes.specs.Laid.{laid-word, laid-lead, laid-then}
 use Rattle.partial_condition.specs.declared.ReducedCondition.{ReducedCondition}
-use Rattle.partial_condition.specs.Reducing.{knownOf, leftOf, Left, ReducedTo, ReducesC, ReducesHas, ReducesList, ReducesAll, ReducesAny}
+use Rattle.partial_condition.specs.Reducing.{knownOf, leftOf, Left, ReducesC, ReducesHas, ReducesList, ReducesAll, ReducesAny}
 use Rattle.partial_condition.specs.Holding.{Negates}
 use Rattle.partial_condition.proofs.Laying.{Returned, laid-free}
 

@@ -5,7 +5,7 @@ use mathlib.Core.List.{List}
 use Prim.Native.Nat.{ℕ, _+_, _≤_}
 use lib.ListN.{drop}
 use Rattle.model.specs.Facts.{Table}
-use Rattle.model.specs.Condition.{Condition, Conditions, cnil, ccons, allC, anyC}
+use Rattle.model.specs.Condition.{Conditions, cnil, ccons, allC, anyC}
 use Rattle.model.specs.Partial.{known, pendingC, reduceHas, ConditionWalk, endAllC, endAnyC, reduceCondition, reduceConditionAll, reduceConditionAny}
 use Rattle.model.specs.Partial as model
 use Rattle.model.specs.Consulted.{Consulted, consultKnown, walkC, walkAllC, walkAnyC}

@@ -4,7 +4,7 @@ use mathlib.Core.List.{List, [], _∷_, _++_, append-nil}
 use Prim.Native.Nat.{ℕ, zero, suc, _+_, _-_, _≤_, _<_, min}
 use native.Mathlib.Omega.{arith}
 use lib.ListN.{length, take, drop, set, length-append, length-drop, length-take, drop-of-length-le}
-use lib.Seq.{length-take-le, take-append-add, take-append-le}
+use lib.Seq.{length-take-le, take-append-add}
 
 -- A record has at most this many words; one more says "too many".
 abbrev pub mostWords : ℕ
@@ -55,7 +55,8 @@ laid-lead v [] p l = record { size-is = l .size-is; front = λ h k. absurd (omeg
 laid-lead v {r = zero} (x ∷ out) p l = absurd (omega (arith, l .size-is))
 laid-lead v {r = suc r} (x ∷ out) p l = record { size-is = l .size-is; front = λ h k. ap (λ us. v ∷ drop 1 us) (l .front h k) }
 
-take-both : (xs ys : List ℕ) (a b : ℕ) → length xs ≡ a → take (a + b) (xs ++ ys) ≡ xs ++ take b ys
+-- The first list, and the first words of the second.
+pub take-both : (xs ys : List ℕ) (a b : ℕ) → length xs ≡ a → take (a + b) (xs ++ ys) ≡ xs ++ take b ys
 take-both xs ys a b e = ap (λ i. take (i + b) (xs ++ ys)) (sym e) ∙ take-append-add xs ys b
 
 laid-both : {n m a b r : ℕ} {xs ys mid part : List ℕ} →

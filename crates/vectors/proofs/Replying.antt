@@ -9,7 +9,7 @@ use Rattle.model.specs.Outcome.{productSets}
 use Rattle.model.specs.Calls.{evaluate}
 use Rattle.model.specs.Required.{requiredFacts, requiredResidualFacts}
 use Rattle.calls.specs.declared.Answer.{Answer}
-use Rattle.calls.specs.Answers.{Answered, numberOf, writtenOf}
+use Rattle.calls.specs.Answers.{Answered, numberOf, writtenOf, number-of, written-of}
 use Rattle.vectors.specs.declared.Reply.{Reply}
 use Rattle.vectors.specs.Replies.{Replied, writing, requiring, nothing, replyTo}
 
@@ -19,7 +19,7 @@ module _ (call : ℕ) (words table before after : List ℕ) (r : Reply) where
   unfolding replyTo
   evaluated a e s n v =
       let told : Replied (writing (evaluate productSets words table (length before)) before) after r
-      = record { number-is = n ∙ s .number-is; value-is = v ∙ s .written-is; output-is = s .output-is } in
+      = record { number-is = n ∙ ap numberOf (s .answer-is) ∙ number-of (evaluate productSets words table (length before)); value-is = v ∙ ap writtenOf (s .answer-is) ∙ written-of (evaluate productSets words table (length before)); output-is = s .output-is } in
       subst⁻¹ (λ k. Replied (replyTo k words table before) after r) e told
 
   pub sheet-required : call ≡ 4 → Replied (requiring (requiredFacts productSets words) before) after r → Replied (replyTo call words table before) after r

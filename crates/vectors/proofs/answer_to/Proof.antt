@@ -1,7 +1,8 @@
 -- `vectors::answer_to` meets its contract: by the call. Assumes nothing.
 use mathlib.Core.Path.{ap}
 use native.Mathlib.Omega.{arith}
-use Rattle.vectors.proofs.Replying.{evaluated, sheet-required, record-required, none-replied}
+use Rattle.vectors.specs.Replies.{replyTo}
+use Rattle.vectors.proofs.Replying.{written-reply, by-number, none-replied}
 use borrow.Author.Needs.{needs}
 use Rattle.vectors.proofs.answer_to.Statement.{statement}
 use Rattle.vectors.proofs.answer_to.Tie as tie
@@ -22,25 +23,32 @@ same-length : tie.Need-same-length
 same-length c = search needs
 
 returns : tie.Need-returns
+unfolding replyTo
 returns c =
-    let args = c .before .before .before .before .before .before .before .before .before .args in
-    evaluated (args .call) (args .words .now) (args .table .now) (args .out .now) _ _ _ (c .before .before .before .before .before .match .keys1) (c .before .before .before .evaluate .ensures) (c .written .ensures .0) (c .written .ensures .1)
+    let evaluated = c .before .before .before in
+    let args = evaluated .before .before .before .before .before .before .args in
+    by-number (args .call) 0 (args .words .now) (args .table .now) (args .out .now) (evaluated .before .before .match .keys1)
+    (written-reply (evaluated .evaluate .ensures) (c .written .ensures .0) (c .written .ensures .1))
 
 same-length-2 : tie.Need-same-length-2
 same-length-2 c = search needs
 
 returns-2 : tie.Need-returns-2
+unfolding replyTo
 returns-2 c =
-    let args = c .before .before .before .before .before .before .before .before .args in
-    sheet-required (args .call) (args .words .now) (args .table .now) (args .out .now) _ _ (c .before .before .before .before .match .keys2) (c .before .before .sheet-facts .ensures)
+    let matched = c .before .before .before .before in
+    let args = matched .before .before .before .before .args in
+    by-number (args .call) 4 (args .words .now) (args .table .now) (args .out .now) (matched .match .keys2) (c .before .before .sheet-facts .ensures)
 
 same-length-3 : tie.Need-same-length-3
 same-length-3 c = search needs
 
 returns-3 : tie.Need-returns-3
+unfolding replyTo
 returns-3 c =
-    let args = c .before .before .before .before .before .before .before .before .args in
-    record-required (args .call) (args .words .now) (args .table .now) (args .out .now) _ _ (c .before .before .before .before .match .keys3) (c .before .before .record-facts .ensures)
+    let matched = c .before .before .before .before in
+    let args = matched .before .before .before .before .args in
+    by-number (args .call) 5 (args .words .now) (args .table .now) (args .out .now) (matched .match .keys3) (c .before .before .record-facts .ensures)
 
 returns-4 : tie.Need-returns-4
 returns-4 c =

@@ -1,0 +1,87 @@
+//! The proved calls and the original's functions on one sheet.
+
+use std::hint::black_box;
+
+use compare::case::{Call, Case};
+use compare::proved::agrees;
+use compare::words::convert::{known_facts, to_policy, to_residual_policy};
+use compare::words::table::Table;
+use compare::words::tree::Record;
+use compare::words::{RECORD_WORDS, read};
+
+use crate::sheets::Sheet;
+use crate::timing::{Timed, by_turns};
+
+/// Times one call on a sheet.
+pub type Timing = fn(&Sheet) -> Timed;
+
+/// Each call, by document 01's name.
+pub const CALLS: [(&str, Timing); 3] = [
+    ("evaluate", evaluate),
+    ("required_facts", required_facts),
+    ("required_residual_facts", required_residual_facts),
+];
+
+fn evaluate(sheet: &Sheet) -> Timed {
+    let Sheet { words, table, .. } = sheet;
+    same_answers(Call::Evaluate, words, table);
+    let policy = to_policy(&read::sheet(words).expect("a sheet"));
+    let facts = known_facts(&Table::known(table).expect("a known table"));
+    let mut out = vec![0; RECORD_WORDS];
+    by_turns(
+        || {
+            let written = vierskof::evaluate(black_box(words), black_box(table), &mut out);
+            black_box(written).expect("accepted");
+        },
+        || {
+            black_box(gatekeep::evaluate(black_box(&policy), black_box(&facts)));
+        },
+    )
+}
+
+fn required_facts(sheet: &Sheet) -> Timed {
+    let words = &sheet.words;
+    same_answers(Call::RequiredFacts, words, &[]);
+    let policy = to_policy(&read::sheet(words).expect("a sheet"));
+    let mut set = [0; 16];
+    by_turns(
+        || {
+            let counted = vierskof::required_facts(black_box(words), &mut set);
+            black_box(counted).expect("accepted");
+        },
+        || {
+            black_box(gatekeep::required_facts(black_box(&policy)));
+        },
+    )
+}
+
+/// Of the record whose tree is the sheet.
+fn required_residual_facts(sheet: &Sheet) -> Timed {
+    let words = [&[0xF000_0000], sheet.words.as_slice()].concat();
+    same_answers(Call::RequiredResidualFacts, &words, &[]);
+    let Ok(Record::Pending { residual, .. }) = read::record(&words) else {
+        unreachable!("a record with a tree");
+    };
+    let policy = to_residual_policy(&residual);
+    let mut set = [0; 16];
+    by_turns(
+        || {
+            let counted = vierskof::required_residual_facts(black_box(&words), &mut set);
+            black_box(counted).expect("accepted");
+        },
+        || {
+            black_box(gatekeep::required_residual_facts(black_box(&policy)));
+        },
+    )
+}
+
+/// What is timed is the same work: both sides give the same answer.
+fn same_answers(call: Call, words: &[u32], table: &[u8]) {
+    let case = Case {
+        call,
+        table: table.to_vec(),
+        words: words.to_vec(),
+        room: RECORD_WORDS,
+    };
+    assert!(agrees(&case), "{} differs from the original", call.name());
+}

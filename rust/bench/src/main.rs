@@ -1,0 +1,59 @@
+//! The time of each proved call beside the original's, in one run.
+//!
+//! A proved call reads and checks words and bytes and writes words. The original's policy and facts
+//! are made beforehand, and its answer is dropped and not brought to words: its time is that of its
+//! function alone.
+
+mod calls;
+mod sheets;
+mod timing;
+
+use calls::CALLS;
+use sheets::Sheet;
+use timing::Timed;
+
+fn main() {
+    println!("nanoseconds a call, medians; ratio: proved to original\n");
+    println!(
+        "{:24} {:>14} {:>6} {:>10} {:>10} {:>7}",
+        "call", "sheet", "words", "proved", "original", "ratio"
+    );
+    for (name, call) in CALLS {
+        for sheet in sheets::cases() {
+            row(name, &sheet, &call(&sheet));
+        }
+    }
+    growth("words", &sheets::lengths());
+    growth("levels", &sheets::depths());
+}
+
+fn row(call: &str, sheet: &Sheet, Timed { proved, original }: &Timed) {
+    println!(
+        "{call:24} {:>14} {:>6} {proved:>10.0} {original:>10.0} {:>7.2}",
+        sheet.name,
+        sheet.words.len(),
+        proved / original,
+    );
+}
+
+/// How the time of a word goes as sheets grow.
+fn growth(by: &str, sheets: &[Sheet]) {
+    println!("\nnanoseconds a word, as {by} grow\n");
+    print!("{:24} {:>10}", "call", "");
+    for sheet in sheets {
+        print!(" {:>8}", sheet.name);
+    }
+    println!();
+    for (name, call) in CALLS {
+        let times: Vec<Timed> = sheets.iter().map(call).collect();
+        let line = |side: &str, time: fn(&Timed) -> f64| {
+            print!("{name:24} {side:>10}");
+            for (sheet, timed) in sheets.iter().zip(&times) {
+                print!(" {:>8.2}", sheet.a_word(time(timed)));
+            }
+            println!();
+        };
+        line("proved", |timed| timed.proved);
+        line("original", |timed| timed.original);
+    }
+}

@@ -1,4 +1,4 @@
--- Words before, after and expected. Numbers are the language's own.
+-- Whether two lists of words are the same, what stands in an output before a call, and a set of facts as words.
 use mathlib.Core.Path.{_≡_, refl, ap, ap₂}
 use mathlib.Core.Bool.{Bool, true, false, cond, _&&_}
 use mathlib.Core.List.{List, [], _∷_}

@@ -53,21 +53,31 @@ part-step-end c = search needs
 
 step-requires : tie.Need-step-requires Inv-loop μ-loop
 step-requires c κs =
-    let at = c .before .before .before .before .before .before .before .before .loop in
+    let taken = c .before .before .before .before in
+    let sized = taken .before in
+    let loop = sized .before .before .before in
+    let at = loop .loop in
+    let pre = loop .before .before .before .before .before .pre in
     let sofar = at .inv .3 in (
-      whole-of _ (λ e. c .before .before .before .before .if1 .left (c .before .before .before .before .before .size-of .ensures ∙ e)),
+      whole-of _ (λ e. taken .if1 .left (sized .size-of .ensures ∙ e)),
       omega (arith, sofar .within, sofar .places, sofar .replayed),
       sofar .differ,
-      omega (arith, at .inv .0, c .before .before .before .before .before .before .before .before .before .before .before .before .before .pre),
-      omega (arith, at .inv .1, c .before .before .before .before .before .before .before .before .before .before .before .before .before .pre),
-      omega (arith, at .inv .2, c .before .before .before .before .before .before .before .before .before .before .before .before .before .pre),
+      omega (arith, at .inv .0, pre),
+      omega (arith, at .inv .1, pre),
+      omega (arith, at .inv .2, pre),
     )
 
 add-at : tie.Need-add-at Inv-loop μ-loop
-add-at c = omega (arith, sofar-fits _ _ _ _ _ _ (c .before .before .before .before .before .before .before .before .before .before .before .before .before .before .before .loop .inv .3) _ (c .before .before .before .before .before .before .before .before .before .before .before .before .size-of .ensures) (c .before .before .before .before .before .before .before .before .before .before .before .if1 .left))
+add-at c =
+    let taken = c .before .before .before .before .before .before .before .before .before .before .before in
+    let sized = taken .before in
+    omega (arith, sofar-fits _ _ _ _ _ _ (sized .before .before .before .loop .inv .3) _ (sized .size-of .ensures) (taken .if1 .left))
 
 add-place : tie.Need-add-place Inv-loop μ-loop
-add-place c = omega (arith, sofar-fits _ _ _ _ _ _ (c .before .before .before .before .before .before .before .before .before .before .before .before .before .before .before .loop .inv .3) _ (c .before .before .before .before .before .before .before .before .before .before .before .before .size-of .ensures) (c .before .before .before .before .before .before .before .before .before .before .before .if1 .left))
+add-place c =
+    let taken = c .before .before .before .before .before .before .before .before .before .before .before in
+    let sized = taken .before in
+    omega (arith, sofar-fits _ _ _ _ _ _ (sized .before .before .before .loop .inv .3) _ (sized .size-of .ensures) (taken .if1 .left))
 
 sub-left : tie.Need-sub-left Inv-loop μ-loop
 sub-left c = search needs
@@ -77,11 +87,15 @@ loop-less c = search needs
 
 loop-again : tie.Need-loop-again Inv-loop μ-loop
 loop-again c =
-    let at = c .before .before .before .before .before .before .before .before .before .before .before .before .before .before .before .loop in (
+    let stepped = c .before .before .before .before .before .before in
+    let taken = stepped .before .before .before .before .before in
+    let sized = taken .before in
+    let test = sized .before .before in
+    let at = test .before .loop in (
       c .before .before .before .before .before .words .given ∙ at .inv .0,
       c .before .before .before .expected .given ∙ at .inv .1,
       c .before .out .given ∙ at .inv .2,
-      sofar-next _ _ _ _ _ _ (at .inv .3) _ _ (omega (arith, c .before .before .before .before .before .before .before .before .before .before .before .before .before .before .loop-test)) (c .before .before .before .before .before .before .before .before .before .before .before .before .size-of .ensures) (c .before .before .before .before .before .before .before .before .before .before .before .if1 .left) (c .before .before .before .before .before .before .step .ensures),
+      sofar-next _ _ _ _ _ _ (at .inv .3) _ _ (omega (arith, test .loop-test)) (sized .size-of .ensures) (taken .if1 .left) (stepped .step .ensures),
     )
 
 same-length-4 : tie.Need-same-length-4 Inv-loop μ-loop

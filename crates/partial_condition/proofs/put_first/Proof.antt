@@ -1,0 +1,22 @@
+-- `partial_condition::put_first` meets its contract: an empty output has no first word. Assumes nothing.
+use mathlib.Core.Path.{sym}
+use native.Mathlib.Omega.{arith}
+use lib.Seq.{set-out}
+use borrow.Author.Needs.{needs}
+use Rattle.partial_condition.proofs.put_first.Statement.{statement}
+use Rattle.partial_condition.proofs.put_first.Tie as tie
+
+slice-write-out : tie.Need-slice-write-out
+slice-write-out c = search needs
+
+same-length : tie.Need-same-length
+same-length c = search needs
+
+returns : tie.Need-returns
+returns c = search needs
+
+returns-2 : tie.Need-returns-2
+returns-2 c = sym (set-out _ _ _ (omega arith))
+
+pub put-first-spec : {M : Type 1} → statement M
+put-first-spec = tie.close (tie.spec slice-write-out same-length returns returns-2)

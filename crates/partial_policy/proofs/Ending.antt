@@ -17,11 +17,9 @@ use Rattle.model.specs.Partial as model
 use Rattle.model.specs.Writing.{word, count, encodeD, encodes, encode}
 use Rattle.packing.specs.Written as packing
 use Rattle.packing.specs.Written.{written-front}
-use Rattle.decision.specs.declared.Decision.{Decision}
-use Rattle.decision.specs.Nodes.{clauseAt}
-use Rattle.decision.specs.Meaning.{permitOf, decisionOf}
-use Rattle.decision.proofs.Standing.{as-permit, as-deny}
-use Rattle.evaluate.specs.Folding.{joinNext, anyOf}
+use Rattle.decision.specs.Meaning.{decisionOf}
+use Rattle.evaluate.specs.Folding.{anyOf}
+use Rattle.evaluate.proofs.Arms.{decides, decides-as}
 use Rattle.sizes.specs.Laid.{mostWords, tooMany, capped, Laid, laid-as, laid-lead}
 use Rattle.residual.specs.Weight.{weightD, weight, weights}
 use Rattle.residual.specs.Answers.{NodeLaid, ListPut}
@@ -31,18 +29,6 @@ use Rattle.partial_policy.specs.Keeping.{Walked, asDecisions, anyValue, 
 use Rattle.partial_policy.specs.Within.{LaidWithin, within, within-as, within-then}
 use Rattle.partial_policy.specs.Reducing.{resolvedTo, leftTo, sofarOf, Result, Bounded, SofarIs, NodesAre, NodesEnd, ListEnds, ResidualLaid, OrElsePut}
 use Rattle.partial_policy.proofs.Adding.{clash}
-
--- ---- what a decision decides
-abbrev pub decides : Decided ℕ → Bool
-decides (permits p) = true
-decides (denies d) = false
-
-decides-by : (b : Bool) (W : List ℕ) (T : Table) (buf : List ℕ) (d : Decision) → d .permit ≡ b → decides (decisionOf W T buf d) ≡ b
-decides-by true W T buf d e = ap decides (as-permit W T buf d e)
-decides-by false W T buf d e = ap decides (as-deny W T buf d e)
-
-pub decides-as : (W : List ℕ) (T : Table) (buf : List ℕ) (d : Decision) → decides (decisionOf W T buf d) ≡ d .permit
-decides-as W T buf d = decides-by (d .permit) W T buf d refl
 
 -- ---- which nodes are kept
 some-permit : (p : Permit ℕ) (ps : List (Permit ℕ)) → decides (anyOf true (permits p) (asDecisions ps)) ≡ true

@@ -72,15 +72,15 @@ value-open : (every : Bool) (k : Walked) (q : Policy ℕ) → sofarValue every k
 value-open true k q = refl
 value-open false k q = refl
 
-module _ (every : Bool) (T : Table) (W : List ℕ) (v : Sofar) (a : ReducedPolicy) (buf part front fpart out opart buf′ front′ : List ℕ) (behind from : ℕ) (v′ : Sofar)
+module _ (every : Bool) (T : Table) (W : List ℕ) (v : Sofar) (a : ReducedPolicy) (buf part front fpart out opart buf′ front′ : List ℕ) (behind from room : ℕ) (v′ : Sofar)
+    (f : behind ≡ min (v .kept) (length front)) (o : from ≡ min (v .size) (length out))
+    (added : ArmAdded every T W v a (back 64 buf part) (back behind front fpart) buf′ front′ v′) (flong : length front′ ≡ length front)
     (bounds : Bounded v) (few : a .decision .count ≤ length part) (wide : 64 ≤ length buf)
-    (f : behind ≡ min (v .kept) (length front)) (long : length fpart ≡ length front - behind)
-    (o : from ≡ min (v .size) (length out)) (olong : length opart ≡ length out - from)
-    (added : ArmAdded every T W v a (back 64 buf part) (back behind front fpart) buf′ front′ v′) (flong : length front′ ≡ length front) where
+    (long : length fpart ≡ length front - behind) (rooms : room ≡ length front - behind) (olong : length opart ≡ length out - from) where
   abbrev bytes : take (v .decision .count) (back 64 buf part) ≡ take (v .decision .count) buf
   bytes = lent-front buf part (drop (length buf - 64) (drop 64 buf)) wide (v .decision .count) (bounds .few)
 
-  open-more-arm : (k : Walked) (q : Policy ℕ) → SofarIs every T W k v buf front out → Result (pending q) T W part (length fpart) opart a →
+  open-more-arm : (k : Walked) (q : Policy ℕ) → SofarIs every T W k v buf front out → Result (pending q) T W part room opart a →
       SofarIs every T W (withArm k (pending q)) (sofarOf (v .decision) (v .begun) (v .kept) (capped (v .size + a .size)) (v .arms + 1) true) (back 64 buf part) (back behind front fpart) (back from out opart)
   open-more-arm k q s x = record {
     sound = same-sound W buf (back 64 buf part) (v .decision) bytes (s .sound);
@@ -95,7 +95,7 @@ module _ (every : Bool) (T : Table) (W : List ℕ) (v : Sofar) (a : ReducedPolic
     pending-is = sym (open-more (k .pend) q);
   }
 
-  known-more-arm : (k : Walked) (D : Decided ℕ) → SofarIs every T W k v buf front out → Result (resolved D) T W part (length fpart) opart a → stops every (resolved D) ≡ false →
+  known-more-arm : (k : Walked) (D : Decided ℕ) → SofarIs every T W k v buf front out → Result (resolved D) T W part room opart a → stops every (resolved D) ≡ false →
       DecisionAdded every T W v (a .decision) (back 64 buf part) (back behind front fpart) buf′ front′ v′ →
       Laid (weightsD (asDecisions (withArm k (resolved D) .permitted))) (encodesD (asDecisions (withArm k (resolved D) .permitted))) front′ (v′ .kept) →
       v′ .arms ≡ length (asDecisions (withArm k (resolved D) .permitted)) + count (k .pend) →
@@ -118,10 +118,10 @@ module _ (every : Bool) (T : Table) (W : List ℕ) (v : Sofar) (a : ReducedPolic
         pending-is = d .pending-is ∙ s .pending-is ∙ ap isOpen (sym p);
       }
 
-  permit-arm : (k : Walked) (p : _) → SofarIs every T W k v buf front out → Result (resolved (permits p)) T W part (length fpart) opart a →
+  permit-arm : (k : Walked) (p : _) → SofarIs every T W k v buf front out → Result (resolved (permits p)) T W part room opart a →
       DecisionAdded every T W v (a .decision) (back 64 buf part) (back behind front fpart) buf′ front′ v′ → SofarIs every T W (withArm k (resolved (permits p))) v′ buf′ front′ (back from out opart)
   permit-arm k p s x d =
-      let permit = decided-as T W part (length fpart) opart a (permits p) x in
+      let permit = decided-as T W part room opart a (permits p) x in
       let tail = lent-back buf part (drop (length buf - 64) (drop 64 buf)) wide (a .decision .count) few in
       let D : decisionOf W T (drop 64 (back 64 buf part)) (a .decision) ≡ permits p = same-decision W part (drop 64 (back 64 buf part)) (a .decision) tail T ∙ x .decision-is in
       known-more-arm k (permits p) s x (no-stop every p) d
@@ -133,17 +133,17 @@ module _ (every : Bool) (T : Table) (W : List ℕ) (v : Sofar) (a : ReducedPolic
       no-stop true p = refl
       no-stop false p = refl
 
-  deny-arm : (k : Walked) (c : _) → SofarIs every T W k v buf front out → Result (resolved (denies c)) T W part (length fpart) opart a → stops every (resolved (denies c)) ≡ false →
+  deny-arm : (k : Walked) (c : _) → SofarIs every T W k v buf front out → Result (resolved (denies c)) T W part room opart a → stops every (resolved (denies c)) ≡ false →
       DecisionAdded every T W v (a .decision) (back 64 buf part) (back behind front fpart) buf′ front′ v′ → SofarIs every T W (withArm k (resolved (denies c))) v′ buf′ front′ (back from out opart)
   deny-arm k c s x e d =
-      let denied = decided-as T W part (length fpart) opart a (denies c) x in
+      let denied = decided-as T W part room opart a (denies c) x in
       let none-more = d .none denied in
       known-more-arm k (denies c) s x e d
       (rw (none-more .0, none-more .1) (laid-still fpart (s .nodes) f long))
       (d .arms-are ∙ ap (λ b. armsWith b (v .arms)) denied ∙ s .arms-are) (λ t. clash true refl (sym (ap (λ b. stops b (resolved (denies c))) t) ∙ e)) refl
 
   -- What was kept so far, with one arm more.
-  pub sofar-more : (k : Walked) (x : model.ReducedPolicy ℕ) → SofarIs every T W k v buf front out → Result x T W part (length fpart) opart a → stops every x ≡ false →
+  pub sofar-more : (k : Walked) (x : model.ReducedPolicy ℕ) → SofarIs every T W k v buf front out → Result x T W part room opart a → stops every x ≡ false →
       SofarIs every T W (withArm k x) v′ buf′ front′ (back from out opart)
   sofar-more k (resolved (permits p)) s x e = permit-arm k p s x (added .known-arm (x .settled))
   sofar-more k (resolved (denies c)) s x e = deny-arm k c s x e (added .known-arm (x .settled))
@@ -395,8 +395,9 @@ module _ (P : Table) (W : List ℕ) (at depth : ℕ) (s m : Lent) (a : ReducedPo
     on-read (resolved (denies d)) here on h q = refl
     on-read (pending z) here on h q = refl
 
-    pub or-denies : (n : ℕ) (out : List ℕ) → a .pending ≡ false → a .decision .permit ≡ false → ReducesP P W (a .next) depth m b t buf n out → ReducesBy OrElse P W at depth s b t buf n out
-    or-denies n out e q second =
+    pub or-denies : (n : ℕ) (out : List ℕ) → a .pending ≡ false → a .decision .permit ≡ false → (n′ : ℕ) → ReducesP P W (a .next) depth m b t buf n′ out → n′ ≡ n → ReducesBy OrElse P W at depth s b t buf n out
+    or-denies n out e q n′ second₀ z =
+        let second : ReducesP P W (a .next) depth m b t buf n out = subst (λ i. ReducesP P W (a .next) depth m b t buf i out) z second₀ in
         or-first b t buf n out (second .same ∙ first .same) (second .few) (second .bound) (λ x h.
         weaker (one (drop (a .next) W)) (λ y rest g. record {
           result = denies-first (reducePolicy productSets P x) (reducePolicy productSets P y) n out (h .result) e q (g .result);
@@ -406,11 +407,11 @@ module _ (P : Table) (W : List ℕ) (at depth : ℕ) (s m : Lent) (a : ReducedPo
         (second .says true))
 
     -- With a pending primary both are kept.
-    open-first : (x y : model.ReducedPolicy ℕ) (out opart₂ out′ : List ℕ) (from behind used size end after listed : ℕ) → a .pending ≡ true → from ≡ min 1 (length out) → length opart ≡ length out - from → used ≡ capped (1 + a .size) →
+    open-first : (x y : model.ReducedPolicy ℕ) (out opart₂ buf′ out′ : List ℕ) (from behind used size end after listed : ℕ) → a .pending ≡ true → from ≡ min 1 (length out) → length opart ≡ length out - from → used ≡ capped (1 + a .size) →
         behind ≡ min used (length (back from out opart)) → length opart₂ ≡ length (back from out opart) - behind → OrElsePut P W used b buf (back behind (back from out opart) opart₂) out′ size →
-        Result x P W mid room opart a → Result y P W buf room opart₂ b → Result (reduceOrElse x y) P W buf room out′ (leftTo size end after listed)
-    open-first (resolved D) y out opart₂ out′ from behind used size end after listed p f long u g long₂ k h i = clash (a .pending) p (h .settled)
-    open-first (pending q) y out opart₂ out′ from behind used size end after listed p f long u g long₂ k h i =
+        Result x P W mid room opart a → Result y P W buf room opart₂ b → Result (reduceOrElse x y) P W buf′ room out′ (leftTo size end after listed)
+    open-first (resolved D) y out opart₂ buf′ out′ from behind used size end after listed p f long u g long₂ k h i = clash (a .pending) p (h .settled)
+    open-first (pending q) y out opart₂ buf′ out′ from behind used size end after listed p f long u g long₂ k h i =
         let out₁ = back from out opart in
         let one-word : LaidWithin room 1 (getD out 0 0 ∷ []) out 1 = first-word out in
         let two : LaidWithin room (1 + weight q) (getD out 0 0 ∷ encode (productSets .number) q) out₁ used = within-then one-word (h .left) f long u in
@@ -419,13 +420,14 @@ module _ (P : Table) (W : List ℕ) (at depth : ℕ) (s m : Lent) (a : ReducedPo
         sym (ap (λ i. drop i (back behind out₁ opart₂)) (ap (min used) (back-long behind out₁ opart₂ (omega arith) long₂) ∙ sym g) ∙ back-part behind out₁ opart₂ (omega arith)) in
         record { unsettled = refl; left = k .put (weight q) (getD out 0 0) room (encode (productSets .number) q) y stays (subst (λ us. Result y P W buf room us b) there i) }
 
-    pub or-open : (out opart₂ out′ : List ℕ) (from behind used size end : ℕ) → a .pending ≡ true → from ≡ min 1 (length out) → length opart ≡ length out - from → used ≡ capped (1 + a .size) →
-        behind ≡ min used (length (back from out opart)) → length opart₂ ≡ length (back from out opart) - behind → ReducesP P W (a .next) depth m b t buf room opart₂ →
-        OrElsePut P W used b buf (back behind (back from out opart) opart₂) out′ size → ReducesBy OrElse P W at depth s (leftTo size end (b .next) (b .count)) t buf room out′
-    or-open out opart₂ out′ from behind used size end p f long u g long₂ second k =
-        or-first (leftTo size end (b .next) (b .count)) t buf room out′ (second .same ∙ first .same) (omega arith) (k .bound) (λ x h.
+    pub or-open : (out opart₂ buf′ out′ : List ℕ) (from behind used size end : ℕ) → a .pending ≡ true → from ≡ min 1 (length out) → length opart ≡ length out - from → used ≡ capped (1 + a .size) →
+        behind ≡ min used (length (back from out opart)) → length opart₂ ≡ length (back from out opart) - behind → (room′ : ℕ) → ReducesP P W (a .next) depth m b t buf room′ opart₂ → room′ ≡ room →
+        OrElsePut P W used b buf (back behind (back from out opart) opart₂) out′ size → ReducesBy OrElse P W at depth s (leftTo size end (b .next) (b .count)) t buf′ room out′
+    or-open out opart₂ buf′ out′ from behind used size end p f long u g long₂ room′ second₀ z k =
+        let second : ReducesP P W (a .next) depth m b t buf room opart₂ = subst (λ i. ReducesP P W (a .next) depth m b t buf i opart₂) z second₀ in
+        or-first (leftTo size end (b .next) (b .count)) t buf′ room out′ (second .same ∙ first .same) (omega arith) (k .bound) (λ x h.
         weaker (one (drop (a .next) W)) (λ y rest i. record {
-          result = open-first (reducePolicy productSets P x) (reducePolicy productSets P y) out opart₂ out′ from behind used size end (b .next) (b .count) p f long u g long₂ k (h .result) (i .result);
+          result = open-first (reducePolicy productSets P x) (reducePolicy productSets P y) out opart₂ buf′ out′ from behind used size end (b .next) (b .count) p f long u g long₂ k (h .result) (i .result);
           next-is = omega (arith, h .next-is, i .next-is);
           log = consults-as (λ l. on-read (reducePolicy productSets P x) (walk productSets P x l) (walk productSets P y (walk productSets P x l)) (h .result) (λ q. clash (a .pending) p q)) (consults-then (h .log) (i .log));
         })

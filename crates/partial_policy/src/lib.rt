@@ -412,21 +412,66 @@ pub fn reduce_policy(
             obligations: held,
             outcome,
         } => {
-            reduce_grant(words, at, below, held, outcome, facts, entries, seen, count, out)
+            reduce_grant(
+                words,
+                at,
+                below,
+                held,
+                outcome,
+                facts,
+                entries,
+                seen,
+                count,
+                out,
+            )
         }
         PolicyHead::All(arms) => {
             reduce_list(
-                words, at, below, arms, true, facts, entries, seen, count, buf, named, front, out,
+                words,
+                at,
+                below,
+                arms,
+                true,
+                facts,
+                entries,
+                seen,
+                count,
+                buf,
+                named,
+                front,
+                out,
             )
         }
         PolicyHead::Any(arms) => {
             reduce_list(
-                words, at, below, arms, false, facts, entries, seen, count, buf, named, front, out,
+                words,
+                at,
+                below,
+                arms,
+                false,
+                facts,
+                entries,
+                seen,
+                count,
+                buf,
+                named,
+                front,
+                out,
             )
         }
         PolicyHead::OrElse => {
             reduce_or_else(
-                words, at, below, facts, entries, seen, count, buf, named, front, out,
+                words,
+                at,
+                below,
+                facts,
+                entries,
+                seen,
+                count,
+                buf,
+                named,
+                front,
+                out,
             )
         }
         _ => reduce_constant(words, at, depth, facts, entries, seen, count, buf),
@@ -492,7 +537,18 @@ fn reduce_list(
         }
         sofar = with_arm(words, facts, every, sofar, arm, buf, named, front);
     }
-    end_list(words, facts, every, sofar, next, listed, buf, named, front, out)
+    end_list(
+        words,
+        facts,
+        every,
+        sofar,
+        next,
+        listed,
+        buf,
+        named,
+        front,
+        out,
+    )
 }
 
 // The OrElse at `at`, whose two policies have at most `depth` levels: a resolved permit of the primary is the answer, after a resolved deny the fallback
@@ -551,7 +607,23 @@ fn reduce_or_else(
     let decision = primary.decision;
     let permitted = decision.permit;
     if permitted {
-        return resolved(decision, policy_model::skip_policies(words, next, 1), listed);
+        return resolved(
+            decision,
+            policy_model::skip_policies(words, next, 1),
+            listed,
+        );
     }
-    reduce_policy(words, next, depth, facts, entries, seen, listed, buf, named, front, out)
+    reduce_policy(
+        words,
+        next,
+        depth,
+        facts,
+        entries,
+        seen,
+        listed,
+        buf,
+        named,
+        front,
+        out,
+    )
 }

@@ -34,7 +34,7 @@ use Rattle.evaluate.specs.Evaluating.{evalOf, Answers, EvaluatesP, Evalu
 use Rattle.evaluate.proofs.Nodes.{node-holds}
 
 -- ---- what a decision decides
-abbrev decides : Decided ℕ → Bool
+abbrev pub decides : Decided ℕ → Bool
 decides (permits p) = true
 decides (denies d) = false
 
@@ -42,7 +42,7 @@ decides-at : (b : Bool) (W : List ℕ) (T : Table) (buf : List ℕ) (d : Decisio
 decides-at true W T buf d = refl
 decides-at false W T buf d = refl
 
-decides-as : (W : List ℕ) (T : Table) (buf : List ℕ) (d : Decision) → decides (decisionOf W T buf d) ≡ d .permit
+pub decides-as : (W : List ℕ) (T : Table) (buf : List ℕ) (d : Decision) → decides (decisionOf W T buf d) ≡ d .permit
 unfolding decisionOf
 decides-as W T buf d = decides-at (d .permit) W T buf d
 
@@ -59,7 +59,7 @@ pub record LeavesTo (T : Table) (value others : Policies ℕ → Decided ℕ) (r
   pub value-is : value (pcons p ps) ≡ others ps
   pub read-is : (l : Consulted) → reads (pcons p ps) l ≡ readOn ps (read productSets T p l)
 
-arms-more : (p : List ℕ → Parsed (Policy ℕ)) (arms : ℕ) (ws : List ℕ) → (arms ≡ 0 → ⊥) →
+pub arms-more : (p : List ℕ → Parsed (Policy ℕ)) (arms : ℕ) (ws : List ℕ) → (arms ≡ 0 → ⊥) →
     many pnil pcons p arms ws ≡ next (p ws) (λ a vs. next (many pnil pcons p (arms - 1) vs) (λ ps us. got (pcons a ps) us))
 arms-more p zero ws f = absurd (f refl)
 arms-more p (suc arms) ws f = rw sub-one
@@ -107,7 +107,7 @@ arms-none T value reads W sofar before at depth arms count s z few v e = record 
 }
 
 -- Arms that are passed over: the rule is decided.
-skipped : {A : Type 0} (size : A → ℕ) (at n : ℕ) (q : Parsed A) → Skipped size at q n → Holds (λ a rest. n ≡ at + size a) q
+pub skipped : {A : Type 0} (size : A → ℕ) (at n : ℕ) (q : Parsed A) → Skipped size at q n → Holds (λ a rest. n ≡ at + size a) q
 unfolding Skipped
 skipped size at n (refuse k) h = nothing
 skipped size at n (got a rest) h = fine h
@@ -247,7 +247,7 @@ after-deny-stop (permits p) here on e = refl
 after-deny-stop (denies d) here on e = cc
 
 -- One policy that is passed over.
-one-passed : (at n : ℕ) (q : Parsed (Policy ℕ)) →
+pub one-passed : (at n : ℕ) (q : Parsed (Policy ℕ)) →
     Holds (λ ps rest. n ≡ at + wordss ps) (next q (λ p vs. next (got pnil vs) (λ ps us. got (pcons p ps) us))) → Holds (λ p rest. n ≡ at + words p) q
 one-passed at n (refuse k) h = nothing
 one-passed at n (got p rest) h = fine (omega (arith, h .it))

@@ -38,15 +38,15 @@ use Rattle.evaluate.proofs.Nodes.{held-at, in-sheet, node-holds, node-k
 abbrev pub Answered : Table → List ℕ → ℕ → Lent → PolicyEval → Lent → List ℕ → Policy ℕ → List ℕ → Type 0
 Answered T W at s r t buf p rest = Answers T W (evalPolicy productSets T p) (at + words p) (read productSets T p) s r t buf
 
-nothing-there : (res : Bool) (depth : ℕ) → readPolicy (productSets .value) res depth [] ≡ refuse 6
+pub nothing-there : (res : Bool) (depth : ℕ) → readPolicy (productSets .value) res depth [] ≡ refuse 6
 nothing-there res zero = refl
 nothing-there res (suc depth) = refl
 
-no-levels : {Q : Policy ℕ → List ℕ → Type 0} (res : Bool) (ws : List ℕ) → Holds Q (readPolicy (productSets .value) res zero ws)
+pub no-levels : {Q : Policy ℕ → List ℕ → Type 0} (res : Bool) (ws : List ℕ) → Holds Q (readPolicy (productSets .value) res zero ws)
 no-levels res [] = nothing
 no-levels res (w ∷ ws) = rw (policy-deep res w ws) nothing
 
-one-level : {Q : Policy ℕ → List ℕ → Type 0} (depth : ℕ) (ws : List ℕ) → (depth ≡ 0 → ⊥) →
+pub one-level : {Q : Policy ℕ → List ℕ → Type 0} (depth : ℕ) (ws : List ℕ) → (depth ≡ 0 → ⊥) →
     Holds Q (readPolicy (productSets .value) true (suc (depth - 1)) ws) → Holds Q (readPolicy (productSets .value) true depth ws)
 one-level zero ws f h = absurd (f refl)
 one-level (suc depth) ws f h = rw sub-one at h

@@ -49,7 +49,7 @@ fn permitted(outcome: u16, none: usize, next: usize, count: usize) -> PolicyEval
 }
 
 // The decision so far and one more permit under All. The first permit is taken as it is.
-fn met(words: &[u32], sofar: Decision, incoming: Decision, buf: &mut [u8]) -> Decision
+pub fn met(words: &[u32], sofar: Decision, incoming: Decision, buf: &mut [u8]) -> Decision
     requires { ⌜ (sofar .count ≤ 64) × (incoming .count ≤ 64) × (128 ≤ length (now buf)) ⌝ }
     ensures { λ r. ⌜ Met (now (words .entry)) sofar incoming (now (buf .entry)) r (now (buf .exit)) ⌝ }
 {
@@ -60,7 +60,7 @@ fn met(words: &[u32], sofar: Decision, incoming: Decision, buf: &mut [u8]) -> De
 }
 
 // The decision so far and one more under Any; `begun` says whether there was an arm before. Permits are joined, and of two denies the first stands.
-fn joined(
+pub fn joined(
     words: &[u32],
     sofar: Decision,
     begun: bool,

@@ -1,0 +1,4 @@
+pub mod Adding
+pub mod Ending
+pub mod Nodes
+pub mod Arms

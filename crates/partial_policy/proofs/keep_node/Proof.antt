@@ -1,0 +1,76 @@
+-- `partial_policy::keep_node` meets its contract: a deny has no node. Assumes nothing.
+use native.Mathlib.Omega.{arith}
+use borrow.Author.Tests.{not-true, not-false}
+use Rattle.partial_policy.proofs.Adding.{node-none, node-kept}
+use borrow.Author.Needs.{needs}
+use Rattle.partial_policy.proofs.keep_node.Statement.{statement}
+use Rattle.partial_policy.proofs.keep_node.Tie as tie
+
+returns : tie.Need-returns
+returns c = node-none _ _ (omega arith) (not-true _ (c .if1 .taken))
+
+tail-from-requires : tie.Need-tail-from-requires
+tail-from-requires c κs = search needs
+
+sub-policy-from-decision : tie.Need-sub-policy-from-decision
+sub-policy-from-decision c = search needs
+
+part-policy-from-decision-start : tie.Need-part-policy-from-decision-start
+part-policy-from-decision-start c = search needs
+
+part-policy-from-decision-end : tie.Need-part-policy-from-decision-end
+part-policy-from-decision-end c = search needs
+
+mul-policy-from-decision : tie.Need-mul-policy-from-decision
+mul-policy-from-decision c = search needs
+
+sub-policy-from-decision-2 : tie.Need-sub-policy-from-decision-2
+sub-policy-from-decision-2 c = search needs
+
+part-policy-from-decision-start-2 : tie.Need-part-policy-from-decision-start-2
+part-policy-from-decision-start-2 c = search needs
+
+part-policy-from-decision-end-2 : tie.Need-part-policy-from-decision-end-2
+part-policy-from-decision-end-2 c = search needs
+
+policy-from-decision-requires : tie.Need-policy-from-decision-requires
+policy-from-decision-requires c κs = search needs
+
+plus-requires : tie.Need-plus-requires
+plus-requires c κs = search needs
+
+same-length : tie.Need-same-length
+same-length c = search needs
+
+same-length-2 : tie.Need-same-length-2
+same-length-2 c = search needs
+
+same-length-3 : tie.Need-same-length-3
+same-length-3 c = search needs
+
+returns-2 : tie.Need-returns-2
+returns-2 c =
+    let call = c .before .before .before .before .before .before .before in
+    let first = call .before .before .before .before .before in
+    let start = first .before .before .before .before .before .before .before in
+    node-kept _ _ _ _ _ _ _ (start .pre .1) (not-false _ (first .if1 .left)) (omega (arith, start .pre)) (omega (arith, start .pre, call .before .before .before .before .before .before .before)) (call .policy-from-decision .ensures) (call .before .before .before .before .tail-from .ensures) (omega arith) (c .plus .ensures)
+
+pub keep-node-spec : {M : Type 1} → statement M
+keep-node-spec =
+    tie.close
+    (tie.spec
+    returns
+    tail-from-requires
+    sub-policy-from-decision
+    part-policy-from-decision-start
+    part-policy-from-decision-end
+    mul-policy-from-decision
+    sub-policy-from-decision-2
+    part-policy-from-decision-start-2
+    part-policy-from-decision-end-2
+    policy-from-decision-requires
+    plus-requires
+    same-length
+    same-length-2
+    same-length-3
+    returns-2)

@@ -1,0 +1,4 @@
+pub mod Settled
+pub mod Keeping
+pub mod Within
+pub mod Reducing

@@ -7,10 +7,10 @@ use policy_model::PolicyHead;
 ghost use mathlib.Core.Path.{_≡_};
 ghost use mathlib.Core.Bool.{Bool, true, false, not, _&&_};
 ghost use mathlib.Core.List.{List};
-ghost use Prim.Native.Nat.{ℕ, _+_, _*_, _≤_, _<_};
+ghost use Prim.Native.Nat.{ℕ, _+_, _*_, _≤_, _<_, min};
 ghost use lib.ListN.{length, take, drop, set};
 ghost use Rattle.model.specs.Facts.{tableOf};
-ghost use Rattle.model.specs.Writing.{word};
+ghost use Rattle.model.specs.Writing.{mostListed, word};
 ghost use Rattle.policy_model.specs.declared.PolicyHead.the-variants.{Grant, OrElse};
 ghost use Rattle.condition.specs.Listing.{lent, Room};
 ghost use Rattle.evaluate.specs.Evaluating.{Folds};
@@ -165,7 +165,7 @@ fn keep_node(
     named: &mut [u16],
     front: &mut [u32],
 ) -> usize
-    requires { ⌜ (incoming .count ≤ 64) × (kept ≤ tooMany) × (128 ≤ length (now buf)) × (length (now words) ≤ length (now named)) × (4095 ≤ length (now named)) ⌝ }
+    requires { ⌜ (incoming .count ≤ 64) × (kept ≤ tooMany) × (128 ≤ length (now buf)) × (length (now words) ≤ length (now named)) × (min (2 * length (now words)) mostListed ≤ length (now named)) ⌝ }
     ensures { λ r. ⌜ NodeKept (tableOf (now (facts .entry))) (now (words .entry)) incoming kept (now (buf .entry)) (now (front .entry)) (now (buf .exit)) (now (front .exit)) r ⌝ }
 {
     if !incoming.permit {
@@ -221,7 +221,7 @@ fn with_decision(
     named: &mut [u16],
     front: &mut [u32],
 ) -> Sofar
-    requires { ⌜ Bounded sofar × (sofar .arms < 4096) × (incoming .count ≤ 64) × (128 ≤ length (now buf)) × (length (now words) ≤ length (now named)) × (4095 ≤ length (now named)) ⌝ }
+    requires { ⌜ Bounded sofar × (sofar .arms < 4096) × (incoming .count ≤ 64) × (128 ≤ length (now buf)) × (length (now words) ≤ length (now named)) × (min (2 * length (now words)) mostListed ≤ length (now named)) ⌝ }
     ensures { λ r. ⌜ DecisionAdded every (tableOf (now (facts .entry))) (now (words .entry)) sofar incoming (now (buf .entry)) (now (front .entry)) (now (buf .exit)) (now (front .exit)) r ⌝ }
 {
     let kept = keep_node(words, facts, incoming, sofar.kept, buf, named, front);
@@ -248,7 +248,7 @@ fn with_arm(
     named: &mut [u16],
     front: &mut [u32],
 ) -> Sofar
-    requires { ⌜ Bounded sofar × (sofar .arms < 4096) × (arm .decision .count ≤ 64) × (arm .size ≤ tooMany) × (128 ≤ length (now buf)) × (length (now words) ≤ length (now named)) × (4095 ≤ length (now named)) ⌝ }
+    requires { ⌜ Bounded sofar × (sofar .arms < 4096) × (arm .decision .count ≤ 64) × (arm .size ≤ tooMany) × (128 ≤ length (now buf)) × (length (now words) ≤ length (now named)) × (min (2 * length (now words)) mostListed ≤ length (now named)) ⌝ }
     ensures { λ r. ⌜ ArmAdded every (tableOf (now (facts .entry))) (now (words .entry)) sofar arm (now (buf .entry)) (now (front .entry)) (now (buf .exit)) (now (front .exit)) r ⌝ }
 {
     if arm.pending {
@@ -286,7 +286,7 @@ fn with_first_deny(
     named: &mut [u16],
     front: &mut [u32],
 ) -> Sofar
-    requires { ⌜ Bounded sofar × (sofar .arms < 4096) × (64 ≤ length (now buf)) × (length (now words) ≤ length (now named)) × (4095 ≤ length (now named)) ⌝ }
+    requires { ⌜ Bounded sofar × (sofar .arms < 4096) × (64 ≤ length (now buf)) × (length (now words) ≤ length (now named)) × (min (2 * length (now words)) mostListed ≤ length (now named)) ⌝ }
     ensures { λ r. ⌜ NodesEnd every (tableOf (now (facts .entry))) (now (words .entry)) sofar (now (buf .entry)) (now (front .entry)) (now (front .exit)) r ⌝ }
 {
     if every {
@@ -323,7 +323,7 @@ fn end_list(
     front: &mut [u32],
     out: &mut [u32],
 ) -> ReducedPolicy
-    requires { ⌜ Bounded sofar × (sofar .arms < 4096) × (64 ≤ length (now buf)) × (length (now words) ≤ length (now named)) × (4095 ≤ length (now named)) ⌝ }
+    requires { ⌜ Bounded sofar × (sofar .arms < 4096) × (64 ≤ length (now buf)) × (length (now words) ≤ length (now named)) × (min (2 * length (now words)) mostListed ≤ length (now named)) ⌝ }
     ensures { λ r. ⌜ ListEnds every (tableOf (now (facts .entry))) (now (words .entry)) sofar next count (now (buf .entry)) (now (front .entry)) (now (out .entry)) (now (buf .exit)) (now (out .exit)) r ⌝ }
 {
     if !sofar.pending {
@@ -344,7 +344,7 @@ fn as_residual(
     named: &mut [u16],
     out: &mut [u32],
 ) -> usize
-    requires { ⌜ (part .decision .count ≤ 64) × (part .size ≤ tooMany) × (64 ≤ length (now buf)) × (length (now words) ≤ length (now named)) × (4095 ≤ length (now named)) ⌝ }
+    requires { ⌜ (part .decision .count ≤ 64) × (part .size ≤ tooMany) × (64 ≤ length (now buf)) × (length (now words) ≤ length (now named)) × (min (2 * length (now words)) mostListed ≤ length (now named)) ⌝ }
     ensures { λ r. ⌜ ResidualLaid (tableOf (now (facts .entry))) (now (words .entry)) part (now (buf .entry)) (now (out .entry)) (now (out .exit)) r ⌝ }
 {
     if part.pending {
@@ -372,7 +372,7 @@ fn end_or_else(
     named: &mut [u16],
     out: &mut [u32],
 ) -> usize
-    requires { ⌜ (used ≤ tooMany) × (1 ≤ used) × (fallback .decision .count ≤ 64) × (fallback .size ≤ tooMany) × (64 ≤ length (now buf)) × (length (now words) ≤ length (now named)) × (4095 ≤ length (now named)) ⌝ }
+    requires { ⌜ (used ≤ tooMany) × (1 ≤ used) × (fallback .decision .count ≤ 64) × (fallback .size ≤ tooMany) × (64 ≤ length (now buf)) × (length (now words) ≤ length (now named)) × (min (2 * length (now words)) mostListed ≤ length (now named)) ⌝ }
     ensures { λ r. ⌜ OrElsePut (tableOf (now (facts .entry))) (now (words .entry)) used fallback (now (buf .entry)) (now (out .entry)) (now (out .exit)) r ⌝ }
 {
     let from = sizes::tail_from(used, out.len());
@@ -395,7 +395,7 @@ pub fn reduce_policy(
     front: &mut [u32],
     out: &mut [u32],
 ) -> ReducedPolicy
-    requires { ⌜ Room (lent count (now entries) (now seen)) × (depth ≤ 32) × (64 * (depth + 1) ≤ length (now buf)) × (length (now words) ≤ 16384) × (length (now words) ≤ length (now named)) × (4095 ≤ length (now named)) ⌝ }
+    requires { ⌜ Room (lent count (now entries) (now seen)) × (depth ≤ 32) × (64 * (depth + 1) ≤ length (now buf)) × (length (now words) ≤ 16384) × (length (now words) ≤ length (now named)) × (min (2 * length (now words)) mostListed ≤ length (now named)) ⌝ }
     ensures { λ r. ⌜ ReducesP (tableOf (now (facts .entry))) (now (words .entry)) at depth (lent count (now (entries .entry)) (now (seen .entry))) r (lent (r .count) (now (entries .exit)) (now (seen .exit))) (now (buf .exit)) (length (now (front .entry))) (now (out .exit)) ⌝ }
 {
     let none = words.len();
@@ -495,7 +495,7 @@ fn reduce_list(
     front: &mut [u32],
     out: &mut [u32],
 ) -> ReducedPolicy
-    requires { ⌜ Room (lent count (now entries) (now seen)) × (at < length (now words)) × (depth < 32) × (arms < 4096) × (64 * (depth + 2) ≤ length (now buf)) × (length (now words) ≤ 16384) × (length (now words) ≤ length (now named)) × (4095 ≤ length (now named)) ⌝ }
+    requires { ⌜ Room (lent count (now entries) (now seen)) × (at < length (now words)) × (depth < 32) × (arms < 4096) × (64 * (depth + 2) ≤ length (now buf)) × (length (now words) ≤ 16384) × (length (now words) ≤ length (now named)) × (min (2 * length (now words)) mostListed ≤ length (now named)) ⌝ }
     ensures { λ r. ⌜ ReducesBy (listHead every arms) (tableOf (now (facts .entry))) (now (words .entry)) at depth (lent count (now (entries .entry)) (now (seen .entry))) r (lent (r .count) (now (entries .exit)) (now (seen .exit))) (now (buf .exit)) (length (now (front .entry))) (now (out .exit)) ⌝ }
 {
     let mut sofar = Sofar {
@@ -566,7 +566,7 @@ fn reduce_or_else(
     front: &mut [u32],
     out: &mut [u32],
 ) -> ReducedPolicy
-    requires { ⌜ Room (lent count (now entries) (now seen)) × (at < length (now words)) × (depth < 32) × (64 * (depth + 1) ≤ length (now buf)) × (length (now words) ≤ 16384) × (length (now words) ≤ length (now named)) × (4095 ≤ length (now named)) ⌝ }
+    requires { ⌜ Room (lent count (now entries) (now seen)) × (at < length (now words)) × (depth < 32) × (64 * (depth + 1) ≤ length (now buf)) × (length (now words) ≤ 16384) × (length (now words) ≤ length (now named)) × (min (2 * length (now words)) mostListed ≤ length (now named)) ⌝ }
     ensures { λ r. ⌜ ReducesBy OrElse (tableOf (now (facts .entry))) (now (words .entry)) at depth (lent count (now (entries .entry)) (now (seen .entry))) r (lent (r .count) (now (entries .exit)) (now (seen .exit))) (now (buf .exit)) (length (now (front .entry))) (now (out .exit)) ⌝ }
 {
     let from = sizes::tail_from(1, out.len());

@@ -1,1 +1,3 @@
 pub mod Putting
+pub mod Reducing
+pub mod Calling

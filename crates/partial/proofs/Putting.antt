@@ -85,9 +85,11 @@ module _ {entries scratch out : List ℕ} {count size : ℕ} where
 
   pub put-no-room : 1 + (count + 1) / 2 + size ≤ 16384 → length out < 1 + (count + 1) / 2 + size → PutPending entries count scratch size out out (Refused 11)
   put-no-room few h =
-      record { put = λ q l laid there e m.
-        let light : weight q ≤ 16384 = omega (arith, laid .size-is) in
-        refused-by (length out) (recordOf q l) out (short-room q l (length out) (omega (arith, length-record q l, weight-fits q light .0, laid .size-is))) }
+      record {
+        put = λ q l laid there e m.
+            let light : weight q ≤ 16384 = omega (arith, laid .size-is) in
+            refused-by (length out) (recordOf q l) out (short-room q l (length out) (omega (arith, length-record q l, weight-fits q light .0, laid .size-is)));
+      }
 
   pub put-not-laid : 1 + (count + 1) / 2 + size ≤ 16384 → length scratch < size → PutPending entries count scratch size out out (Refused 11)
   put-not-laid few h = record { put = λ q l laid there e m. let z : ⊥ = omega (arith, there (omega arith)) in absurd z }
@@ -96,15 +98,17 @@ module _ {entries scratch out : List ℕ} {count size : ℕ} where
       packing.Written (frontWords false (take count entries)) out mid front → rest ≡ size → packing.Written (take size (drop 0 scratch)) (take (length mid - front) (drop front mid)) tail rest →
       PutPending entries count scratch size out (take front mid ++ (tail ++ drop (length mid - front) (drop front mid))) (Written (front + rest))
   put-written {mid} {tail} {front} {rest} few room fits-scratch p z w =
-      record { put = λ q l laid there e m.
-        let light : weight q ≤ 16384 = omega (arith, laid .size-is) in
-        let heard = weight-fits q light in
-        let tree : packing.Written (encode (productSets .number) q) (take (length mid - front) (drop front mid)) tail rest = written-same w (laid .front (omega arith) fits-scratch) in
-        let whole = written-same (written-lent p tree) (record-words (recordOf q l) false (take count entries) refl m) in
-        let n = length (recordWords q l) in
-        let long : n ≡ 1 + (count + 1) / 2 + size = omega (arith, length-record q l, heard .0, laid .size-is) in
-        let fit : fits productSets (length out) (recordOf q l) ≡ true =
-        and-is (leb n (length out) && recordLength (recordWords q l)) (short q)
-        (and-is (leb n (length out)) (recordLength (recordWords q l)) (le-leb n (length out) (omega arith))
-        (and-is (leb 1 n) (leb n 16384) (le-leb 1 n (omega arith)) (le-leb n 16384 (omega arith)))) (heard .1) in
-        rw fit (record { answer-is = ap Written (whole .number); output-is = whole .output ∙ ap (λ i. recordWords q l ++ drop i out) (whole .number) }) }
+      record {
+        put = λ q l laid there e m.
+            let light : weight q ≤ 16384 = omega (arith, laid .size-is) in
+            let heard = weight-fits q light in
+            let tree : packing.Written (encode (productSets .number) q) (take (length mid - front) (drop front mid)) tail rest = written-same w (laid .front (omega arith) fits-scratch) in
+            let whole = written-same (written-lent p tree) (record-words (recordOf q l) false (take count entries) refl m) in
+            let n = length (recordWords q l) in
+            let long : n ≡ 1 + (count + 1) / 2 + size = omega (arith, length-record q l, heard .0, laid .size-is) in
+            let fit : fits productSets (length out) (recordOf q l) ≡ true =
+            and-is (leb n (length out) && recordLength (recordWords q l)) (short q)
+            (and-is (leb n (length out)) (recordLength (recordWords q l)) (le-leb n (length out) (omega arith))
+            (and-is (leb 1 n) (leb n 16384) (le-leb 1 n (omega arith)) (le-leb n 16384 (omega arith)))) (heard .1) in
+            rw fit (record { answer-is = ap Written (whole .number); output-is = whole .output ∙ ap (λ i. recordWords q l ++ drop i out) (whole .number) });
+      }

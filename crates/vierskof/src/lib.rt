@@ -6,7 +6,7 @@ use required::Required;
 ghost use Rattle.model.specs.Outcome.{productSets};
 ghost use Rattle.model.specs.Required.{requiredFacts, requiredResidualFacts};
 ghost use Rattle.model.specs.Required.{isPermitConstant, isDenyConstant, carriesObligation};
-ghost use Rattle.model.specs.Calls.{evaluate, completeResidual};
+ghost use Rattle.model.specs.Calls.{evaluate, partialEvaluate, narrowResidual, completeResidual};
 ghost use mathlib.Core.Path.{_≡_};
 ghost use lib.ListN.{length};
 ghost use Rattle.calls.specs.Answers.{numberOf as Calls·numberOf, writtenOf};
@@ -41,6 +41,22 @@ pub extern "C" fn vierskof_evaluate(sheet: &[u32], facts: &[u8], out: &mut [u32]
     ensures { λ r. ⌜ Writes (evaluate productSets (now (sheet .entry)) (now (facts .entry)) (length (now (out .entry)))) (now (out .entry)) (now (out .exit)) r ⌝ }
 {
     written(calls::evaluate(sheet, facts, out))
+}
+
+// Reduces a sheet with a table that may leave facts open, and writes the record.
+#[no_mangle]
+pub extern "C" fn vierskof_partial_evaluate(sheet: &[u32], facts: &[u8], out: &mut [u32]) -> u64
+    ensures { λ r. ⌜ Writes (partialEvaluate productSets (now (sheet .entry)) (now (facts .entry)) (length (now (out .entry)))) (now (out .entry)) (now (out .exit)) r ⌝ }
+{
+    written(partial::partial_evaluate(sheet, facts, out))
+}
+
+// Narrows a record by a table of further facts, and writes the record that results.
+#[no_mangle]
+pub extern "C" fn vierskof_narrow_residual(residual: &[u32], facts: &[u8], out: &mut [u32]) -> u64
+    ensures { λ r. ⌜ Writes (narrowResidual productSets (now (residual .entry)) (now (facts .entry)) (length (now (out .entry)))) (now (out .entry)) (now (out .exit)) r ⌝ }
+{
+    written(partial::narrow_residual(residual, facts, out))
 }
 
 // Completes a record with a known table, and writes the record that results.

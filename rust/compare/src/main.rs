@@ -150,12 +150,12 @@ fn main() -> io::Result<()> {
 /// Cases are drawn in batches, so that a long run holds few of them at a time.
 #[cfg(feature = "proved")]
 fn proved(sample: &Sample) -> io::Result<()> {
-    use compare::proved::{CALLS, agrees};
+    use compare::proved::agrees;
 
     const BATCH: usize = 20_000;
     for (batch, first) in (0..sample.count).step_by(BATCH).enumerate() {
         let count = BATCH.min(sample.count - first);
-        for case in cases::draw(sample.seed + batch as u64, count, &CALLS) {
+        for case in cases::draw(sample.seed + batch as u64, count, &Call::ALL) {
             if !agrees(&case) {
                 let line = answers::line(&case, &case.answer());
                 return Err(io::Error::other(format!(

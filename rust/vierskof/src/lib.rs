@@ -3,10 +3,36 @@
 //! A call answers its value, or the number of document 01's refusal; a refused call leaves its output as it was.
 
 mod c {
-    // Declared as the exported functions are: a slice passes as a pointer and an element count.
+    // A slice passes as a pointer and an element count.
+    pub type Write = unsafe extern "C" fn(
+        words: *const u32,
+        count: usize,
+        facts: *const u8,
+        bytes: usize,
+        out: *mut u32,
+        room: usize,
+    ) -> u64;
+
+    // Declared as the exported functions are.
     unsafe extern "C" {
         pub fn vierskof_evaluate(
             sheet: *const u32,
+            words: usize,
+            facts: *const u8,
+            bytes: usize,
+            out: *mut u32,
+            room: usize,
+        ) -> u64;
+        pub fn vierskof_partial_evaluate(
+            sheet: *const u32,
+            words: usize,
+            facts: *const u8,
+            bytes: usize,
+            out: *mut u32,
+            room: usize,
+        ) -> u64;
+        pub fn vierskof_narrow_residual(
+            record: *const u32,
             words: usize,
             facts: *const u8,
             bytes: usize,
@@ -44,27 +70,36 @@ pub type FactSet = [u64; 16];
 
 /// Decides a sheet with a known table, and answers how many words of `out` the record takes.
 pub fn evaluate(sheet: &[u32], facts: &[u8], out: &mut [u32]) -> Result<usize, u32> {
-    // SAFETY: each pointer comes from a slice with its own length, and the proved function reads and writes no further.
-    let returned = unsafe {
-        c::vierskof_evaluate(
-            sheet.as_ptr(),
-            sheet.len(),
-            facts.as_ptr(),
-            facts.len(),
-            out.as_mut_ptr(),
-            out.len(),
-        )
-    };
-    value(returned).map(|words| words as usize)
+    writes(c::vierskof_evaluate, sheet, facts, out)
+}
+
+/// Reduces a sheet with a table that may leave facts open, and answers how many words of `out` the record takes.
+pub fn partial_evaluate(sheet: &[u32], facts: &[u8], out: &mut [u32]) -> Result<usize, u32> {
+    writes(c::vierskof_partial_evaluate, sheet, facts, out)
+}
+
+/// Narrows a record by a table of further facts, and answers how many words of `out` the resulting record takes.
+pub fn narrow_residual(record: &[u32], facts: &[u8], out: &mut [u32]) -> Result<usize, u32> {
+    writes(c::vierskof_narrow_residual, record, facts, out)
 }
 
 /// Completes a record with a known table, and answers how many words of `out` the resulting record takes.
 pub fn complete_residual(record: &[u32], facts: &[u8], out: &mut [u32]) -> Result<usize, u32> {
-    // SAFETY: as above.
+    writes(c::vierskof_complete_residual, record, facts, out)
+}
+
+/// A call that writes a record.
+fn writes(
+    call: c::Write,
+    words: &[u32],
+    facts: &[u8],
+    out: &mut [u32],
+) -> Result<usize, u32> {
+    // SAFETY: each pointer comes from a slice with its own length, and the proved function reads and writes no further.
     let returned = unsafe {
-        c::vierskof_complete_residual(
-            record.as_ptr(),
-            record.len(),
+        call(
+            words.as_ptr(),
+            words.len(),
             facts.as_ptr(),
             facts.len(),
             out.as_mut_ptr(),

@@ -3,11 +3,16 @@
 use std::thread;
 
 use compare::answers;
-use compare::case::Case;
+use compare::case::{Call, Case};
 use compare::generate::cases::draw;
+use compare::generate::chains::{Chain, room};
+use compare::generate::grow::{Alphabet, Grower};
 use compare::generate::limits;
 use compare::generate::rng::Rng;
-use compare::proved::{CALLS, agrees};
+use compare::proved::agrees;
+use compare::words::write;
+
+use super::stages::{decided, settled};
 
 const SEED: u64 = 20_261_115;
 
@@ -25,18 +30,70 @@ fn all_agree(cases: impl IntoIterator<Item = Case>) {
     }
 }
 
+/// A proved call, and the words that it writes.
+fn written(
+    call: fn(&[u32], &[u8], &mut [u32]) -> Result<usize, u32>,
+    words: &[u32],
+    table: &[u8],
+    room: usize,
+) -> Result<Vec<u32>, u32> {
+    let mut out = vec![0x5A5A_5A5A; room];
+    let count = call(words, table, &mut out)?;
+    out.truncate(count);
+    Ok(out)
+}
+
+/// The whole road on the proved calls, refused narrowings on the way: settled facts are gone, and the end is one sitting's effect and products.
+#[track_caller]
+fn ends_as_one_sitting(rng: &mut Rng, chain: &Chain) {
+    let room = room(chain.sheet.len());
+    let mut record = written(vierskof::partial_evaluate, &chain.sheet, &chain.reduction, room)
+        .expect("room for the reduction");
+    let mut accepted: Vec<&[u8]> = vec![&chain.reduction];
+    for table in &chain.narrowings {
+        let room = if rng.percent(30) { rng.below(9) } else { room };
+        if let Ok(narrowed) = written(vierskof::narrow_residual, &record, table, room) {
+            record = narrowed;
+            accepted.push(table);
+        }
+        assert!(settled(&record, &accepted), "seed {SEED}: {chain:X?}");
+    }
+    let completed = written(vierskof::complete_residual, &record, &chain.known, room);
+    let sitting = written(vierskof::evaluate, &chain.sheet, &chain.known, room);
+    assert_eq!(
+        decided(&completed.expect("room for the completion")),
+        decided(&sitting.expect("room for one sitting")),
+        "seed {SEED}: {chain:X?}"
+    );
+}
+
+#[test]
+fn chains_end_as_one_sitting() {
+    let mut rng = Rng::new(SEED);
+    for _ in 0..20_000 {
+        let alphabet = Alphabet::draw(&mut rng);
+        let words = rng.between(1, 100);
+        let chain = Chain::draw(&mut rng, &alphabet, words);
+        ends_as_one_sitting(&mut rng, &chain);
+    }
+    for _ in 0..50 {
+        let alphabet = Alphabet::wide(&mut rng);
+        let words = rng.between(500, 4_096);
+        let tree = Grower::of_sheets(&mut rng, &alphabet).exactly(words);
+        let chain = Chain::over(&mut rng, write::tree(&tree));
+        ends_as_one_sitting(&mut rng, &chain);
+    }
+}
+
 #[test]
 fn generated_and_damaged_cases_agree() {
-    all_agree(draw(SEED, 40_000, &CALLS));
+    all_agree(draw(SEED, 40_000, &Call::ALL));
 }
 
 /// 4,095 arms, 32 levels, 4,096 words and their neighbours, in a thread with 256 KiB of stack.
 #[test]
 fn the_limits_agree_on_a_small_stack() {
-    let cases: Vec<_> = limits::cases(&mut Rng::new(SEED))
-        .into_iter()
-        .filter(|case| CALLS.contains(&case.call))
-        .collect();
+    let cases = limits::cases(&mut Rng::new(SEED));
     assert!(cases.len() > 100);
     // The original needs more stack than that, so its answers are compared outside.
     let (words, tables): (Vec<_>, Vec<_>) = cases
@@ -49,6 +106,8 @@ fn the_limits_agree_on_a_small_stack() {
         let mut set = [0; 16];
         for (words, table) in words.iter().zip(&tables) {
             let _ = vierskof::evaluate(words, table, &mut out);
+            let _ = vierskof::partial_evaluate(words, table, &mut out);
+            let _ = vierskof::narrow_residual(words, table, &mut out);
             let _ = vierskof::complete_residual(words, table, &mut out);
             let _ = vierskof::required_facts(words, &mut set);
             let _ = vierskof::required_residual_facts(words, &mut set);

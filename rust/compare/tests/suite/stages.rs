@@ -15,7 +15,7 @@ use compare::words::{read, write};
 use gatekeep::Presence;
 
 /// The effect and products of a Resolved record.
-fn decided(record: &[u32]) -> Option<Products> {
+pub fn decided(record: &[u32]) -> Option<Products> {
     match read::record(record).expect("a record") {
         Record::Resolved { decided, .. } => decided.products(),
         Record::Pending { .. } => panic!("{record:X?} is pending"),
@@ -23,7 +23,7 @@ fn decided(record: &[u32]) -> Option<Products> {
 }
 
 /// No condition of the residual names a fact that one of the tables has settled.
-fn settled(record: &[u32], tables: &[&[u8]]) -> bool {
+pub fn settled(record: &[u32], tables: &[&[u8]]) -> bool {
     let named = required_residual_facts(record).expect("a record");
     let unknown = |fact| {
         tables.iter().all(|table| {

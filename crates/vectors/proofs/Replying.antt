@@ -1,13 +1,17 @@
 -- What a proved call gives is the reply to its number. Assumes nothing.
-use mathlib.Core.Path.{_≡_, _∙_, ap, subst⁻¹}
-use mathlib.Core.List.{List}
-use Prim.Native.Nat.{ℕ}
-use borrow.Author.Tests.{ne-eqb}
+use mathlib.Core.Path.{_≡_, refl, _∙_, ap, subst⁻¹}
+use mathlib.Core.List.{List, [], _∷_}
+use Prim.Native.Nat.{ℕ, zero, suc, _≤_}
+use native.Mathlib.Omega.{arith}
+use lib.ListN.{length, getD}
+use Rattle.model.specs.Required.{oneBit, Asked}
 use Rattle.model.specs.Calls as model
 use Rattle.calls.specs.declared.Answer.{Answer}
 use Rattle.calls.specs.Answers.{Answered, numberOf, writtenOf, number-of, written-of}
+use Rattle.questions.specs.declared.Told.{Told}
+use Rattle.questions.specs.Answers.{asked}
 use Rattle.vectors.specs.declared.Reply.{Reply}
-use Rattle.vectors.specs.Replies.{Replied, writing, nothing, replyTo}
+use Rattle.vectors.specs.Replies.{Replies, Replied, writing, asking, nothing, replies, replyTo}
 
 -- A call that writes.
 pub written-reply : {m : model.Answer} {before after : List ℕ} {a : Answer} {r : Reply} →
@@ -19,7 +23,16 @@ pub by-number : (call k : ℕ) (words table before : List ℕ) {after : List ℕ
     call ≡ k → Replied (replyTo k words table before) after r → Replied (replyTo call words table before) after r
 by-number call k words table before {after} {r} e s = subst⁻¹ (λ n. Replied (replyTo n words table before) after r) e s
 
--- A call that is not proved yet.
-pub none-replied : (call : ℕ) (words table before : List ℕ) → (call ≡ 0 → ⊥) → (call ≡ 4 → ⊥) → (call ≡ 5 → ⊥) → nothing before ≡ replyTo call words table before
+-- A question, whose output stays as it was.
+pub told-reply : {m : Asked} {out : List ℕ} {r : Reply} (a : Told) → asked a ≡ m → r .number ≡ asked a .number → r .value ≡ oneBit (asked a .yes) → Replied (asking m out) out r
+told-reply a e n v = record { number-is = n ∙ ap (λ x. x .number) e; value-is = v ∙ ap (λ x. oneBit (x .yes)) e; output-is = refl }
+
+-- A number of no call.
+past-end : (xs : List Replies) (i : ℕ) (none : Replies) → length xs ≤ i → none ≡ getD xs i none
+past-end [] i none h = refl
+past-end (x ∷ xs) zero none h = absurd (omega arith)
+past-end (x ∷ xs) (suc i) none h = past-end xs i none (omega arith)
+
+pub none-replied : (call : ℕ) (words table before : List ℕ) → 9 ≤ call → nothing before ≡ replyTo call words table before
 unfolding replyTo
-none-replied call words table before n₀ n₄ n₅ = rw (ne-eqb call 0 n₀, ne-eqb call 4 n₄, ne-eqb call 5 n₅)
+none-replied call words table before past = past-end (replies words table before) call (nothing before) past

@@ -1,13 +1,11 @@
 -- What the calls return and leave in the output, by the model.
 use mathlib.Core.Path.{_≡_}
-use mathlib.Core.Bool.{cond}
-use mathlib.Core.List.{List}
+use mathlib.Core.List.{List, [], _∷_}
 use Prim.Native.Nat.{ℕ}
-use lib.Dec.{eqb}
-use lib.ListN.{length}
+use lib.ListN.{length, getD}
 use Rattle.model.specs.Outcome.{productSets}
-use Rattle.model.specs.Calls.{Answer, numberOf, writtenOf, afterwards, evaluate}
-use Rattle.model.specs.Required.{Required, requiredFacts, requiredResidualFacts}
+use Rattle.model.specs.Calls.{Answer, numberOf, writtenOf, afterwards, evaluate, partialEvaluate, narrowResidual, completeResidual}
+use Rattle.model.specs.Required.{oneBit, Required, requiredFacts, requiredResidualFacts, Asked, isPermitConstant, isDenyConstant, carriesObligation}
 use Rattle.vectors.specs.declared.Reply.{Reply}
 use Rattle.vectors.specs.Words.{setWords}
 
@@ -23,15 +21,28 @@ writing a before = record { number = numberOf a; value = writtenOf a; output = a
 abbrev pub requiring : Required → List ℕ → Replies
 requiring m before = record { number = m .number; value = m .count; output = setWords (m .set) before }
 
+abbrev pub asking : Asked → List ℕ → Replies
+asking a before = record { number = a .number; value = oneBit (a .yes); output = before }
+
 abbrev pub nothing : List ℕ → Replies
 nothing before = record { number = 0; value = 0; output = before }
 
 -- The calls, by their number in a stored answer.
+abbrev pub replies : List ℕ → List ℕ → List ℕ → List Replies
+replies words table before =
+    writing (evaluate productSets words table (length before)) before
+    ∷ writing (partialEvaluate productSets words table (length before)) before
+    ∷ writing (narrowResidual productSets words table (length before)) before
+    ∷ writing (completeResidual productSets words table (length before)) before
+    ∷ requiring (requiredFacts productSets words) before
+    ∷ requiring (requiredResidualFacts productSets words) before
+    ∷ asking (isPermitConstant productSets words) before
+    ∷ asking (isDenyConstant productSets words) before
+    ∷ asking (carriesObligation productSets words) before
+    ∷ []
+
 unfoldable pub replyTo : ℕ → List ℕ → List ℕ → List ℕ → Replies
-replyTo call words table before =
-    cond (eqb call 0) (writing (evaluate productSets words table (length before)) before)
-    (cond (eqb call 4) (requiring (requiredFacts productSets words) before)
-    (cond (eqb call 5) (requiring (requiredResidualFacts productSets words) before) (nothing before)))
+replyTo call words table before = getD (replies words table before) call (nothing before)
 
 pub record Replied (m : Replies) (after : List ℕ) (r : Reply) : Type 0 where
   pub number-is : r .number ≡ m .number

@@ -2,15 +2,17 @@
 // Standard input: a line that says how they were made, then the stored answers. Of each seven 16-bit numbers (call, room, table bytes, words, number,
 // value, answer words), the table, the words, and the words that stand first in the output afterwards; all most significant byte first.
 use calls::Answer;
+use questions::Told;
 use required::Required;
 ghost use mathlib.Core.Path.{_≡_};
 ghost use mathlib.Core.List.{_++_};
 ghost use Prim.Native.Nat.{_+_, _*_, _^_, _<_, _≤_};
 ghost use lib.ListN.{length, drop};
 ghost use Rattle.model.specs.Outcome.{productSets};
-ghost use Rattle.model.specs.Required.{requiredFacts, requiredResidualFacts};
+ghost use Rattle.model.specs.Required.{oneBit, requiredFacts, requiredResidualFacts};
 ghost use Rattle.calls.specs.Answers.{numberOf as Calls·numberOf, writtenOf};
 ghost use Rattle.required.specs.Answers.{numberOf, countOf};
+ghost use Rattle.questions.specs.Answers.{asked};
 ghost use Rattle.listing.specs.Inputs.{wordsIn};
 ghost use Rattle.vectors.specs.Words.{sameWords, marks, halfOf, setWords};
 ghost use Rattle.vectors.specs.Replies.{Replied, replyTo, requiring};
@@ -119,6 +121,21 @@ fn counted(facts: Required) -> Reply
     }
 }
 
+fn said(told: Told) -> Reply
+    ensures { λ r. ⌜ (r .number ≡ asked told .number) × (r .value ≡ oneBit (asked told .yes)) ⌝ }
+{
+    match told {
+        Told::Says(yes) => Reply {
+            number: 0,
+            value: if yes { 1 } else { 0 },
+        },
+        Told::Refused(number) => Reply {
+            number: number as usize,
+            value: 0,
+        },
+    }
+}
+
 fn sheet_facts(sheet: &[u32], out: &mut [u32]) -> Reply
     ensures { λ r. ⌜ Replied (requiring (requiredFacts productSets (now (sheet .entry))) (now (out .entry))) (now (out .exit)) r ⌝ }
 {
@@ -137,18 +154,34 @@ fn record_facts(words: &[u32], out: &mut [u32]) -> Reply
     reply
 }
 
-// What a proved call, by its number, returns and leaves in the output. A call that is not proved yet does nothing.
+// What a call that writes no record, by its number from 4 on, returns and leaves in the output. A number of no call does nothing.
+fn told_by(call: usize, words: &[u32], table: &[u8], out: &mut [u32]) -> Reply
+    requires { ⌜ 4 ≤ call ⌝ }
+    ensures { λ r. ⌜ Replied (replyTo call (now (words .entry)) (now (table .entry)) (now (out .entry))) (now (out .exit)) r ⌝ }
+{
+    match call {
+        4 => sheet_facts(words, out),
+        5 => record_facts(words, out),
+        6 => said(questions::is_permit_constant(words)),
+        7 => said(questions::is_deny_constant(words)),
+        8 => said(questions::carries_obligation(words)),
+        _ => Reply {
+            number: 0,
+            value: 0,
+        },
+    }
+}
+
+// What a proved call, by its number, returns and leaves in the output.
 fn answer_to(call: usize, words: &[u32], table: &[u8], out: &mut [u32]) -> Reply
     ensures { λ r. ⌜ Replied (replyTo call (now (words .entry)) (now (table .entry)) (now (out .entry))) (now (out .exit)) r ⌝ }
 {
     match call {
         0 => written(calls::evaluate(words, table, out)),
-        4 => sheet_facts(words, out),
-        5 => record_facts(words, out),
-        _ => Reply {
-            number: 0,
-            value: 0,
-        },
+        1 => written(partial::partial_evaluate(words, table, out)),
+        2 => written(partial::narrow_residual(words, table, out)),
+        3 => written(completion::complete_residual(words, table, out)),
+        _ => told_by(call, words, table, out),
     }
 }
 
@@ -341,23 +374,27 @@ fn print(name: &[u8], tally: Tally) {
     io::write_all(1, b"\n");
 }
 
-// One line for each call that is replayed.
-fn summary(cases: &[u8]) {
+// The line of a call.
+fn replay(cases: &[u8], call: usize, name: &[u8]) {
     let mut words = [0u32; 65536];
     let mut expected = [0u32; 65536];
     let mut out = [0u32; 65536];
     print(
-        b"evaluate",
-        tally_of(cases, 0, &mut words, &mut expected, &mut out),
+        name,
+        tally_of(cases, call, &mut words, &mut expected, &mut out),
     );
-    print(
-        b"required_facts",
-        tally_of(cases, 4, &mut words, &mut expected, &mut out),
-    );
-    print(
-        b"required_residual_facts",
-        tally_of(cases, 5, &mut words, &mut expected, &mut out),
-    );
+}
+
+// One line for each call that is replayed.
+fn summary(cases: &[u8]) {
+    replay(cases, 0, b"evaluate");
+    replay(cases, 1, b"partial_evaluate");
+    replay(cases, 3, b"complete_residual");
+    replay(cases, 4, b"required_facts");
+    replay(cases, 5, b"required_residual_facts");
+    replay(cases, 6, b"is_permit_constant");
+    replay(cases, 7, b"is_deny_constant");
+    replay(cases, 8, b"carries_obligation");
 }
 
 // The stored answers begin after the first line.

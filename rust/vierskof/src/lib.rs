@@ -89,12 +89,7 @@ pub fn complete_residual(record: &[u32], facts: &[u8], out: &mut [u32]) -> Resul
 }
 
 /// A call that writes a record.
-fn writes(
-    call: c::Write,
-    words: &[u32],
-    facts: &[u8],
-    out: &mut [u32],
-) -> Result<usize, u32> {
+fn writes(call: c::Write, words: &[u32], facts: &[u8], out: &mut [u32]) -> Result<usize, u32> {
     // SAFETY: each pointer comes from a slice with its own length, and the proved function reads and writes no further.
     let returned = unsafe {
         call(

@@ -47,8 +47,13 @@ fn written(
 #[track_caller]
 fn ends_as_one_sitting(rng: &mut Rng, chain: &Chain) {
     let room = room(chain.sheet.len());
-    let mut record = written(vierskof::partial_evaluate, &chain.sheet, &chain.reduction, room)
-        .expect("room for the reduction");
+    let mut record = written(
+        vierskof::partial_evaluate,
+        &chain.sheet,
+        &chain.reduction,
+        room,
+    )
+    .expect("room for the reduction");
     let mut accepted: Vec<&[u8]> = vec![&chain.reduction];
     for table in &chain.narrowings {
         let room = if rng.percent(30) { rng.below(9) } else { room };

@@ -123,7 +123,7 @@ fn load_list(node: &[u32], count: usize, buf: &mut [u8])
 }
 
 // Writes the obligations of the node at `at` to the front of the buffer, and returns how many there are.
-pub fn load_obligations(words: &[u32], at: usize, buf: &mut [u8]) -> usize
+fn load_obligations(words: &[u32], at: usize, buf: &mut [u8]) -> usize
     requires { ⌜ 64 ≤ length (now buf) ⌝ }
     ensures { λ r. ⌜ Loaded (now (words .entry)) at (now (buf .entry)) (now (buf .exit)) r ⌝ }
 {
@@ -166,7 +166,7 @@ fn insert(buf: &mut [u8], count: usize, obligation: u8) -> usize
 }
 
 // Appends to the first `count` bytes those of the `more` bytes from 64 on that are not held, one by one, and returns the new count.
-pub fn union_obligations(buf: &mut [u8], count: usize, more: usize) -> usize
+fn union_obligations(buf: &mut [u8], count: usize, more: usize) -> usize
     requires { ⌜ (count ≤ 64) × (more ≤ 64) × (128 ≤ length (now buf)) ⌝ }
     ensures { λ r. ⌜ United count more (now (buf .entry)) (now (buf .exit)) r ⌝ }
 {

@@ -90,12 +90,3 @@ pub fn unpack_entry(words: &[u32], at: usize, index: usize) -> u16
     let word = words[at + index / 2];
     ((word >> (16 - index % 2 * 16)) % 65536) as u16
 }
-
-// Field number `index` of the list of obligations that begins at `at`.
-pub fn unpack_obligation(words: &[u32], at: usize, index: usize) -> u8
-    requires { ⌜ at + index / 4 < length (now words) ⌝ }
-    ensures { λ r. ⌜ r ≡ fieldAt obligationBits (drop at (now (words .entry))) index ⌝ }
-{
-    let word = words[at + index / 4];
-    ((word >> (24 - index % 4 * 8)) % 256) as u8
-}

@@ -53,23 +53,6 @@ reason-in high l f = let e : (high * 65536 + marked l) % 65536 ≡ marked l = om
 
 -- ---- nodes and records
 
--- A node whose obligations were copied from words that hold them.
-pub permit-of-node : (outcome : ℕ) (label : Mark) (os fs rest words : List ℕ) (node : ℕ) → pack obligationBits os ++ rest ≡ drop (node + 2) words →
-    permitWords outcome (length os) label (take (wordsFor 4 (length os)) (drop (node + 2) words)) fs ≡ decisionWords (permitOf outcome label os fs)
-permit-of-node outcome label os fs rest words node e =
-    ap (λ l. permitWords outcome (length os) label l fs)
-    (ap (take (wordsFor 4 (length os))) (sym e) ∙ take-at (pack obligationBits os) rest (wordsFor 4 (length os)) (length-pack obligationBits os))
-
--- Where the obligations of a Grant and of a PermitWithTrace stand.
-module _ (words vs : List ℕ) (node : ℕ) where
-  pub grant-obligations : (g : Grant ℕ) (c : Condition) → encode (productSets .number) (grant g c) ++ vs ≡ drop node words →
-      pack obligationBits (g .obligations) ++ (encodeC c ++ vs) ≡ drop (node + 2) words
-  grant-obligations g c e = sym (append-assoc (pack obligationBits (g .obligations)) (encodeC c) vs) ∙ ap (drop 2) e ∙ drop-drop 2 node words
-
-  pub permit-obligations : (p : Permit ℕ) → decisionWords (permits p) ++ vs ≡ drop node words →
-      pack obligationBits (p .obligations) ++ (pack entryBits (p .facts) ++ vs) ≡ drop (node + 2) words
-  permit-obligations p e = sym (append-assoc (pack obligationBits (p .obligations)) (pack entryBits (p .facts)) vs) ∙ ap (drop 2) e ∙ drop-drop 2 node words
-
 -- A record is its front and then its tree.
 pub record-words : (r : Record ℕ) (resolved : Bool) (es : List ℕ) → leadKind (productSets .number) (r .body) ≡ leadOf resolved → es ≡ map entryField (r .log) →
     frontWords resolved es ++ encode (productSets .number) (tree r) ≡ encodeR (productSets .number) r

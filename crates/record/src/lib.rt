@@ -99,25 +99,6 @@ pub fn write_permit_with_trace(
     listed + packing::pack_entries(facts, named, &mut out[listed..])
 }
 
-// PermitWithTrace, with the obligations of the node at `node`, a Grant or a PermitWithTrace that has `held` of them: their words are copied.
-pub fn write_permit_with_obligations_of(
-    words: &[u32],
-    node: usize,
-    held: usize,
-    outcome: u16,
-    label: Mark,
-    facts: &[u16],
-    named: usize,
-    out: &mut [u32],
-) -> usize
-    requires { ⌜ (node + 2 + wordsFor 4 held ≤ length (now words)) × (held < 2 ^ 7) × (named ≤ length (now facts)) × (named < 2 ^ (4 + countBits)) × (2 + wordsFor 4 held + wordsFor 2 named ≤ length (now out)) ⌝ }
-    ensures { λ r. ⌜ (r ≡ 2 + wordsFor 4 held + wordsFor 2 named) × Written (permitWords outcome held label (take (wordsFor 4 held) (drop (node + 2) (now (words .entry)))) (take named (now (facts .entry)))) (now (out .entry)) (now (out .exit)) r ⌝ }
-{
-    let front = write_permit_front(outcome, held, label, named, out);
-    let listed = front + packing::copy_words(words, node + 2, (held + 3) / 4, &mut out[front..]);
-    listed + packing::pack_entries(facts, named, &mut out[listed..])
-}
-
 // The first three words of a DenyWithTrace.
 fn write_deny_front(
     denied: Denied,
@@ -154,7 +135,7 @@ pub fn write_deny_with_trace(
 }
 
 // A record's lead, with `count` consulted entries to come.
-pub fn write_lead(resolved: bool, count: usize, out: &mut [u32]) -> usize
+fn write_lead(resolved: bool, count: usize, out: &mut [u32]) -> usize
     requires { ⌜ (count < 2 ^ restBits) × (1 ≤ length (now out)) ⌝ }
     ensures { λ r. ⌜ (r ≡ 1) × Written (word (leadOf resolved) count ∷ []) (now (out .entry)) (now (out .exit)) r ⌝ }
 {

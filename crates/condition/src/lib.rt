@@ -1,5 +1,6 @@
 // Conditions, after gatekeep's evaluate.rs: whether a condition is satisfied, with the facts that were consulted listed on the way.
 // The list is lent: `entries`, of which the first `count` are in use, and `seen`, a flag for each fact, 1 where it is listed.
+use consulted::Consulted;
 use facts::Presence;
 use policy_model::ConditionHead;
 ghost use mathlib.Core.Path.{_≡_};
@@ -52,12 +53,17 @@ pub fn record(
     ensures { λ r. ⌜ Recorded fact (presenceOf presence) (lent count (now (entries .entry)) (now (seen .entry))) (lent r (now (entries .exit)) (now (seen .exit))) ⌝ }
 {
     let at = fact as usize;
-    if seen[at] != 0 {
+    let before = Consulted {
+        last: 0,
+        length: count,
+    };
+    let list = consulted::noted(before, seen[at], entry(fact, presence));
+    if list.length == count {
         return count;
     }
     seen[at] = 1;
-    entries[count] = entry(fact, presence);
-    count + 1
+    entries[count] = list.last;
+    list.length
 }
 
 // How many arms a condition has, by its first word.

@@ -1,5 +1,5 @@
 -- What the first word of a grant says. Document 01, "8 Grant: kind, shape (1), obligation count (7), zero (4), outcome (16)". Past the end it reads 0.
-use Prim.Native.Nat.{ℕ, _+_, _/_, _%_, _^_}
+use Prim.Native.Nat.{ℕ, _+_, _%_, _^_}
 use mathlib.Core.List.{List}
 use lib.ListN.{getD}
 use Rattle.model.specs.Fields.{bits, wordsFor}

@@ -56,13 +56,13 @@ impl<'a> GrantRef<'a> {
 }
 
 pub fn outcome_in(words: &[u32], at: usize) -> u32
-    ensures { λ r. ⌜ r ≡ outcomeAt (now (words .entry)) at ⌝ }
+    ensures { λ o. ⌜ o ≡ outcomeAt (now (words .entry)) at ⌝ }
 {
     GrantRef::new(words, at).outcome()
 }
 
 pub fn before_condition_in(words: &[u32], at: usize) -> u32
-    ensures { λ r. ⌜ r ≡ beforeConditionAt (now (words .entry)) at ⌝ }
+    ensures { λ n. ⌜ n ≡ beforeConditionAt (now (words .entry)) at ⌝ }
 {
     GrantRef::new(words, at).before_condition()
 }

@@ -29,16 +29,23 @@ fn answer(satisfied: bool, next: usize, count: usize) -> ConditionEval
     }
 }
 
+// A presence as it stands in a consulted entry, above the fact.
+fn presence_bits(presence: Presence) -> u16
+    ensures { λ r. ⌜ r ≡ entryField (entryOf 0 (presenceOf presence)) ⌝ }
+{
+    match presence {
+        Presence::Absent => 0,
+        Presence::Present => 16384,
+        Presence::Unknown => 32768,
+    }
+}
+
 // A consulted entry: presence (2), zero (4), fact (10).
 fn entry(fact: u32, presence: Presence) -> u16
     requires { ⌜ fact < factCount ⌝ }
     ensures { λ r. ⌜ r ≡ entryField (entryOf fact (presenceOf presence)) ⌝ }
 {
-    match presence {
-        Presence::Absent => fact as u16,
-        Presence::Present => fact as u16 + 16384,
-        Presence::Unknown => fact as u16 + 32768,
-    }
+    presence_bits(presence) + fact as u16
 }
 
 // Lists the fact with its presence, unless it is listed already, and returns how many entries are in use then.

@@ -60,6 +60,7 @@ pub fn record(
     ensures { λ r. ⌜ Recorded fact (presenceOf presence) (lent count (now (entries .entry)) (now (seen .entry))) (lent r (now (entries .exit)) (now (seen .exit))) ⌝ }
 {
     let at = fact as usize;
+    // Of the list before, its length is all that is asked.
     let before = Consulted {
         last: 0,
         length: count,

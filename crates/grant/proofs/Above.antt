@@ -51,13 +51,13 @@ abbrev stayed : Stays (this.ended .signature .params) (this.ended .kept)
 stayed = (stay-none-slice (0 ∷ []) tt (plain (λ _. u32)) yes, (stay-none (λ _. usize) yes, tt))
 
 abbrev pub function-to : Name → Name → Fn
-function-to n f = record {
+function-to make f = record {
   lifetimes = 1;
   outlives = [];
   params = 2;
   locals = local (tyInt w32) valueLocal ∷ local (sliceTy (tyRef (named 0) imm (tyInt w32))) valueLocal ∷ local (tyInt w64) valueLocal ∷ local (T′.mir erased) valueLocal ∷ [];
   body =
-      seq (call n (copy (place 1 []) ∷ copy (place 2 []) ∷ []) (place 3 []))
+      seq (call make (copy (place 1 []) ∷ copy (place 2 []) ∷ []) (place 3 []))
       (seq (call f (copy (place 3 []) ∷ []) (place 0 []))
       return);
 }
@@ -121,10 +121,10 @@ module _ {M : Type 1} (𝓤 : URA M) (H : Heap 𝓤) (A : Atoms 𝓤) (W : Given
       suffices ! _ (ends-at 𝓤 H A this.ended stayed (plain-to 𝓤 look-up) W (((κ, tt), (q, tt), tt, (s, (n, tt)), (v ∷ [], (vint w64 n ∷ [], tt))), tt) u t (tt, (tt, tt)) (tt, (tt, tt))) $ says ! e $
       move ! (1 ∷ []) $ frame ! $ nothing ! $ owned ! usize (Is usize) (uint-makes 𝓤 H A W w64) n _ (refl, fits) $ fjoin ! $ move ! (2 ∷ 0 ∷ []) $ fjoin ! $ frame ! $ done !
 
-  module _ (n′ f : Name) (C : Calls 𝓤 H) (Λ : Loops 𝓤 H) (fm : FmC 𝓤 H (W .laws) C) (known-new : Triple 𝓤 (C n′) (New 𝓤 H A mem run)) (known-method : Triple 𝓤 (C f) (Method 𝓤 look-up H A)) where
-    walk : Is (ShrSlice (named 0) κ u32) s (v ∷ []) → ent 𝓤 (onEntry 𝓤 H A this.signature (κ, tt) (q, tt) (s, (n, tt)) (v ∷ [], (vint w64 n ∷ [], tt))) (WpFn 𝓤 H C Λ (function-to n′ f) (v ∷ vint w64 n ∷ []) Post)
+  module _ (make f : Name) (C : Calls 𝓤 H) (Λ : Loops 𝓤 H) (fm : FmC 𝓤 H (W .laws) C) (known-new : Triple 𝓤 (C make) (New 𝓤 H A mem run)) (known-method : Triple 𝓤 (C f) (Method 𝓤 look-up H A)) where
+    walk : Is (ShrSlice (named 0) κ u32) s (v ∷ []) → ent 𝓤 (onEntry 𝓤 H A this.signature (κ, tt) (q, tt) (s, (n, tt)) (v ∷ [], (vint w64 n ∷ [], tt))) (WpFn 𝓤 H C Λ (function-to make f) (v ∷ vint w64 n ∷ []) Post)
     walk p =
-        qed W (raw (onEntry 𝓤 H A this.signature (κ, tt) (q, tt) (s, (n, tt)) (v ∷ [], (vint w64 n ∷ [], tt))) ∷ []) ∵ enter ! C Λ (function-to n′ f) (v ∷ vint w64 n ∷ []) _ $
+        qed W (raw (onEntry 𝓤 H A this.signature (κ, tt) (q, tt) (s, (n, tt)) (v ∷ [], (vint w64 n ∷ [], tt))) ∷ []) ∵ enter ! C Λ (function-to make f) (v ∷ vint w64 n ∷ []) _ $
         alloc1 ! (λ l₀. alloc1 ! (λ l₁. alloc1 ! (λ l₂. alloc1 ! (λ l₃. alloc0 ! $ params1 ! $ pass1 ! (init ! 4 refl (shr-slice-lawful 𝓤 H A W (named 0) κ u32 .typed s (v ∷ []) p .0)) $ pass1 ! (init ! 2 refl (tt, record { fits = fits })) $ pass0 ! $
         move ! (8 ∷ []) $ use1 W (raw (New 𝓤 H A mem run .pre to-new) ⊛ ‵ Own) goes-new $ split ! $
         calls-at ! fm (New 𝓤 H A mem run) known-new to-new (and-then ! (load ! (from ! (stop !)) (look ! 6 refl)) (and-then ! (load ! (from ! (stop !)) (look ! 4 refl)) (no-more !))) (λ u.
@@ -144,13 +144,13 @@ module _ {M : Type 1} (𝓤 : URA M) (H : Heap 𝓤) (A : Atoms 𝓤) (W : Given
         by ! (exits t u′ (e′ ∙ (ap (λ (x : RefT (List ℕ)). look-up (now x) (r .at)) (e .0) ∙ ap (look-up (now s)) (e .1))))))))))))))))
 
 module _ {M : Type 1} (𝓤 : URA M) (H : Heap 𝓤) (A : Atoms 𝓤) (W : Given 𝓤 H A) (mem : Memory → SProp 𝓤) (run : Routine → Fun 𝓤) (look-up : List ℕ → ℕ → ℕ) where
-  above-walks : (n′ f : Name) (C : Calls 𝓤 H) (Λ : Loops 𝓤 H) → FmC 𝓤 H (W .laws) C → Triple 𝓤 (C n′) (New 𝓤 H A mem run) → Triple 𝓤 (C f) (Method 𝓤 look-up H A)
-      → Walks 𝓤 H A this.ended stayed (WpFn 𝓤 H C Λ (function-to n′ f)) (plain-to 𝓤 look-up)
-  above-walks n′ f C Λ fm known-new known-method = walked 𝓤 H A this.ended stayed (plain-to 𝓤 look-up) (WpFn 𝓤 H C Λ (function-to n′ f)) (λ κs. (slice-vals, (uint-vals w64, tt))) (λ κs. (shr-slice-tells (named 0) (κs .0) u32, (uint-tells w64, tt)))
-      (λ κs qs bounds a g are. via 𝓤 _ (fst∗ 𝓤 _ (emp 𝓤)) (walk 𝓤 H A W mem run look-up (κs .0) (qs .0) (a .0) (a .1 .0) (are .1 .0 .1) n′ f C Λ fm known-new known-method (are .0)))
+  above-walks : (make f : Name) (C : Calls 𝓤 H) (Λ : Loops 𝓤 H) → FmC 𝓤 H (W .laws) C → Triple 𝓤 (C make) (New 𝓤 H A mem run) → Triple 𝓤 (C f) (Method 𝓤 look-up H A)
+      → Walks 𝓤 H A this.ended stayed (WpFn 𝓤 H C Λ (function-to make f)) (plain-to 𝓤 look-up)
+  above-walks make f C Λ fm known-new known-method = walked 𝓤 H A this.ended stayed (plain-to 𝓤 look-up) (WpFn 𝓤 H C Λ (function-to make f)) (λ κs. (slice-vals, (uint-vals w64, tt))) (λ κs. (shr-slice-tells (named 0) (κs .0) u32, (uint-tells w64, tt)))
+      (λ κs qs bounds a g are. via 𝓤 _ (fst∗ 𝓤 _ (emp 𝓤)) (walk 𝓤 H A W mem run look-up (κs .0) (qs .0) (a .0) (a .1 .0) (are .1 .0 .1) make f C Λ fm known-new known-method (are .0)))
 
-pub above : {M : Type 1} (𝓤 : URA M) (H : Heap 𝓤) (A : Atoms 𝓤) (W : Given 𝓤 H A) (mem : Memory → SProp 𝓤) (run : Routine → Fun 𝓤) (look-up : List ℕ → ℕ → ℕ) (n′ f : Name) (𝓣 : Tables 𝓤 H)
-    → Triple 𝓤 (𝓣 .C n′) (New 𝓤 H A mem run) → Triple 𝓤 (𝓣 .C f) (Method 𝓤 look-up H A)
-    → Meets 𝓤 H A this.signature (WpFn 𝓤 H (𝓣 .C) (𝓣 .Λ) (function-to n′ f)) (closing 𝓤 H A this.ended (plain-to 𝓤 look-up))
-above 𝓤 H A W mem run look-up n′ f 𝓣 known-new known-method = walk-meets 𝓤 H A this.ended stayed W (goes-none-slice 𝓤 H A W 1 (0 ∷ []) tt (plain (λ _. u32)) yes, (goes-none 𝓤 H A W 1 (λ _. usize) yes (λ κs x f. refl), tt)) (plain-to 𝓤 look-up) (WpFn 𝓤 H (𝓣 .C) (𝓣 .Λ) (function-to n′ f)) (WpFn-mono 𝓤 H (W .laws) 𝓣 (function-to n′ f))
-    (above-walks 𝓤 H A W mem run look-up n′ f (𝓣 .C) (𝓣 .Λ) (fmOf 𝓤 H (W .laws) 𝓣) known-new known-method)
+pub above : {M : Type 1} (𝓤 : URA M) (H : Heap 𝓤) (A : Atoms 𝓤) (W : Given 𝓤 H A) (mem : Memory → SProp 𝓤) (run : Routine → Fun 𝓤) (look-up : List ℕ → ℕ → ℕ) (make f : Name) (𝓣 : Tables 𝓤 H)
+    → Triple 𝓤 (𝓣 .C make) (New 𝓤 H A mem run) → Triple 𝓤 (𝓣 .C f) (Method 𝓤 look-up H A)
+    → Meets 𝓤 H A this.signature (WpFn 𝓤 H (𝓣 .C) (𝓣 .Λ) (function-to make f)) (closing 𝓤 H A this.ended (plain-to 𝓤 look-up))
+above 𝓤 H A W mem run look-up make f 𝓣 known-new known-method = walk-meets 𝓤 H A this.ended stayed W (goes-none-slice 𝓤 H A W 1 (0 ∷ []) tt (plain (λ _. u32)) yes, (goes-none 𝓤 H A W 1 (λ _. usize) yes (λ κs x f. refl), tt)) (plain-to 𝓤 look-up) (WpFn 𝓤 H (𝓣 .C) (𝓣 .Λ) (function-to make f)) (WpFn-mono 𝓤 H (W .laws) 𝓣 (function-to make f))
+    (above-walks 𝓤 H A W mem run look-up make f (𝓣 .C) (𝓣 .Λ) (fmOf 𝓤 H (W .laws) 𝓣) known-new known-method)

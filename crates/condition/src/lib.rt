@@ -1,5 +1,6 @@
 // Conditions, after gatekeep's evaluate.rs: whether a condition is satisfied, with the facts that were consulted listed on the way.
 // The list is lent: `entries`, of which the first `count` are in use, and `seen`, a flag for each fact, 1 where it is listed.
+use consulted::Consulted;
 use facts::Presence;
 use policy_model::ConditionHead;
 ghost use mathlib.Core.Path.{_≡_};
@@ -28,16 +29,23 @@ fn answer(satisfied: bool, next: usize, count: usize) -> ConditionEval
     }
 }
 
+// A presence as it stands in a consulted entry, above the fact.
+fn presence_bits(presence: Presence) -> u16
+    ensures { λ r. ⌜ r ≡ entryField (entryOf 0 (presenceOf presence)) ⌝ }
+{
+    match presence {
+        Presence::Absent => 0,
+        Presence::Present => 16384,
+        Presence::Unknown => 32768,
+    }
+}
+
 // A consulted entry: presence (2), zero (4), fact (10).
 fn entry(fact: u32, presence: Presence) -> u16
     requires { ⌜ fact < factCount ⌝ }
     ensures { λ r. ⌜ r ≡ entryField (entryOf fact (presenceOf presence)) ⌝ }
 {
-    match presence {
-        Presence::Absent => fact as u16,
-        Presence::Present => fact as u16 + 16384,
-        Presence::Unknown => fact as u16 + 32768,
-    }
+    presence_bits(presence) + fact as u16
 }
 
 // Lists the fact with its presence, unless it is listed already, and returns how many entries are in use then.
@@ -52,12 +60,18 @@ pub fn record(
     ensures { λ r. ⌜ Recorded fact (presenceOf presence) (lent count (now (entries .entry)) (now (seen .entry))) (lent r (now (entries .exit)) (now (seen .exit))) ⌝ }
 {
     let at = fact as usize;
-    if seen[at] != 0 {
+    // Of the list before, its length is all that is asked.
+    let before = Consulted {
+        last: 0,
+        length: count,
+    };
+    let list = consulted::noted(before, seen[at], entry(fact, presence));
+    if list.length == count {
         return count;
     }
     seen[at] = 1;
-    entries[count] = entry(fact, presence);
-    count + 1
+    entries[count] = list.last;
+    list.length
 }
 
 // How many arms a condition has, by its first word.

@@ -1,4 +1,5 @@
 pub mod Nodes
 pub mod Folds
 pub mod Evaluating
+pub mod Grants
 pub mod Arms

@@ -87,18 +87,16 @@ fn eval_grant(
     words: &[u32],
     at: usize,
     depth: usize,
-    obligations: u32,
-    outcome: u16,
     facts: &[u8],
     entries: &mut [u16],
     seen: &mut [u8],
     count: usize,
 ) -> PolicyEval
     requires { ⌜ Room (lent count (now entries) (now seen)) × (at < length (now words)) × (depth < 32) ⌝ }
-    ensures { λ r. ⌜ ((hidden : Bool) (buf : List ℕ) → EvaluatesBy (Grant hidden obligations outcome) (tableOf (now (facts .entry))) (now (words .entry)) at depth (lent count (now (entries .entry)) (now (seen .entry))) r (lent (r .count) (now (entries .exit)) (now (seen .exit))) buf) ⌝ }
+    ensures { λ r. ⌜ ((hidden : Bool) (obligations outcome : ℕ) (buf : List ℕ) → EvaluatesBy (Grant hidden obligations outcome) (tableOf (now (facts .entry))) (now (words .entry)) at depth (lent count (now (entries .entry)) (now (seen .entry))) r (lent (r .count) (now (entries .exit)) (now (seen .exit))) buf) ⌝ }
 {
     let none = words.len();
-    let before = 2 + (obligations as usize + 3) / 4;
+    let before = grant::before_condition_in(words, at) as usize;
     if none - at < before {
         return denied(none, at, count);
     }
@@ -116,7 +114,7 @@ fn eval_grant(
     let satisfied = condition.satisfied;
     if satisfied {
         return PolicyEval {
-            decision: decision::permitted_by(outcome, at),
+            decision: decision::permitted_by(grant::outcome_in(words, at) as u16, at),
             next,
             count: listed,
         };
@@ -206,9 +204,9 @@ pub fn eval_policy(
         PolicyHead::Deny => denied(none, next, count),
         PolicyHead::Grant {
             hidden: _,
-            obligations: held,
-            outcome,
-        } => { eval_grant(words, at, below, held, outcome, facts, entries, seen, count) }
+            obligations: _,
+            outcome: _,
+        } => { eval_grant(words, at, below, facts, entries, seen, count) }
         PolicyHead::All(arms) => {
             eval_all(words, at, below, arms, facts, entries, seen, count, buf)
         }

@@ -385,8 +385,8 @@ module _ (t : ℕ) where
   eval-policy-denied-requires-3 : eval-policy-lts.Need-denied-requires-3 eval-policy-calls eval-policy-at eval-policy.Post
   eval-policy-denied-requires-3 c κs = search needs
 
-  eval-policy-enum-known-held : eval-policy-lts.Need-enum-known-held eval-policy-calls eval-policy-at eval-policy.Post
-  eval-policy-enum-known-held c = search needs
+  eval-policy-enum-told-2 : eval-policy-lts.Need-enum-told-2 eval-policy-calls eval-policy-at eval-policy.Post
+  eval-policy-enum-told-2 c = search needs
 
   eval-policy-eval-grant-requires : eval-policy-lts.Need-eval-grant-requires eval-policy-calls eval-policy-at eval-policy.Post
   eval-policy-eval-grant-requires c κs = search needs
@@ -403,8 +403,8 @@ module _ (t : ℕ) where
   eval-policy-eval-any-requires : eval-policy-lts.Need-eval-any-requires eval-policy-calls eval-policy-at eval-policy.Post
   eval-policy-eval-any-requires c κs = search needs
 
-  eval-policy-enum-told-2 : eval-policy-lts.Need-enum-told-2 eval-policy-calls eval-policy-at eval-policy.Post
-  eval-policy-enum-told-2 c = search needs
+  eval-policy-enum-told-3 : eval-policy-lts.Need-enum-told-3 eval-policy-calls eval-policy-at eval-policy.Post
+  eval-policy-enum-told-3 c = search needs
 
   eval-policy-eval-or-else-requires : eval-policy-lts.Need-eval-or-else-requires eval-policy-calls eval-policy-at eval-policy.Post
   eval-policy-eval-or-else-requires c κs = search needs
@@ -415,20 +415,20 @@ module _ (t : ℕ) where
   eval-policy-stored-permit-requires : eval-policy-lts.Need-stored-permit-requires eval-policy-calls eval-policy-at eval-policy.Post
   eval-policy-stored-permit-requires c κs = search needs
 
-  eval-policy-enum-told-3 : eval-policy-lts.Need-enum-told-3 eval-policy-calls eval-policy-at eval-policy.Post
-  eval-policy-enum-told-3 c = search needs
+  eval-policy-enum-told-4 : eval-policy-lts.Need-enum-told-4 eval-policy-calls eval-policy-at eval-policy.Post
+  eval-policy-enum-told-4 c = search needs
 
   eval-policy-stored-deny-requires : eval-policy-lts.Need-stored-deny-requires eval-policy-calls eval-policy-at eval-policy.Post
   eval-policy-stored-deny-requires c κs = search needs
 
-  eval-policy-enum-told-4 : eval-policy-lts.Need-enum-told-4 eval-policy-calls eval-policy-at eval-policy.Post
-  eval-policy-enum-told-4 c = search needs
+  eval-policy-enum-told-5 : eval-policy-lts.Need-enum-told-5 eval-policy-calls eval-policy-at eval-policy.Post
+  eval-policy-enum-told-5 c = search needs
 
   eval-policy-denied-requires-4 : eval-policy-lts.Need-denied-requires-4 eval-policy-calls eval-policy-at eval-policy.Post
   eval-policy-denied-requires-4 c κs = search needs
 
-  eval-policy-enum-told-5 : eval-policy-lts.Need-enum-told-5 eval-policy-calls eval-policy-at eval-policy.Post
-  eval-policy-enum-told-5 c = search needs
+  eval-policy-enum-told-6 : eval-policy-lts.Need-enum-told-6 eval-policy-calls eval-policy-at eval-policy.Post
+  eval-policy-enum-told-6 c = search needs
 
   eval-policy-denied-requires-5 : eval-policy-lts.Need-denied-requires-5 eval-policy-calls eval-policy-at eval-policy.Post
   eval-policy-denied-requires-5 c κs = search needs
@@ -456,9 +456,9 @@ module _ (t : ℕ) where
   eval-policy-returns-5 : eval-policy-lts.Need-returns-5 eval-policy-calls eval-policy-at eval-policy.Post
   eval-policy-returns-5 c =
       let call = c .before .before .before .before in
-      let head = call .before .before .before .before .before .before in
-      by-head _ _ _ _ _ _ _ _ (Grant _ _ _) (head .before .before .if2 .left) (sym (call .before .before .before .before .held .given .1) ∙ head .policy-head .ensures)
-      (call .eval-grant .ensures _ _)
+      let head = call .before .before .before .before .before in
+      by-head _ _ _ _ _ _ _ _ (Grant _ _ _) (head .before .before .if2 .left) (sym (call .before .before .before .enum-told2 .given .1) ∙ head .policy-head .ensures)
+      (call .eval-grant .ensures _ _ _ _)
 
   eval-policy-same-length-3 : eval-policy-lts.Need-same-length-3 eval-policy-calls eval-policy-at eval-policy.Post
   eval-policy-same-length-3 c = search needs
@@ -505,7 +505,7 @@ module _ (t : ℕ) where
   eval-policy-returns-8 c =
       let call = c .before .before .before .before .before .before in
       let head = call .before .before .before .before .before .before in
-      by-head _ _ _ _ _ _ _ _ OrElse (head .before .before .if2 .left) (sym (call .before .before .before .before .enum-told2 .given .1) ∙ head .policy-head .ensures)
+      by-head _ _ _ _ _ _ _ _ OrElse (head .before .before .if2 .left) (sym (call .before .before .before .before .enum-told3 .given .1) ∙ head .policy-head .ensures)
       (call .eval-or-else .ensures)
 
   eval-policy-returns-9 : eval-policy-lts.Need-returns-9 eval-policy-calls eval-policy-at eval-policy.Post
@@ -517,21 +517,21 @@ module _ (t : ℕ) where
   eval-policy-returns-10 : eval-policy-lts.Need-returns-10 eval-policy-calls eval-policy-at eval-policy.Post
   eval-policy-returns-10 c =
       let head = c .before .before .before in
-      by-head _ _ _ _ _ _ _ _ (DenyWithTrace _ _ _) (head .before .before .if2 .left) (sym (c .before .enum-told3 .given .1) ∙ head .policy-head .ensures)
+      by-head _ _ _ _ _ _ _ _ (DenyWithTrace _ _ _) (head .before .before .if2 .left) (sym (c .before .enum-told4 .given .1) ∙ head .policy-head .ensures)
       (c .stored-deny .ensures _ _ _ _ _ _ _ _ (omega arith))
 
   eval-policy-returns-11 : eval-policy-lts.Need-returns-11 eval-policy-calls eval-policy-at eval-policy.Post
   eval-policy-returns-11 c =
       let head = c .before .before .before in
       rw (c .denied4 .ensures)
-      (by-head _ _ _ _ _ _ _ _ BadKind (head .before .before .if2 .left) (sym (c .before .enum-told4 .given .1) ∙ head .policy-head .ensures)
+      (by-head _ _ _ _ _ _ _ _ BadKind (head .before .before .if2 .left) (sym (c .before .enum-told5 .given .1) ∙ head .policy-head .ensures)
       (eval-bad-kind _ _ _ _ _ _ _ _ _ (head .before .before .before .if1 .left)))
 
   eval-policy-returns-12 : eval-policy-lts.Need-returns-12 eval-policy-calls eval-policy-at eval-policy.Post
   eval-policy-returns-12 c =
       let head = c .before .before .before in
       rw (c .denied5 .ensures)
-      (by-head _ _ _ _ _ _ _ _ BadField (head .before .before .if2 .left) (sym (c .before .enum-told5 .given .1) ∙ head .policy-head .ensures)
+      (by-head _ _ _ _ _ _ _ _ BadField (head .before .before .if2 .left) (sym (c .before .enum-told6 .given .1) ∙ head .policy-head .ensures)
       (eval-bad-field _ _ _ _ _ _ _ _ _ (head .before .before .before .if1 .left)))
 
 pub +eval-all+eval-any+eval-or-else+eval-policy-spec : {M : Type 1} → statement M
@@ -601,21 +601,21 @@ pub +eval-all+eval-any+eval-or-else+eval-policy-spec : {M : Type 1} → statemen
     (eval-policy-permitted-requires t)
     (eval-policy-enum-told t)
     (eval-policy-denied-requires-3 t)
-    (eval-policy-enum-known-held t)
+    (eval-policy-enum-told-2 t)
     (eval-policy-eval-grant-requires t)
     (eval-policy-enum-known-arms t)
     (eval-policy-eval-all-requires t)
     (eval-policy-enum-known-arms-2 t)
     (eval-policy-eval-any-requires t)
-    (eval-policy-enum-told-2 t)
+    (eval-policy-enum-told-3 t)
     (eval-policy-eval-or-else-requires t)
     (eval-policy-enum-known-obligations t)
     (eval-policy-stored-permit-requires t)
-    (eval-policy-enum-told-3 t)
-    (eval-policy-stored-deny-requires t)
     (eval-policy-enum-told-4 t)
-    (eval-policy-denied-requires-4 t)
+    (eval-policy-stored-deny-requires t)
     (eval-policy-enum-told-5 t)
+    (eval-policy-denied-requires-4 t)
+    (eval-policy-enum-told-6 t)
     (eval-policy-denied-requires-5 t)
     (eval-policy-returns-3 t)
     (eval-policy-returns-4 t)

@@ -1,15 +1,16 @@
 -- `evaluate::eval_grant` meets its contract: by whether its words end early, and whether its condition is satisfied. Assumes nothing.
 use native.Mathlib.Omega.{arith}
 use Rattle.evaluate.proofs.Evaluating.{grant-short, grant-permits, grant-denies}
+use Rattle.evaluate.proofs.Grants.{grant-by-word}
 use borrow.Author.Needs.{needs}
 use Rattle.evaluate.proofs.eval_grant.Statement.{statement}
 use Rattle.evaluate.proofs.eval_grant.Tie as tie
 
-add-before : tie.Need-add-before
-add-before c = search needs
+before-condition-in-requires : tie.Need-before-condition-in-requires
+before-condition-in-requires c κs = search needs
 
-add-before-2 : tie.Need-add-before-2
-add-before-2 c = search needs
+cast-before : tie.Need-cast-before
+cast-before c = search needs
 
 sub-if1 : tie.Need-sub-if1
 sub-if1 c = search needs
@@ -19,14 +20,23 @@ denied-requires c κs = search needs
 
 returns : tie.Need-returns
 returns c =
-    let start = c .before .before .before .before .before .before in
-    λ hidden buf. rw (c .denied .ensures) (grant-short _ _ _ _ hidden _ _ (start .pre .1) (start .pre .2) _ _ buf (omega arith) (c .before .if1 .taken))
+    let found = c .before .before in
+    let start = found .before .before .before .before .before in
+    λ hidden n o buf. rw (c .denied .ensures)
+    (grant-by-word hidden n o
+    (grant-short _ _ _ _ hidden _ _ (start .pre .1) (start .pre .2) _ _ buf (omega arith) (omega (arith, c .before .if1 .taken, found .before-condition-in .ensures))))
 
 add-eval-condition : tie.Need-add-eval-condition
 add-eval-condition c = search needs
 
 eval-condition-requires : tie.Need-eval-condition-requires
 eval-condition-requires c κs = search needs
+
+outcome-in-requires : tie.Need-outcome-in-requires
+outcome-in-requires c κs = search needs
+
+cast-permitted-by : tie.Need-cast-permitted-by
+cast-permitted-by c = search needs
 
 permitted-by-requires : tie.Need-permitted-by-requires
 permitted-by-requires c κs = search needs
@@ -39,9 +49,13 @@ same-length-2 c = search needs
 
 returns-2 : tie.Need-returns-2
 returns-2 c =
-    let call = c .before .before .before .before .before .before in
-    let start = call .before .before .before .before .before .before .before .before in
-    λ hidden buf. rw (c .permitted-by .ensures) (grant-permits _ _ _ _ hidden _ _ (start .pre .1) (start .pre .2) _ _ _ buf (call .eval-condition .ensures) (c .before .if2 .taken))
+    let outcome = c .before in
+    let call = outcome .before .before .before .before .before .before in
+    let found = call .before .before .before .before in
+    let start = found .before .before .before .before .before in
+    λ hidden n o buf. rw (c .permitted-by .ensures, outcome .outcome-in .ensures)
+    (grant-by-word hidden n o
+    (grant-permits _ _ _ _ hidden _ _ (start .pre .1) (start .pre .2) _ _ _ buf (rw (found .before-condition-in .ensures) at (call .eval-condition .ensures)) (outcome .before .if2 .taken)))
 
 denied-by-requires : tie.Need-denied-by-requires
 denied-by-requires c κs = search needs
@@ -55,20 +69,25 @@ same-length-4 c = search needs
 returns-3 : tie.Need-returns-3
 returns-3 c =
     let call = c .before .before .before .before .before .before in
-    let start = call .before .before .before .before .before .before .before .before in
-    λ hidden buf. rw (c .denied-by .ensures) (grant-denies _ _ _ _ hidden _ _ (start .pre .1) (start .pre .2) _ _ _ buf (call .eval-condition .ensures) (c .before .if2 .left))
+    let found = call .before .before .before .before in
+    let start = found .before .before .before .before .before in
+    λ hidden n o buf. rw (c .denied-by .ensures)
+    (grant-by-word hidden n o
+    (grant-denies _ _ _ _ hidden _ _ (start .pre .1) (start .pre .2) _ _ _ buf (rw (found .before-condition-in .ensures) at (call .eval-condition .ensures)) (c .before .if2 .left)))
 
 pub eval-grant-spec : {M : Type 1} → statement M
 eval-grant-spec =
     tie.close
     (tie.spec
-    add-before
-    add-before-2
+    before-condition-in-requires
+    cast-before
     sub-if1
     denied-requires
     returns
     add-eval-condition
     eval-condition-requires
+    outcome-in-requires
+    cast-permitted-by
     permitted-by-requires
     same-length
     same-length-2

@@ -3,7 +3,7 @@ use mathlib.Core.Path.{_≡_, refl, sym, _∙_, ap}
 use mathlib.Core.Bool.{Bool, true, false, cond}
 use Prim.Native.Nat.{ℕ, suc, _-_, _/_, _%_, _≤_, _<_}
 use native.Mathlib.Omega.{arith}
-use borrow.Author.Tests.{leb-true, lt-ltb, eq-eqb}
+use borrow.Author.Tests.{leb-true, lt-ltb}
 use lib.Dec.{leb}
 use lib.ListN.{getD, List·getD-eq-default}
 use Rattle.policy_model.specs.declared.ConditionHead.{ConditionHead}
@@ -11,7 +11,7 @@ use Rattle.policy_model.specs.declared.ConditionHead.the-variants.{Has}
 use Rattle.policy_model.specs.declared.ConditionHead.the-variants as condition
 use Rattle.policy_model.specs.declared.PolicyHead.{PolicyHead}
 use Rattle.policy_model.specs.declared.PolicyHead.the-variants as policy
-use Rattle.policy_model.specs.Heads.{conditionHeads, conditionHead, permitHead, policyHeads, policyHead}
+use Rattle.policy_model.specs.Heads.{conditionHeads, conditionHead, policyHeads, policyHead}
 
 pub kind-C : (w k : ℕ) (h : ConditionHead) → w / 268435456 ≡ k → h ≡ getD (conditionHeads (w % 268435456)) k condition.BadKind → h ≡ conditionHead w
 unfolding conditionHead
@@ -31,15 +31,6 @@ has-word w e =
 pub kind-P : (w k : ℕ) (res : Bool) (h : PolicyHead) → w / 268435456 ≡ k → h ≡ cond (leb 6 k) (getD (policyHeads res (w % 268435456)) (k - 6) policy.BadKind) policy.BadKind → h ≡ policyHead w res
 unfolding policyHead
 kind-P w k res h e g = g ∙ ap (λ n. cond (leb 6 n) (getD (policyHeads res (w % 268435456)) (n - 6) policy.BadKind) policy.BadKind) (sym e)
-
--- A word that one division shows to be a Permit.
-pub permit-word : (w : ℕ) (res : Bool) → w / 65536 ≡ 24576 → policy.Permit (w % 65536) ≡ policyHead w res
-unfolding permitHead
-permit-word w res e =
-    let k : w / 268435456 ≡ 6 = omega arith in
-    let none : (w % 268435456) / 65536 ≡ 0 = omega arith in
-    let same : (w % 268435456) % 65536 ≡ w % 65536 = omega arith in
-    kind-P w 6 res (policy.Permit (w % 65536)) k (rw (eq-eqb ((w % 268435456) / 65536) 0 none, same))
 
 no-kind-at : (k r : ℕ) (res : Bool) (b : Bool) → leb 6 k ≡ b → (6 ≤ k → 14 ≤ k) → policy.BadKind ≡ cond b (getD (policyHeads res r) (k - 6) policy.BadKind) policy.BadKind
 no-kind-at k r res true e f =

@@ -559,10 +559,10 @@ fn check_policy(words: &[u32], at: usize, depth: usize, residual: bool) -> Check
     if words.len() <= at {
         return Checked::Refused(6);
     }
-    let head = policy_head(words[at], residual);
     if depth == 0 {
-        return Checked::Refused(deep_policy(head));
+        return Checked::Refused(deep_policy(head_by_kind(words[at], residual)));
     }
+    let head = policy_head(words[at], residual);
     match head {
         PolicyHead::Permit(_) => Checked::Next(at + 1),
         PolicyHead::Deny => Checked::Next(at + 1),

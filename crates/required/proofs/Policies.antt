@@ -6,7 +6,6 @@ use Prim.Native.Nat.{ℕ, zero, suc, _+_, _-_, _/_, _%_, _≤_, _<_}
 use native.Mathlib.Nat.{add-zero}
 use native.Mathlib.Numerals.{add-one}
 use native.Mathlib.Omega.{arith}
-use borrow.Author.Tests.{eq-eqb}
 use lib.Dec.{ltb, leb}
 use lib.ListN.{length, drop, getD, drop-of-length-le, length-drop, length-map, replicate}
 use lib.Seq.{drop-cons, drop-drop, getD-drop}
@@ -27,8 +26,8 @@ use Rattle.laws.specs.Canon.{same-T}
 use Rattle.policy_model.specs.declared.PolicyHead.{PolicyHead}
 use Rattle.policy_model.specs.declared.PolicyHead.the-variants.{Permit, Deny, Grant, OrElse, PermitWithTrace, DenyWithTrace}
 use Rattle.policy_model.specs.declared.PolicyHead.the-variants as policy
-use Rattle.policy_model.specs.Heads.{permitHead, permitTraceNode, denyTraceNode, grantNode, policyHead, policyNode}
-use Rattle.policy_model.specs.HeadLaws.{policy-node}
+use Rattle.policy_model.specs.Heads.{permitTraceNode, denyTraceNode, grantNode, policyHead, policyNode}
+use Rattle.policy_model.specs.HeadLaws.{policy-node, permit-word}
 use Rattle.required.specs.Sets.{Walked, Collected}
 use Rattle.required.specs.Nodes.{policyArms, Ended, OwnFacts}
 use Rattle.required.specs.Answers.{setAfter, FactsOf}
@@ -290,14 +289,6 @@ module _ (pc : List ℕ → Parsed Condition) (sheet : List ℕ) (at : ℕ) (s :
     own-deny-trace end hidden denied o e c = own-as s end (DenyWithTrace hidden denied o) e (stored-facts sheet at end s (denyTraceNode hidden denied o (drop (at + 1) sheet)) c)
 
 -- A Permit is one word, at whatever level it stands, and names nothing.
-permit-head : (w : ℕ) (res : Bool) → w / 65536 ≡ 24576 → Permit (w % 65536) ≡ policyHead w res
-unfolding policyHead permitHead
-permit-head w res e =
-    let k : w / 268435456 ≡ 6 = omega arith in
-    let none : (w % 268435456) / 65536 ≡ 0 = omega arith in
-    let same : (w % 268435456) % 65536 ≡ w % 65536 = omega arith in
-    rw (k, eq-eqb ((w % 268435456) / 65536) 0 none, same)
-
 pub permit-here : (res : Bool) (sheet : List ℕ) (at depth : ℕ) (s : List ℕ) → at < length sheet → getD sheet at 0 / 65536 ≡ 24576 →
     Collected words names at s s (readPolicy (productSets .value) res depth (drop at sheet)) (at + 1)
 unfolding policyArms
@@ -305,7 +296,7 @@ permit-here res sheet at zero s inside e = policy-deep res sheet at 0 s s (at + 
 permit-here res sheet at (suc d) s inside e =
     let o = getD sheet at 0 % 65536 in
     let pc : List ℕ → Parsed Condition = λ vs. readCondition (suc d - 1) vs in
-    policy-walked res sheet at (suc d) (at + 1) (at + 1) s s s (Permit o) 0 0 inside (λ z. let b : ⊥ = omega arith in b) (permit-head (getD sheet at 0) res e) (of-one-word pc sheet at s (Permit o) tt) refl refl
+    policy-walked res sheet at (suc d) (at + 1) (at + 1) s s s (Permit o) 0 0 inside (λ z. let b : ⊥ = omega arith in b) (permit-word (getD sheet at 0) res e) (of-one-word pc sheet at s (Permit o) tt) refl refl
     (record { onward = λ u end w. w })
 
 -- ---- a policy's facts, from an empty set on

@@ -10,7 +10,7 @@ use Rattle.policy_model.specs.declared.PolicyHead.{PolicyHead}
 use Rattle.policy_model.specs.declared.PolicyHead.the-variants.{Permit, Deny, Grant, All, Any, OrElse, PermitWithTrace, DenyWithTrace, BadKind, BadField}
 use Rattle.policy_model.specs.Answers.{checked}
 use Rattle.policy_model.specs.Heads.{policyNode}
-use Rattle.policy_model.proofs.Words.{permit-word}
+use Rattle.policy_model.specs.HeadLaws.{permit-word}
 use Rattle.policy_model.proofs.Policies.{nodeOf, Asked, no-policy, too-deep, by-head, after-all, after-any, after-or-else, after-permit, after-deny, AskedAll, one-more, one-refused, none-left}
 use Prim.Native.Nat.{ℕ, _+_, _-_, _*_, _<_}
 use borrow.Fn.Kinds.{In}
@@ -28,6 +28,7 @@ use Rattle.policy_model.proofs.check_deny_with_trace.Reads as check-den
 use Rattle.policy_model.proofs.check_grant.Reads as check-grant-reads
 use Rattle.policy_model.proofs.check_permit_with_trace.Reads as check-permit-with-trace-reads
 use Rattle.policy_model.proofs.deep_policy.Reads as deep-policy-reads
+use Rattle.policy_model.proofs.head_by_kind.Reads as head-by-kind-reads
 use Rattle.policy_model.proofs.policy_head.Reads as policy-head-reads
 use Rattle.policy_model.proofs.+check_policies+check_policy+check_policy_arm.{statement}
 use Rattle.policy_model.proofs.+check_policies+check_policy+check_policy_arm.Tie.{close}
@@ -107,12 +108,30 @@ module _ (t : ℕ) where
 
   -- what `check-policy` calls
   abbrev check-policy-calls : check-policy-lts.Claims
-  check-policy-calls = (policy-head-reads.Asked, policy-head-reads.Learnt, deep-policy-reads.Asked, deep-policy-reads.Learnt, check-grant-reads.Asked, check-grant-reads.Learnt, check-policies-below, check-policies.Post, check-permit-with-trace-reads.Asked, check-permit-with-trace-reads.Learnt, check-deny-with-trace-reads.Asked, check-deny-with-trace-reads.Learnt)
+  check-policy-calls = (head-by-kind-reads.Asked, head-by-kind-reads.Learnt, deep-policy-reads.Asked, deep-policy-reads.Learnt, policy-head-reads.Asked, policy-head-reads.Learnt, check-grant-reads.Asked, check-grant-reads.Learnt, check-policies-below, check-policies.Post, check-permit-with-trace-reads.Asked, check-permit-with-trace-reads.Learnt, check-deny-with-trace-reads.Asked, check-deny-with-trace-reads.Learnt)
 
   check-policy-returns : check-policy-lts.Need-returns check-policy-calls check-policy-at check-policy.Post
   check-policy-returns c =
       let from = c .before .before .args in
       no-policy (now (from .words)) _ (from .depth) (from .residual) (c .if1 .taken)
+
+  check-policy-mul-head-by-kind : check-policy-lts.Need-mul-head-by-kind check-policy-calls check-policy-at check-policy.Post
+  check-policy-mul-head-by-kind c = search needs
+
+  check-policy-shared-slice-read-head-by-kind : check-policy-lts.Need-shared-slice-read-head-by-kind check-policy-calls check-policy-at check-policy.Post
+  check-policy-shared-slice-read-head-by-kind c = search needs
+
+  check-policy-head-by-kind-requires : check-policy-lts.Need-head-by-kind-requires check-policy-calls check-policy-at check-policy.Post
+  check-policy-head-by-kind-requires c κs = search needs
+
+  check-policy-deep-policy-requires : check-policy-lts.Need-deep-policy-requires check-policy-calls check-policy-at check-policy.Post
+  check-policy-deep-policy-requires c κs = search needs
+
+  check-policy-returns-2 : check-policy-lts.Need-returns-2 check-policy-calls check-policy-at check-policy.Post
+  check-policy-returns-2 c =
+      let test = c .before .before .before in
+      let from = test .before .before .before .args in
+      too-deep (now (from .words)) (from .at) (from .depth) (from .residual) _ _ (test .before .if1 .left) (test .if2 .taken) (c .before .head-by-kind .ensures) (c .deep-policy .ensures)
 
   check-policy-mul-policy-head : check-policy-lts.Need-mul-policy-head check-policy-calls check-policy-at check-policy.Post
   check-policy-mul-policy-head c = search needs
@@ -123,25 +142,17 @@ module _ (t : ℕ) where
   check-policy-policy-head-requires : check-policy-lts.Need-policy-head-requires check-policy-calls check-policy-at check-policy.Post
   check-policy-policy-head-requires c κs = search needs
 
-  check-policy-deep-policy-requires : check-policy-lts.Need-deep-policy-requires check-policy-calls check-policy-at check-policy.Post
-  check-policy-deep-policy-requires c κs = search needs
-
-  check-policy-returns-2 : check-policy-lts.Need-returns-2 check-policy-calls check-policy-at check-policy.Post
-  check-policy-returns-2 c =
-      let from = c .before .before .before .before .before .before .args in
-      too-deep (now (from .words)) (from .at) (from .depth) (from .residual) _ _ (c .before .before .before .before .if1 .left) (c .before .if2 .taken) (c .before .before .policy-head .ensures) (c .deep-policy .ensures)
-
   check-policy-enum-told : check-policy-lts.Need-enum-told check-policy-calls check-policy-at check-policy.Post
   check-policy-enum-told c = search needs
 
-  check-policy-add-t16 : check-policy-lts.Need-add-t16 check-policy-calls check-policy-at check-policy.Post
-  check-policy-add-t16 c = search needs
+  check-policy-add-t20 : check-policy-lts.Need-add-t20 check-policy-calls check-policy-at check-policy.Post
+  check-policy-add-t20 c = search needs
 
   check-policy-enum-told-2 : check-policy-lts.Need-enum-told-2 check-policy-calls check-policy-at check-policy.Post
   check-policy-enum-told-2 c = search needs
 
-  check-policy-add-t17 : check-policy-lts.Need-add-t17 check-policy-calls check-policy-at check-policy.Post
-  check-policy-add-t17 c = search needs
+  check-policy-add-t21 : check-policy-lts.Need-add-t21 check-policy-calls check-policy-at check-policy.Post
+  check-policy-add-t21 c = search needs
 
   check-policy-enum-known-head : check-policy-lts.Need-enum-known-head check-policy-calls check-policy-at check-policy.Post
   check-policy-enum-known-head c = search needs
@@ -208,15 +219,15 @@ module _ (t : ℕ) where
 
   -- where the match on the head begins
   abbrev Matching : Type 0
-  Matching = check-policy-lts.Else2 check-policy-calls check-policy-at check-policy.Post
+  Matching = check-policy-lts.After-policy-head check-policy-calls check-policy-at check-policy.Post
 
   abbrev start : Matching → check-policy-lts.Start check-policy-calls check-policy-at check-policy.Post
   start c = c .before .before .before .before .before
 
-  by-the-head : (c : Matching) (h : PolicyHead) → c .before .policy-head .result ≡ h →
+  by-the-head : (c : Matching) (h : PolicyHead) → c .policy-head .result ≡ h →
       checked words (start c .args .at) (nodeOf (start c .args .residual) (start c .args .depth - 1) h (drop (start c .args .at + 1) (now (start c .args .words))))
       ≡ Asked (now (start c .args .words)) (start c .args .at) (start c .args .depth) (start c .args .residual)
-  by-the-head c h e = by-head _ _ _ _ h (c .before .before .before .if1 .left) (c .if2 .left) (sym e ∙ c .before .policy-head .ensures)
+  by-the-head c h e = by-head _ _ _ _ h (c .before .before .before .if1 .left) (c .before .before .if2 .left) (sym e ∙ c .policy-head .ensures)
 
   check-policy-returns-3 : check-policy-lts.Need-returns-3 check-policy-calls check-policy-at check-policy.Post
   unfolding checked policyNode
@@ -304,15 +315,18 @@ pub +check-policies+check-policy+check-policy-arm-spec : {M : Type 1} → statem
     (check-policies-returns-2 t))
     (λ t. check-policy-lts.spec (check-policy-calls t) (check-policy-at t) check-policy.Post
     (check-policy-returns t)
+    (check-policy-mul-head-by-kind t)
+    (check-policy-shared-slice-read-head-by-kind t)
+    (check-policy-head-by-kind-requires t)
+    (check-policy-deep-policy-requires t)
+    (check-policy-returns-2 t)
     (check-policy-mul-policy-head t)
     (check-policy-shared-slice-read-policy-head t)
     (check-policy-policy-head-requires t)
-    (check-policy-deep-policy-requires t)
-    (check-policy-returns-2 t)
     (check-policy-enum-told t)
-    (check-policy-add-t16 t)
+    (check-policy-add-t20 t)
     (check-policy-enum-told-2 t)
-    (check-policy-add-t17 t)
+    (check-policy-add-t21 t)
     (check-policy-enum-known-head t)
     (check-policy-sub-check-grant t)
     (check-policy-check-grant-requires t)

@@ -1,6 +1,7 @@
 -- `policy_model::policy_head` meets its contract: a Permit and a Grant by a test each. Assumes nothing.
 use borrow.Author.Needs.{needs}
-use Rattle.policy_model.proofs.Words.{kind-P, permit-word}
+use Rattle.policy_model.specs.HeadLaws.{permit-word}
+use Rattle.policy_model.proofs.Words.{kind-P}
 use Rattle.policy_model.proofs.policy_head.Statement.{statement}
 use Rattle.policy_model.proofs.policy_head.Tie as tie
 

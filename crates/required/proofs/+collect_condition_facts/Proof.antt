@@ -125,9 +125,11 @@ module _ (t : ℕ) where
       let test = turn .before .before in
       let has = test .before .before .before in
       let at-loop = has .before .before .before in
-      let a = at-loop .before .before .before .before .before .before .before .before .before .args in
-      (search needs, onward-more-C (a .depth - 1) _ _ _ _ _ _ _ _ _ (test .if4 .left) (turn .collect-condition-facts .ensures)
-      (onward-then _ _ _ _ _ _ _ _ _ (at-loop .loop .inv .1) (has .collect-has-facts .ensures .goes-on (a .depth - 1))))
+      let a = at-loop .before .before .before .before .before .before .before .before .before .args in (
+        search needs,
+        onward-more-C (a .depth - 1) _ _ _ _ _ _ _ _ _ (test .if4 .left) (turn .collect-condition-facts .ensures)
+            (onward-then _ _ _ _ _ _ _ _ _ (at-loop .loop .inv .1) (has .collect-has-facts .ensures .goes-on (a .depth - 1))),
+      )
 
   same-length-3 : lts.Need-same-length-3 calls here reads.Post Inv-loop μ-loop
   same-length-3 c = search needs

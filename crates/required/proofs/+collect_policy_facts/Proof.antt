@@ -110,9 +110,11 @@ module _ (t : ℕ) where
       let test = turn .before .before in
       let pass = test .before in
       let at-loop = pass .before .before in
-      let a = at-loop .before .before .before .before .before .before .before .before .before .before .before .before .args in
-      (search needs, onward-more-P (a .residual) (a .depth - 1) _ _ _ _ _ _ _ _ _ (test .if3 .left) (turn .collect-policy-facts .ensures)
-      (onward-then _ _ _ _ _ _ _ _ _ (at-loop .loop .inv .1) (pass .pass-permits .ensures .goes-on (a .residual) (a .depth - 1) _)))
+      let a = at-loop .before .before .before .before .before .before .before .before .before .before .before .before .args in (
+        search needs,
+        onward-more-P (a .residual) (a .depth - 1) _ _ _ _ _ _ _ _ _ (test .if3 .left) (turn .collect-policy-facts .ensures)
+            (onward-then _ _ _ _ _ _ _ _ _ (at-loop .loop .inv .1) (pass .pass-permits .ensures .goes-on (a .residual) (a .depth - 1) _)),
+      )
 
   same-length-2 : lts.Need-same-length-2 calls here reads.Post Inv-loop μ-loop
   same-length-2 c = search needs

@@ -250,3 +250,18 @@ permit-word w res e =
     let none : (w % 268435456) / 65536 ≡ 0 = omega arith in
     let same : (w % 268435456) % 65536 ≡ w % 65536 = omega arith in
     rw (k, eq-eqb ((w % 268435456) / 65536) 0 none, same)
+
+-- And to be an All, or an Any.
+pub all-word : (w : ℕ) (res : Bool) → w / 4096 ≡ 589824 → policy.All (w % 4096) ≡ policyHead w res
+unfolding policyHead
+all-word w res e =
+    let k : w / 268435456 ≡ 9 = omega arith in
+    let same : w % 268435456 ≡ w % 4096 = omega arith in
+    rw (k, same, lt-ltb (w % 4096) 4096 (omega arith))
+
+pub any-word : (w : ℕ) (res : Bool) → w / 4096 ≡ 655360 → policy.Any (w % 4096) ≡ policyHead w res
+unfolding policyHead
+any-word w res e =
+    let k : w / 268435456 ≡ 10 = omega arith in
+    let same : w % 268435456 ≡ w % 4096 = omega arith in
+    rw (k, same, lt-ltb (w % 4096) 4096 (omega arith))

@@ -216,7 +216,7 @@ fn head_by_kind(word: u32, residual: bool) -> PolicyHead
     }
 }
 
-// A policy's first word. A Permit and a Grant, the commonest, are told by a test each: a table of the kinds costs more than it answers.
+// A policy's first word. A Permit, a Grant, an All and an Any, the commonest, are told by a test each: a table of the kinds costs more than it answers.
 pub fn policy_head(word: u32, residual: bool) -> PolicyHead
     ensures { λ r. ⌜ r ≡ policyHead word residual ⌝ }
 {
@@ -225,6 +225,12 @@ pub fn policy_head(word: u32, residual: bool) -> PolicyHead
     }
     if word / 268435456 == 8 {
         return grant_head(word % 268435456);
+    }
+    if word / 4096 == 589824 {
+        return PolicyHead::All(word % 4096);
+    }
+    if word / 4096 == 655360 {
+        return PolicyHead::Any(word % 4096);
     }
     head_by_kind(word, residual)
 }

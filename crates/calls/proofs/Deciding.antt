@@ -2,7 +2,7 @@
 use mathlib.Core.Path.{_≡_, subst}
 use mathlib.Core.Bool.{false}
 use mathlib.Core.List.{List, []}
-use Prim.Native.Nat.{ℕ, _+_, _≤_}
+use Prim.Native.Nat.{ℕ, _+_, _≤_, min}
 use native.Mathlib.Omega.{arith}
 use lib.ListN.{length, replicate}
 use Rattle.model.specs.Facts.{Table, factCount, tableOf}
@@ -16,7 +16,6 @@ use Rattle.model.specs.Record.{Record, evaluated}
 use Rattle.model.specs.Reading.{Parsed, refuse, got, readPolicy, readSheet}
 use Rattle.model.specs.Calls as model
 use Rattle.laws.specs.FieldLaws.{Holds, nothing, fine}
-use Rattle.policy_model.proofs.Records.{sheet-tree}
 use Rattle.condition.specs.Listing.{Lent, unseen, Listed}
 use Rattle.condition.proofs.Listing.{unseen-none}
 use Rattle.evaluate.specs.declared.PolicyEval.{PolicyEval}
@@ -24,6 +23,7 @@ use Rattle.evaluate.specs.Evaluating.{Answers, EvaluatesP}
 use Rattle.evaluate.proofs.Nodes.{held-at}
 use Rattle.calls.specs.declared.Answer.{Answer}
 use Rattle.calls.specs.Answers.{Answered, Put, Decides}
+use Rattle.calls.proofs.Shallow.{few-levels}
 
 -- No more than 1,024 entries are in use.
 pub few-entries : (count : ℕ) (seen : List ℕ) → count + unseen seen ≡ 0 + unseen (replicate factCount 0) → count ≤ 1024
@@ -44,9 +44,9 @@ module _ {W : List ℕ} {T : Table} {s : Lent} {r : PolicyEval} {t : Lent} {buf 
   decided-of q (refuse n) h k none-listed w = nothing
   decided-of q (got p vs) h k none-listed w = fine (decided-after p (0 + words p) [] (held-at h (k .it)) none-listed w)
 
-  pub decides : EvaluatesP T W 0 32 s r t buf → Listed [] s → Put W T buf (r .decision) (t .entries) (t .count) before after a → Decides W T before after a
-  decides e none-listed w =
-      record { decides = decided-of (readPolicy (productSets .value) false 32 W) (readSheet (productSets .value) W) (e .says false) (sheet-tree W) none-listed w }
+  pub decides : (d : ℕ) → min 32 (length W) ≤ d → EvaluatesP T W 0 d s r t buf → Listed [] s → Put W T buf (r .decision) (t .entries) (t .count) before after a → Decides W T before after a
+  decides d enough e none-listed w =
+      record { decides = decided-of (readPolicy (productSets .value) false d W) (readSheet (productSets .value) W) (e .says false) (few-levels W d enough) none-listed w }
 
 -- The record of direct evaluation, from the table's bytes.
 abbrev pub evaluation : List ℕ → Policy ℕ → Record ℕ

@@ -2,7 +2,7 @@
 use decision::Decision;
 use facts::TableFault;
 use policy_model::SheetCheck;
-ghost use Prim.Native.Nat.{_*_, _≤_, min};
+ghost use Prim.Native.Nat.{_+_, _*_, _≤_, min};
 ghost use lib.ListN.{length};
 ghost use Rattle.model.specs.Facts.{tableOf};
 ghost use Rattle.model.specs.Outcome.{productSets};
@@ -52,34 +52,55 @@ pub fn put_record(
     Answer::Written(front + rest)
 }
 
-// Decides a sheet that was checked. `named` is lent for the facts of the clause that decides.
-fn decide_with(sheet: &[u32], facts: &[u8], named: &mut [u16], out: &mut [u32]) -> Answer
-    requires { ⌜ (length (now sheet) ≤ 4096) × (length (now sheet) ≤ length (now named)) × (min (2 * length (now sheet)) mostListed ≤ length (now named)) ⌝ }
+// A sheet has at most so many levels.
+const LEVELS: usize = 32;
+
+// Decides a sheet that was checked, of at most `depth` levels: a sheet of few words has no more levels than words. `buf` is lent for united
+// obligations, and `named` for the facts of the clause that decides.
+fn decide_with(
+    sheet: &[u32],
+    facts: &[u8],
+    depth: usize,
+    buf: &mut [u8],
+    named: &mut [u16],
+    out: &mut [u32],
+) -> Answer
+    requires { ⌜ (length (now sheet) ≤ 4096) × (depth ≤ 32) × (min 32 (length (now sheet)) ≤ depth) × (64 * (depth + 1) ≤ length (now buf)) × (length (now sheet) ≤ length (now named)) × (min (2 * length (now sheet)) mostListed ≤ length (now named)) ⌝ }
     ensures { λ r. ⌜ Decides (now (sheet .entry)) (tableOf (now (facts .entry))) (now (out .entry)) (now (out .exit)) r ⌝ }
 {
     let mut entries = [0u16; 1024];
     let mut seen = [0u8; 1024];
-    let mut buf = [0u8; 2112];
-    let eval = evaluate::eval_policy(sheet, 0, 32, facts, &mut entries, &mut seen, 0, &mut buf);
+    let eval = evaluate::eval_policy(sheet, 0, depth, facts, &mut entries, &mut seen, 0, buf);
     put_record(
         sheet,
         eval.decision,
         facts,
         &entries,
         eval.count,
-        &mut buf,
+        buf,
         named,
         out,
     )
 }
 
-// The same of a small sheet, with a short list: to clear a long one would take longer than to decide.
+// The same of a sheet of few words: to clear a long list would take longer than to decide.
+fn decide_few(sheet: &[u32], facts: &[u8], out: &mut [u32]) -> Answer
+    requires { ⌜ length (now sheet) ≤ 7 ⌝ }
+    ensures { λ r. ⌜ Decides (now (sheet .entry)) (tableOf (now (facts .entry))) (now (out .entry)) (now (out .exit)) r ⌝ }
+{
+    let mut buf = [0u8; 512];
+    let mut named = [0u16; 16];
+    decide_with(sheet, facts, 7, &mut buf, &mut named, out)
+}
+
+// The same of a small sheet.
 fn decide_small(sheet: &[u32], facts: &[u8], out: &mut [u32]) -> Answer
     requires { ⌜ length (now sheet) ≤ 64 ⌝ }
     ensures { λ r. ⌜ Decides (now (sheet .entry)) (tableOf (now (facts .entry))) (now (out .entry)) (now (out .exit)) r ⌝ }
 {
+    let mut buf = [0u8; 2112];
     let mut named = [0u16; 128];
-    decide_with(sheet, facts, &mut named, out)
+    decide_with(sheet, facts, LEVELS, &mut buf, &mut named, out)
 }
 
 // The same of any sheet.
@@ -87,11 +108,15 @@ fn decide(sheet: &[u32], facts: &[u8], out: &mut [u32]) -> Answer
     requires { ⌜ length (now sheet) ≤ 4096 ⌝ }
     ensures { λ r. ⌜ Decides (now (sheet .entry)) (tableOf (now (facts .entry))) (now (out .entry)) (now (out .exit)) r ⌝ }
 {
+    if sheet.len() <= 7 {
+        return decide_few(sheet, facts, out);
+    }
     if sheet.len() <= 64 {
         return decide_small(sheet, facts, out);
     }
+    let mut buf = [0u8; 2112];
     let mut named = [0u16; 4096];
-    decide_with(sheet, facts, &mut named, out)
+    decide_with(sheet, facts, LEVELS, &mut buf, &mut named, out)
 }
 
 // Decides a sheet with a known table.

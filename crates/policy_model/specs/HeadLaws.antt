@@ -5,7 +5,7 @@ use mathlib.Core.Option.{Option, none, some}
 use mathlib.Core.List.{List, [], _∷_}
 use Prim.Native.Nat.{ℕ, zero, suc, _+_, _-_, _/_, _%_, _≤_, _<_}
 use native.Mathlib.Omega.{arith}
-use borrow.Author.Tests.{leb-true, leb-false, ltb-true, ltb-false, le-leb, lt-leb, lt-ltb, le-ltb}
+use borrow.Author.Tests.{eq-eqb, leb-true, leb-false, ltb-true, ltb-false, le-leb, lt-leb, lt-ltb, le-ltb}
 use lib.Dec.{eqb, ltb, leb}
 use lib.ListN.{length, getD, List·getD-eq-default}
 use Rattle.model.specs.Outcome.{productSets}
@@ -241,3 +241,27 @@ deep-at res k r false e = refl
 pub policy-deep : (res : Bool) (w : ℕ) (ws : List ℕ) → readPolicy (productSets .value) res zero (w ∷ ws) ≡ refuse (deepPolicy (policyHead w res))
 unfolding policyHead
 policy-deep res w ws = deep-at res (kindOf w) (restOf w) (leb 6 (kindOf w)) refl
+
+-- A word that one division shows to be a Permit.
+pub permit-word : (w : ℕ) (res : Bool) → w / 65536 ≡ 24576 → Permit (w % 65536) ≡ policyHead w res
+unfolding policyHead permitHead
+permit-word w res e =
+    let k : w / 268435456 ≡ 6 = omega arith in
+    let none : (w % 268435456) / 65536 ≡ 0 = omega arith in
+    let same : (w % 268435456) % 65536 ≡ w % 65536 = omega arith in
+    rw (k, eq-eqb ((w % 268435456) / 65536) 0 none, same)
+
+-- And to be an All, or an Any.
+pub all-word : (w : ℕ) (res : Bool) → w / 4096 ≡ 589824 → policy.All (w % 4096) ≡ policyHead w res
+unfolding policyHead
+all-word w res e =
+    let k : w / 268435456 ≡ 9 = omega arith in
+    let same : w % 268435456 ≡ w % 4096 = omega arith in
+    rw (k, same, lt-ltb (w % 4096) 4096 (omega arith))
+
+pub any-word : (w : ℕ) (res : Bool) → w / 4096 ≡ 655360 → policy.Any (w % 4096) ≡ policyHead w res
+unfolding policyHead
+any-word w res e =
+    let k : w / 268435456 ≡ 10 = omega arith in
+    let same : w % 268435456 ≡ w % 4096 = omega arith in
+    rw (k, same, lt-ltb (w % 4096) 4096 (omega arith))

@@ -10,6 +10,7 @@ use Rattle.model.specs.Reading.{Parsed, refuse, got, next, unless, many}
 use Rattle.model.specs.Required.{factSet}
 use Rattle.laws.specs.FieldLaws.{Holds}
 use Rattle.required.specs.Sets.{Grown, Walked, Collected}
+use Rattle.required.specs.Arms.{Onward}
 
 pub grown-none : (s : List ℕ) → Grown (λ f. false) s s
 grown-none s = record { grown = λ named e. e ∙ ap factSet (λ i f. sym (or-false (named f)) i) }
@@ -40,9 +41,9 @@ refused-either size names at end s t false n m = tt
 pub left-of : (xs vs us : List ℕ) (n : ℕ) → length xs ≡ n → xs ++ vs ≡ us → vs ≡ drop n us
 left-of xs vs us n h e = sym (drop-at xs vs n h) ∙ ap (drop n) e
 
--- The loop over arms: what answers for the arms that are left answers for all.
-pub record Onward {B : Type 0} (sizes : B → ℕ) (namess : ℕ → B → Bool) (arms : ℕ → List ℕ → Parsed B) (sheet : List ℕ) (from count : ℕ) (s : List ℕ) (at left : ℕ) (t : List ℕ) : Type 0 where
-  pub onward : (u : List ℕ) (end : ℕ) → Collected sizes namess at t u (arms left (drop at sheet)) end → Collected sizes namess from s u (arms count (drop from sheet)) end
+pub onward-then : {B : Type 0} {sizes : B → ℕ} {namess : ℕ → B → Bool} {arms : ℕ → List ℕ → Parsed B} {sheet : List ℕ} (from count : ℕ) (s : List ℕ) (mid some : ℕ) (t : List ℕ) (at left : ℕ) (u : List ℕ) →
+    Onward sizes namess arms sheet from count s mid some t → Onward sizes namess arms sheet mid some t at left u → Onward sizes namess arms sheet from count s at left u
+onward-then from count s mid some t at left u o v = record { onward = λ x end w. o .onward x end (v .onward x end w) }
 
 -- Arms that are read by p, the words of each and the facts that it names; and the same of a list of arms.
 module _ {A B : Type 0} (nil : B) (cons : A → B → B) (size : A → ℕ) (sizes : B → ℕ) (names : ℕ → A → Bool) (namess : ℕ → B → Bool)

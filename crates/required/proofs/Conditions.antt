@@ -23,16 +23,14 @@ use Rattle.policy_model.specs.Heads.{conditionHeads, conditionHead, conditionNo
 use Rattle.policy_model.specs.HeadLaws.{condition-node}
 use Rattle.required.specs.Sets.{Grown, Walked, Collected}
 use Rattle.required.specs.Nodes.{conditionArms}
-use Rattle.required.proofs.Arms.{grown-none, grown-as, walked-then, walked-as, refused-either, left-of, Onward, onward-more, onward-end}
+use Rattle.required.specs.Arms.{OnwardC}
+use Rattle.required.proofs.Arms.{grown-none, grown-as, walked-then, walked-as, refused-either, left-of, onward-more, onward-end}
 
 -- What a condition leaves begins where its words end.
 pub condition-left : (d : ℕ) (us : List ℕ) → Holds (λ c vs. vs ≡ drop (wordsC c) us) (readCondition d us)
 condition-left d us = weaker (readCondition d us) (λ c vs e. left-of (encodeC c) vs us (wordsC c) (length-encodeC c) e) (same-C d us)
 
--- The loop over a condition's arms.
-abbrev pub OnwardC : ℕ → List ℕ → ℕ → ℕ → List ℕ → ℕ → ℕ → List ℕ → Type 0
-OnwardC d sheet from count s at left t = Onward wordsCs namesCs (many cnil ccons (λ vs. readCondition d vs)) sheet from count s at left t
-
+-- The loop over its arms.
 module _ (d : ℕ) (sheet : List ℕ) where
   pub onward-more-C : (from count : ℕ) (s : List ℕ) (at left : ℕ) (t u : List ℕ) (mid : ℕ) → (left ≡ 0 → ⊥) → Collected wordsC namesC at t u (readCondition d (drop at sheet)) mid →
       OnwardC d sheet from count s at left t → OnwardC d sheet from count s mid (left - 1) u
@@ -149,3 +147,9 @@ module _ (sheet : List ℕ) (at depth : ℕ) (s : List ℕ) (inside : at < lengt
       let v : Collected wordsCs namesCs (at + 1) s u (many cnil ccons p (conditionArms h) ws) end =
       subst (λ k. Collected wordsCs namesCs (at + 1) s u (many cnil ccons p k ws) end) n (onward-end-C (depth - 1) sheet (at + 1) count s end left u z o) in
       subst (λ q. Collected wordsC namesC at s u q end) (ap (λ k. conditionNode p k ws) e ∙ sym (condition-here sheet at depth inside some)) (condition-facts p ws at end s s u h g v)
+
+-- A Has, at whatever level it stands.
+pub has-here : (sheet : List ℕ) (at depth : ℕ) (s t : List ℕ) → at < length sheet → getD sheet at 0 / 1024 ≡ 524288 → Grown (λ f. eqb f (getD sheet at 0 % 1024)) s t →
+    Collected wordsC namesC at s t (readCondition depth (drop at sheet)) (at + 1)
+has-here sheet at zero s t inside e g = condition-deep sheet at 0 s t (at + 1) inside refl
+has-here sheet at (suc d) s t inside e g = has-walked sheet at (suc d) s inside (λ z. let b : ⊥ = omega arith in b) t e g

@@ -27,11 +27,12 @@ use Rattle.policy_model.specs.declared.PolicyHead.{PolicyHead}
 use Rattle.policy_model.specs.declared.PolicyHead.the-variants.{Permit, Deny, Grant, OrElse, PermitWithTrace, DenyWithTrace}
 use Rattle.policy_model.specs.declared.PolicyHead.the-variants as policy
 use Rattle.policy_model.specs.Heads.{permitTraceNode, denyTraceNode, grantNode, policyHead, policyNode}
-use Rattle.policy_model.specs.HeadLaws.{policy-node}
+use Rattle.policy_model.specs.HeadLaws.{policy-node, permit-word}
 use Rattle.required.specs.Sets.{Walked, Collected}
 use Rattle.required.specs.Nodes.{policyArms, Ended, OwnFacts}
 use Rattle.required.specs.Answers.{setAfter, FactsOf}
-use Rattle.required.proofs.Arms.{grown-none, walked-then, walked-as, refused-either, left-of, Onward, onward-more, onward-end}
+use Rattle.required.specs.Arms.{OnwardP}
+use Rattle.required.proofs.Arms.{grown-none, walked-then, walked-as, refused-either, left-of, onward-more, onward-end}
 
 -- What a policy leaves begins where its words end.
 pub policy-left : (res : Bool) (d : ℕ) (us : List ℕ) → Holds (λ t vs. vs ≡ drop (words t) us) (readPolicy (productSets .value) res d us)
@@ -39,10 +40,7 @@ policy-left res d us =
     weaker (readPolicy (productSets .value) res d us) (λ t vs e. left-of (encode (productSets .number) t) vs us (words t) (length-encode (productSets .number) t) e)
     (same-T (productSets .number) (productSets .value) (writtenProducts .only) res d us)
 
--- The loop over a policy's arms.
-abbrev pub OnwardP : Bool → ℕ → List ℕ → ℕ → ℕ → List ℕ → ℕ → ℕ → List ℕ → Type 0
-OnwardP res d sheet from count s at left t = Onward wordss namess (many pnil pcons (λ vs. readPolicy (productSets .value) res d vs)) sheet from count s at left t
-
+-- The loop over its arms.
 module _ (res : Bool) (d : ℕ) (sheet : List ℕ) where
   pub onward-more-P : (from count : ℕ) (s : List ℕ) (at left : ℕ) (t u : List ℕ) (mid : ℕ) → (left ≡ 0 → ⊥) →
       Collected words names at t u (readPolicy (productSets .value) res d (drop at sheet)) mid → OnwardP res d sheet from count s at left t → OnwardP res d sheet from count s mid (left - 1) u
@@ -289,6 +287,17 @@ module _ (pc : List ℕ → Parsed Condition) (sheet : List ℕ) (at : ℕ) (s :
         OwnFacts pc h (drop (at + 1) sheet) at s s end
     unfolding OwnFacts policyNode
     own-deny-trace end hidden denied o e c = own-as s end (DenyWithTrace hidden denied o) e (stored-facts sheet at end s (denyTraceNode hidden denied o (drop (at + 1) sheet)) c)
+
+-- A Permit is one word, at whatever level it stands, and names nothing.
+pub permit-here : (res : Bool) (sheet : List ℕ) (at depth : ℕ) (s : List ℕ) → at < length sheet → getD sheet at 0 / 65536 ≡ 24576 →
+    Collected words names at s s (readPolicy (productSets .value) res depth (drop at sheet)) (at + 1)
+unfolding policyArms
+permit-here res sheet at zero s inside e = policy-deep res sheet at 0 s s (at + 1) inside refl
+permit-here res sheet at (suc d) s inside e =
+    let o = getD sheet at 0 % 65536 in
+    let pc : List ℕ → Parsed Condition = λ vs. readCondition (suc d - 1) vs in
+    policy-walked res sheet at (suc d) (at + 1) (at + 1) s s s (Permit o) 0 0 inside (λ z. let b : ⊥ = omega arith in b) (permit-word (getD sheet at 0) res e) (of-one-word pc sheet at s (Permit o) tt) refl refl
+    (record { onward = λ u end w. w })
 
 -- ---- a policy's facts, from an empty set on
 empty-set : replicate 16 0 ≡ factSet (λ f. false)

@@ -2,3 +2,4 @@ pub mod Sets
 pub mod SetLaws
 pub mod Nodes
 pub mod Answers
+pub mod Arms

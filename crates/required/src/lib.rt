@@ -19,6 +19,7 @@ ghost use Rattle.laws.specs.Size.{wordsC, words as wordsP};
 ghost use Rattle.policy_model.specs.Heads.{permitTraceNode, denyTraceNode};
 ghost use Rattle.required.specs.Sets.{Grown, Collected};
 ghost use Rattle.required.specs.Nodes.{conditionArms, policyArms, Ended, OwnFacts};
+ghost use Rattle.required.specs.Arms.{PassedHas, PassedPermits};
 ghost use Rattle.required.specs.Answers.{setAfter, FactsOf, Answered, treeOf};
 
 // Puts a fact into the set. A set that is too short for it is left as it was.
@@ -47,6 +48,33 @@ fn condition_arms(head: ConditionHead) -> u32
     }
 }
 
+// Where arms that were passed over end, and how many are left.
+struct Passed {
+    next: usize,
+    left: u32,
+}
+
+// Adds the facts of the Has that come first among `count` arms from `at` on. Most arms are, so the walk calls itself for the others alone.
+fn collect_has_facts(words: &[u32], at: usize, count: u32, set: &mut [u64]) -> Passed
+    ensures { λ r. ⌜ PassedHas (now (words .entry)) at count (now (set .entry)) (now (set .exit)) r ⌝ }
+{
+    let mut next = at;
+    let mut left = count;
+    while left != 0 {
+        if words.len() <= next {
+            return Passed { next, left };
+        }
+        let word = words[next];
+        if word / 1024 != 524288 {
+            return Passed { next, left };
+        }
+        insert(set, word % 1024);
+        next += 1;
+        left -= 1;
+    }
+    Passed { next, left }
+}
+
 // Adds the facts of the condition at `at`, of at most `depth` levels, and returns the index of the word after it.
 pub fn collect_condition_facts(words: &[u32], at: usize, depth: usize, set: &mut [u64]) -> usize
     ensures { λ r. ⌜ Collected wordsC namesC at (now (set .entry)) (now (set .exit)) (readCondition depth (drop at (now (words .entry)))) r ⌝ }
@@ -66,10 +94,31 @@ pub fn collect_condition_facts(words: &[u32], at: usize, depth: usize, set: &mut
     let mut left = condition_arms(policy_model::condition_head(word));
     let mut next = at + 1;
     while left != 0 {
+        let passed = collect_has_facts(words, next, left, set);
+        next = passed.next;
+        left = passed.left;
+        if left == 0 {
+            return next;
+        }
         next = collect_condition_facts(words, next, depth - 1, set);
         left -= 1;
     }
     next
+}
+
+// The same of a grant's condition. Most are a Has, seen here with no call.
+fn collect_grant_facts(words: &[u32], at: usize, depth: usize, set: &mut [u64]) -> usize
+    ensures { λ r. ⌜ Collected wordsC namesC at (now (set .entry)) (now (set .exit)) (readCondition depth (drop at (now (words .entry)))) r ⌝ }
+{
+    if words.len() <= at {
+        return at;
+    }
+    let word = words[at];
+    if word / 1024 == 524288 {
+        insert(set, word % 1024);
+        return at + 1;
+    }
+    collect_condition_facts(words, at, depth, set)
 }
 
 // Where a PermitWithTrace ends: two words, its obligations and its facts.
@@ -116,7 +165,7 @@ fn collect_own_facts(
             hidden: _,
             obligations,
             outcome: _,
-        } => collect_condition_facts(words, at + 2 + (obligations as usize + 3) / 4, depth, set),
+        } => collect_grant_facts(words, at + 2 + (obligations as usize + 3) / 4, depth, set),
         PolicyHead::All(_) => at + 1,
         PolicyHead::Any(_) => at + 1,
         PolicyHead::OrElse => at + 1,
@@ -163,6 +212,25 @@ fn policy_arms(head: PolicyHead) -> u32
     }
 }
 
+// Passes over the Permits that come first among `count` arms from `at` on.
+fn pass_permits(words: &[u32], at: usize, count: u32) -> Passed
+    ensures { λ r. ⌜ PassedPermits (now (words .entry)) at count r ⌝ }
+{
+    let mut next = at;
+    let mut left = count;
+    while left != 0 {
+        if words.len() <= next {
+            return Passed { next, left };
+        }
+        if words[next] / 65536 != 24576 {
+            return Passed { next, left };
+        }
+        next += 1;
+        left -= 1;
+    }
+    Passed { next, left }
+}
+
 // Adds the facts of the policy at `at`, of at most `depth` levels, and returns the index of the word after it.
 pub fn collect_policy_facts(
     words: &[u32],
@@ -183,6 +251,12 @@ pub fn collect_policy_facts(
     let mut next = collect_own_facts(words, at, depth - 1, head, set);
     let mut left = policy_arms(head);
     while left != 0 {
+        let passed = pass_permits(words, next, left);
+        next = passed.next;
+        left = passed.left;
+        if left == 0 {
+            return next;
+        }
         next = collect_policy_facts(words, next, depth - 1, residual, set);
         left -= 1;
     }

@@ -13,20 +13,15 @@ slice-aggregate-eval-policy c = search needs
 slice-aggregate-eval-policy-2 : tie.Need-slice-aggregate-eval-policy-2
 slice-aggregate-eval-policy-2 c = search needs
 
-slice-aggregate-eval-policy-3 : tie.Need-slice-aggregate-eval-policy-3
-slice-aggregate-eval-policy-3 c = search needs
-
 eval-policy-requires : tie.Need-eval-policy-requires
-eval-policy-requires c κs = (first-room _ (le-refl 1024), search needs, search needs, search needs)
+eval-policy-requires c κs = (first-room _ (le-refl 1024), search needs, search needs, omega (arith, c .before .before .before .before .before .before .before .before .pre .0))
 
 slice-aggregate-put-record : tie.Need-slice-aggregate-put-record
 slice-aggregate-put-record c = search needs
 
-slice-aggregate-put-record-2 : tie.Need-slice-aggregate-put-record-2
-slice-aggregate-put-record-2 c = search needs
-
 put-record-requires : tie.Need-put-record-requires
-put-record-requires c κs = (search needs, search needs, search needs, search needs, omega (arith, slice-aggregate-put-record (c .before .before .before), few-entries _ _ (c .before .before .before .before .before .before .before .eval-policy .ensures .room)), omega (arith, slice-aggregate-put-record (c .before .before .before)))
+put-record-requires c κs =
+    (search needs, search needs, search needs, search needs, omega (arith, slice-aggregate-put-record (c .before .before .before), few-entries _ _ (c .before .before .before .before .before .before .before .before .eval-policy .ensures .room)), omega (arith, slice-aggregate-put-record (c .before .before .before)))
 
 same-length : tie.Need-same-length
 same-length c = search needs
@@ -34,8 +29,14 @@ same-length c = search needs
 same-length-2 : tie.Need-same-length-2
 same-length-2 c = search needs
 
+same-length-3 : tie.Need-same-length-3
+same-length-3 c = search needs
+
 returns : tie.Need-returns
-returns c = decides (c .before .before .before .before .before .before .before .before .before .before .before .before .before .eval-policy .ensures) (no-facts _) (c .before .before .before .before .before .put-record .ensures)
+returns c =
+    let put = c .before .before .before .before .before .before in
+    let eval = put .before .before .before .before .before .before .before .before .before in
+    decides _ (eval .before .before .before .before .before .before .before .before .before .pre .2) (eval .eval-policy .ensures) (no-facts _) (put .put-record .ensures)
 
 pub decide-with-spec : {M : Type 1} → statement M
 decide-with-spec =
@@ -43,11 +44,10 @@ decide-with-spec =
     (tie.spec
     slice-aggregate-eval-policy
     slice-aggregate-eval-policy-2
-    slice-aggregate-eval-policy-3
     eval-policy-requires
     slice-aggregate-put-record
-    slice-aggregate-put-record-2
     put-record-requires
     same-length
     same-length-2
+    same-length-3
     returns)

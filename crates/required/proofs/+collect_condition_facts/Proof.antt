@@ -4,13 +4,17 @@ use borrow.Author.Needs.{needs}
 use mathlib.Core.Path.{_≡_, refl}
 use Prim.Native.Nat.{ℕ, _-_, _<_}
 use lib.ListN.{length}
-use Rattle.required.proofs.Conditions.{OnwardC, onward-more-C, condition-past, condition-deep, has-walked, condition-walked}
+use native.Mathlib.Omega.{arith}
+use Rattle.required.specs.Arms.{OnwardC}
+use Rattle.required.proofs.Arms.{onward-then}
+use Rattle.required.proofs.Conditions.{onward-more-C, condition-past, condition-deep, has-walked, condition-walked}
 use borrow.Fn.Kinds.{In}
 use borrow.Fn.PlainCycle.{Measures, is, falls, and}
 use Rattle.required.proofs.collect_condition_facts.Reads as reads
 use Rattle.required.proofs.collect_condition_facts.Kinds as kinds
 use Rattle.required.proofs.+collect_condition_facts.Lts-collect_condition_facts as lts
 use Rattle.policy_model.proofs.condition_head.Reads as condition-head-reads
+use Rattle.required.proofs.collect_has_facts.Reads as collect-has-facts-reads
 use Rattle.required.proofs.condition_arms.Reads as condition-arms-reads
 use Rattle.required.proofs.insert.Reads as insert-reads
 use Rattle.required.proofs.+collect_condition_facts.{statement}
@@ -34,7 +38,7 @@ module _ (t : ℕ) where
 
   -- what it calls
   abbrev calls : lts.Claims
-  calls = (insert-reads.Asked, insert-reads.Learnt, condition-head-reads.Asked, condition-head-reads.Learnt, condition-arms-reads.Asked, condition-arms-reads.Learnt, below, reads.Post)
+  calls = (insert-reads.Asked, insert-reads.Learnt, condition-head-reads.Asked, condition-head-reads.Learnt, condition-arms-reads.Asked, condition-arms-reads.Learnt, collect-has-facts-reads.Asked, collect-has-facts-reads.Learnt, below, reads.Post)
 
   returns : lts.Need-returns calls here reads.Post Inv-loop μ-loop
   returns c =
@@ -81,6 +85,24 @@ module _ (t : ℕ) where
   loop-holds : lts.Need-loop-holds calls here reads.Post Inv-loop μ-loop
   loop-holds c = (refl, record { onward = λ u end w. w })
 
+  has-facts-requires : lts.Need-collect-has-facts-requires calls here reads.Post Inv-loop μ-loop
+  has-facts-requires c κs = search needs
+
+  same-length-2 : lts.Need-same-length-2 calls here reads.Post Inv-loop μ-loop
+  same-length-2 c = search needs
+
+  returns-4 : lts.Need-returns-4 calls here reads.Post Inv-loop μ-loop
+  returns-4 c =
+      let has = c .before .before .before in
+      let at-loop = has .before .before .before in
+      let arms = at-loop .before in
+      let head = arms .before in
+      let test = head .before in
+      let level = test .before .before in
+      let a = level .before .before .before .before .args in
+      condition-walked (a .words .now) (a .at) (a .depth) _ (level .before .if1 .left) (level .if2 .left) _ _ _ _ _ (test .if3 .left) (head .condition-head .ensures) (arms .condition-arms .ensures)
+      (c .if4 .taken) (onward-then _ _ _ _ _ _ _ _ _ (at-loop .loop .inv .1) (has .collect-has-facts .ensures .goes-on (a .depth - 1)))
+
   sub-collect-condition-facts : lts.Need-sub-collect-condition-facts calls here reads.Post Inv-loop μ-loop
   sub-collect-condition-facts c = search needs
 
@@ -91,19 +113,29 @@ module _ (t : ℕ) where
   sub-left c = search needs
 
   loop-less : lts.Need-loop-less calls here reads.Post Inv-loop μ-loop
-  loop-less c = search needs
+  loop-less c =
+      let test = c .before .before .before .before in
+      let has = test .before .before .before in
+      let fewer = has .collect-has-facts .ensures .fewer in
+      omega (arith, fewer, test .if4 .left)
 
   loop-again : lts.Need-loop-again calls here reads.Post Inv-loop μ-loop
   loop-again c =
       let turn = c .before .before in
-      let a = turn .before .before .before .before .before .before .before .before .before .before .before .before .args in
-      (search needs, onward-more-C (a .depth - 1) _ _ _ _ _ _ _ _ _ (turn .before .before .loop-test .taken) (turn .collect-condition-facts .ensures) (turn .before .before .before .loop .inv .1))
+      let test = turn .before .before in
+      let has = test .before .before .before in
+      let at-loop = has .before .before .before in
+      let a = at-loop .before .before .before .before .before .before .before .before .before .args in (
+        search needs,
+        onward-more-C (a .depth - 1) _ _ _ _ _ _ _ _ _ (test .if4 .left) (turn .collect-condition-facts .ensures)
+            (onward-then _ _ _ _ _ _ _ _ _ (at-loop .loop .inv .1) (has .collect-has-facts .ensures .goes-on (a .depth - 1))),
+      )
 
-  same-length-2 : lts.Need-same-length-2 calls here reads.Post Inv-loop μ-loop
-  same-length-2 c = search needs
+  same-length-3 : lts.Need-same-length-3 calls here reads.Post Inv-loop μ-loop
+  same-length-3 c = search needs
 
-  returns-4 : lts.Need-returns-4 calls here reads.Post Inv-loop μ-loop
-  returns-4 c =
+  returns-5 : lts.Need-returns-5 calls here reads.Post Inv-loop μ-loop
+  returns-5 c =
       let arms = c .before .before in
       let head = arms .before in
       let test = head .before in
@@ -128,10 +160,13 @@ pub +collect-condition-facts-spec : {M : Type 1} → statement M
     (condition-arms-requires t)
     (add-next t)
     (loop-holds t)
+    (has-facts-requires t)
+    (same-length-2 t)
+    (returns-4 t)
     (sub-collect-condition-facts t)
     (collect-condition-facts-requires t)
     (sub-left t)
     (loop-less t)
     (loop-again t)
-    (same-length-2 t)
-    (returns-4 t))
+    (same-length-3 t)
+    (returns-5 t))

@@ -4,7 +4,10 @@ use borrow.Author.Needs.{needs}
 use mathlib.Core.Path.{_≡_, refl}
 use Prim.Native.Nat.{ℕ, _-_, _<_}
 use lib.ListN.{length}
-use Rattle.required.proofs.Policies.{OnwardP, onward-more-P, policy-past, policy-deep, policy-walked}
+use native.Mathlib.Omega.{arith}
+use Rattle.required.specs.Arms.{OnwardP}
+use Rattle.required.proofs.Arms.{onward-then}
+use Rattle.required.proofs.Policies.{onward-more-P, policy-past, policy-deep, policy-walked}
 use borrow.Fn.Kinds.{In}
 use borrow.Fn.PlainCycle.{Measures, is, falls, and}
 use Rattle.required.proofs.collect_policy_facts.Reads as reads
@@ -12,6 +15,7 @@ use Rattle.required.proofs.collect_policy_facts.Kinds as kinds
 use Rattle.required.proofs.+collect_policy_facts.Lts-collect_policy_facts as lts
 use Rattle.policy_model.proofs.policy_head.Reads as policy-head-reads
 use Rattle.required.proofs.collect_own_facts.Reads as collect-own-facts-reads
+use Rattle.required.proofs.pass_permits.Reads as pass-permits-reads
 use Rattle.required.proofs.policy_arms.Reads as policy-arms-reads
 use Rattle.required.proofs.+collect_policy_facts.{statement}
 use Rattle.required.proofs.+collect_policy_facts.Tie.{close}
@@ -34,7 +38,7 @@ module _ (t : ℕ) where
 
   -- what it calls
   abbrev calls : lts.Claims
-  calls = (policy-head-reads.Asked, policy-head-reads.Learnt, collect-own-facts-reads.Asked, collect-own-facts-reads.Learnt, policy-arms-reads.Asked, policy-arms-reads.Learnt, below, reads.Post)
+  calls = (policy-head-reads.Asked, policy-head-reads.Learnt, collect-own-facts-reads.Asked, collect-own-facts-reads.Learnt, policy-arms-reads.Asked, policy-arms-reads.Learnt, pass-permits-reads.Asked, pass-permits-reads.Learnt, below, reads.Post)
 
   returns : lts.Need-returns calls here reads.Post Inv-loop μ-loop
   returns c =
@@ -67,6 +71,24 @@ module _ (t : ℕ) where
   loop-holds : lts.Need-loop-holds calls here reads.Post Inv-loop μ-loop
   loop-holds c = (refl, record { onward = λ u end w. w })
 
+  pass-permits-requires : lts.Need-pass-permits-requires calls here reads.Post Inv-loop μ-loop
+  pass-permits-requires c κs = search needs
+
+  same-length : lts.Need-same-length calls here reads.Post Inv-loop μ-loop
+  same-length c = search needs
+
+  returns-3 : lts.Need-returns-3 calls here reads.Post Inv-loop μ-loop
+  returns-3 c =
+      let pass = c .before in
+      let at-loop = pass .before .before in
+      let arms = at-loop .before in
+      let own = arms .before .before .before in
+      let head = own .before .before in
+      let test = head .before .before in
+      let a = test .before .before .before .before .args in
+      policy-walked (a .residual) (a .words .now) (a .at) (a .depth) _ _ _ _ _ _ _ _ (test .before .if1 .left) (test .if2 .left) (head .policy-head .ensures) (own .collect-own-facts .ensures)
+      (arms .policy-arms .ensures) (c .if3 .taken) (onward-then _ _ _ _ _ _ _ _ _ (at-loop .loop .inv .1) (pass .pass-permits .ensures .goes-on (a .residual) (a .depth - 1) _))
+
   sub-collect-policy-facts : lts.Need-sub-collect-policy-facts calls here reads.Post Inv-loop μ-loop
   sub-collect-policy-facts c = search needs
 
@@ -77,19 +99,28 @@ module _ (t : ℕ) where
   sub-left c = search needs
 
   loop-less : lts.Need-loop-less calls here reads.Post Inv-loop μ-loop
-  loop-less c = search needs
+  loop-less c =
+      let test = c .before .before .before .before in
+      let fewer = test .before .pass-permits .ensures .fewer in
+      omega (arith, fewer, test .if3 .left)
 
   loop-again : lts.Need-loop-again calls here reads.Post Inv-loop μ-loop
   loop-again c =
       let turn = c .before .before in
-      let a = turn .before .before .before .before .before .before .before .before .before .before .before .before .before .before .before .args in
-      (search needs, onward-more-P (a .residual) (a .depth - 1) _ _ _ _ _ _ _ _ _ (turn .before .before .loop-test .taken) (turn .collect-policy-facts .ensures) (turn .before .before .before .loop .inv .1))
+      let test = turn .before .before in
+      let pass = test .before in
+      let at-loop = pass .before .before in
+      let a = at-loop .before .before .before .before .before .before .before .before .before .before .before .before .args in (
+        search needs,
+        onward-more-P (a .residual) (a .depth - 1) _ _ _ _ _ _ _ _ _ (test .if3 .left) (turn .collect-policy-facts .ensures)
+            (onward-then _ _ _ _ _ _ _ _ _ (at-loop .loop .inv .1) (pass .pass-permits .ensures .goes-on (a .residual) (a .depth - 1) _)),
+      )
 
-  same-length : lts.Need-same-length calls here reads.Post Inv-loop μ-loop
-  same-length c = search needs
+  same-length-2 : lts.Need-same-length-2 calls here reads.Post Inv-loop μ-loop
+  same-length-2 c = search needs
 
-  returns-3 : lts.Need-returns-3 calls here reads.Post Inv-loop μ-loop
-  returns-3 c =
+  returns-4 : lts.Need-returns-4 calls here reads.Post Inv-loop μ-loop
+  returns-4 c =
       let arms = c .before .before in
       let own = arms .before .before .before in
       let head = own .before .before in
@@ -111,10 +142,13 @@ pub +collect-policy-facts-spec : {M : Type 1} → statement M
     (collect-own-facts-requires t)
     (policy-arms-requires t)
     (loop-holds t)
+    (pass-permits-requires t)
+    (same-length t)
+    (returns-3 t)
     (sub-collect-policy-facts t)
     (collect-policy-facts-requires t)
     (sub-left t)
     (loop-less t)
     (loop-again t)
-    (same-length t)
-    (returns-3 t))
+    (same-length-2 t)
+    (returns-4 t))

@@ -21,20 +21,20 @@ add-result-2 c = search needs
 enum-known-head : tie.Need-enum-known-head
 enum-known-head c = search needs
 
-add-collect-condition-facts : tie.Need-add-collect-condition-facts
-add-collect-condition-facts c = search needs
+add-collect-grant-facts : tie.Need-add-collect-grant-facts
+add-collect-grant-facts c = search needs
 
-cast-collect-condition-facts : tie.Need-cast-collect-condition-facts
-cast-collect-condition-facts c = search needs
+cast-collect-grant-facts : tie.Need-cast-collect-grant-facts
+cast-collect-grant-facts c = search needs
 
-add-collect-condition-facts-2 : tie.Need-add-collect-condition-facts-2
-add-collect-condition-facts-2 c = search needs
+add-collect-grant-facts-2 : tie.Need-add-collect-grant-facts-2
+add-collect-grant-facts-2 c = search needs
 
-add-collect-condition-facts-3 : tie.Need-add-collect-condition-facts-3
-add-collect-condition-facts-3 c = search needs
+add-collect-grant-facts-3 : tie.Need-add-collect-grant-facts-3
+add-collect-grant-facts-3 c = search needs
 
-collect-condition-facts-requires : tie.Need-collect-condition-facts-requires
-collect-condition-facts-requires c κs = search needs
+collect-grant-facts-requires : tie.Need-collect-grant-facts-requires
+collect-grant-facts-requires c κs = search needs
 
 enum-told-3 : tie.Need-enum-told-3
 enum-told-3 c = search needs
@@ -88,7 +88,7 @@ same-length : tie.Need-same-length
 same-length c = search needs
 
 returns-3 : tie.Need-returns-3
-returns-3 c = own-grant _ (c .before .before .before .before .before .before .before .before .before .args .words .now) _ _ _ _ _ _ _ _ (c .before .before .before .before .before .head .given .1) (c .before .before .collect-condition-facts .ensures)
+returns-3 c = own-grant _ (c .before .before .before .before .before .before .before .before .before .args .words .now) _ _ _ _ _ _ _ _ (c .before .before .before .before .before .head .given .1) (c .before .before .collect-grant-facts .ensures)
 
 returns-4 : tie.Need-returns-4
 returns-4 c = let a = c .before .before .before .before .args in own-word _ (a .words .now) (a .at) (a .set .now) _ (policy.All _) (c .enum-told3 .given .1) tt
@@ -120,11 +120,11 @@ collect-own-facts-spec =
     enum-told-2
     add-result-2
     enum-known-head
-    add-collect-condition-facts
-    cast-collect-condition-facts
-    add-collect-condition-facts-2
-    add-collect-condition-facts-3
-    collect-condition-facts-requires
+    add-collect-grant-facts
+    cast-collect-grant-facts
+    add-collect-grant-facts-2
+    add-collect-grant-facts-3
+    collect-grant-facts-requires
     enum-told-3
     add-result-3
     enum-told-4

@@ -1,4 +1,4 @@
--- `policy_model::check_policy` and `policy_model::check_policies` meet their contracts. The loop's invariant: what is asked of the policies that are left is
+-- `policy_model::check_policy`, `check_policy_arm` and `check_policies` meet their contracts. The loop's invariant: what is asked of the policies that are left is
 -- what is asked of all. Assumes nothing.
 use borrow.Author.Needs.{needs}
 use mathlib.Core.Path.{_≡_, refl, sym, _∙_}
@@ -10,29 +10,37 @@ use Rattle.policy_model.specs.declared.PolicyHead.{PolicyHead}
 use Rattle.policy_model.specs.declared.PolicyHead.the-variants.{Permit, Deny, Grant, All, Any, OrElse, PermitWithTrace, DenyWithTrace, BadKind, BadField}
 use Rattle.policy_model.specs.Answers.{checked}
 use Rattle.policy_model.specs.Heads.{policyNode}
+use Rattle.policy_model.specs.HeadLaws.{permit-word}
 use Rattle.policy_model.proofs.Policies.{nodeOf, Asked, no-policy, too-deep, by-head, after-all, after-any, after-or-else, after-permit, after-deny, AskedAll, one-more, one-refused, none-left}
 use Prim.Native.Nat.{ℕ, _+_, _-_, _*_, _<_}
 use borrow.Fn.Kinds.{In}
 use borrow.Fn.PlainCycle.{Measures, is, falls, and}
 use Rattle.policy_model.proofs.check_policies.Reads as check-policies
 use Rattle.policy_model.proofs.check_policies.Kinds as check-policies-kinds
-use Rattle.policy_model.proofs.+check_policies+check_policy.Lts-check_policies as check-policies-lts
+use Rattle.policy_model.proofs.+check_policies+check_policy+check_policy_arm.Lts-check_policies as check-policies-lts
 use Rattle.policy_model.proofs.check_policy.Reads as check-policy
 use Rattle.policy_model.proofs.check_policy.Kinds as check-policy-kinds
-use Rattle.policy_model.proofs.+check_policies+check_policy.Lts-check_policy as check-policy-lts
+use Rattle.policy_model.proofs.+check_policies+check_policy+check_policy_arm.Lts-check_policy as check-policy-lts
+use Rattle.policy_model.proofs.check_policy_arm.Reads as check-policy-arm
+use Rattle.policy_model.proofs.check_policy_arm.Kinds as check-policy-arm-kinds
+use Rattle.policy_model.proofs.+check_policies+check_policy+check_policy_arm.Lts-check_policy_arm as check-policy-arm-lts
 use Rattle.policy_model.proofs.check_deny_with_trace.Reads as check-deny-with-trace-reads
 use Rattle.policy_model.proofs.check_grant.Reads as check-grant-reads
 use Rattle.policy_model.proofs.check_permit_with_trace.Reads as check-permit-with-trace-reads
 use Rattle.policy_model.proofs.deep_policy.Reads as deep-policy-reads
+use Rattle.policy_model.proofs.head_by_kind.Reads as head-by-kind-reads
 use Rattle.policy_model.proofs.policy_head.Reads as policy-head-reads
-use Rattle.policy_model.proofs.+check_policies+check_policy.{statement}
-use Rattle.policy_model.proofs.+check_policies+check_policy.Tie.{close}
+use Rattle.policy_model.proofs.+check_policies+check_policy+check_policy_arm.{statement}
+use Rattle.policy_model.proofs.+check_policies+check_policy+check_policy_arm.Tie.{close}
 
 abbrev μ-check-policies : Measures 1 check-policies-kinds.ps ℕ
-μ-check-policies κs a = a .1 .1 .0 * 2 + 1
+μ-check-policies κs a = a .1 .1 .0 * 3 + 2
 
 abbrev μ-check-policy : Measures 1 check-policy-kinds.ps ℕ
-μ-check-policy κs a = a .1 .1 .0 * 2
+μ-check-policy κs a = a .1 .1 .0 * 3
+
+abbrev μ-check-policy-arm : Measures 1 check-policy-arm-kinds.ps ℕ
+μ-check-policy-arm κs a = a .1 .1 .0 * 3 + 1
 
 abbrev check-policies-Inv-loop : check-policies-lts.InvT-loop
 check-policies-Inv-loop words at depth residual count next₀ left₀ next left = AskedAll words depth residual next left ≡ AskedAll words depth residual at count
@@ -53,15 +61,21 @@ module _ (t : ℕ) where
   abbrev check-policy-below : In 1 check-policy-kinds.ps
   check-policy-below = and 1 check-policy-kinds.ps (falls 1 check-policy-kinds.ps _<_ μ-check-policy t) check-policy.Pre
 
+  abbrev check-policy-arm-at : In 1 check-policy-arm-kinds.ps
+  check-policy-arm-at = and 1 check-policy-arm-kinds.ps (is 1 check-policy-arm-kinds.ps μ-check-policy-arm t) check-policy-arm.Pre
+
+  abbrev check-policy-arm-below : In 1 check-policy-arm-kinds.ps
+  check-policy-arm-below = and 1 check-policy-arm-kinds.ps (falls 1 check-policy-arm-kinds.ps _<_ μ-check-policy-arm t) check-policy-arm.Pre
+
   -- what `check-policies` calls
   abbrev check-policies-calls : check-policies-lts.Claims
-  check-policies-calls = (check-policy-below, check-policy.Post)
+  check-policies-calls = (check-policy-arm-below, check-policy-arm.Post)
 
   check-policies-loop-holds : check-policies-lts.Need-loop-holds check-policies-calls check-policies-at check-policies.Post check-policies-Inv-loop check-policies-μ-loop
   check-policies-loop-holds c = refl
 
-  check-policies-check-policy-requires : check-policies-lts.Need-check-policy-requires check-policies-calls check-policies-at check-policies.Post check-policies-Inv-loop check-policies-μ-loop
-  check-policies-check-policy-requires c κs = search needs
+  check-policies-check-policy-arm-requires : check-policies-lts.Need-check-policy-arm-requires check-policies-calls check-policies-at check-policies.Post check-policies-Inv-loop check-policies-μ-loop
+  check-policies-check-policy-arm-requires c κs = search needs
 
   check-policies-enum-known-after : check-policies-lts.Need-enum-known-after check-policies-calls check-policies-at check-policies.Post check-policies-Inv-loop check-policies-μ-loop
   check-policies-enum-known-after c = search needs
@@ -76,7 +90,7 @@ module _ (t : ℕ) where
   check-policies-loop-again c =
       let arm = c .before .before .before in
       let from = arm .before .before .before .before .args in
-      one-more (now (from .words)) (from .depth) (from .residual) _ _ _ (arm .before .loop-test .taken) (sym (c .before .after .given .1) ∙ arm .check-policy .ensures) ∙ arm .before .before .loop .inv
+      one-more (now (from .words)) (from .depth) (from .residual) _ _ _ (arm .before .loop-test .taken) (sym (c .before .after .given .1) ∙ arm .check-policy-arm .ensures) ∙ arm .before .before .loop .inv
 
   check-policies-enum-known-number : check-policies-lts.Need-enum-known-number check-policies-calls check-policies-at check-policies.Post check-policies-Inv-loop check-policies-μ-loop
   check-policies-enum-known-number c = search needs
@@ -85,7 +99,7 @@ module _ (t : ℕ) where
   check-policies-returns c =
       let arm = c .before .before .before in
       let from = arm .before .before .before .before .args in
-      one-refused (now (from .words)) (from .depth) (from .residual) _ _ _ (arm .before .loop-test .taken) (sym (c .before .number .given .1) ∙ arm .check-policy .ensures) ∙ arm .before .before .loop .inv
+      one-refused (now (from .words)) (from .depth) (from .residual) _ _ _ (arm .before .loop-test .taken) (sym (c .before .number .given .1) ∙ arm .check-policy-arm .ensures) ∙ arm .before .before .loop .inv
 
   check-policies-returns-2 : check-policies-lts.Need-returns-2 check-policies-calls check-policies-at check-policies.Post check-policies-Inv-loop check-policies-μ-loop
   check-policies-returns-2 c =
@@ -94,12 +108,30 @@ module _ (t : ℕ) where
 
   -- what `check-policy` calls
   abbrev check-policy-calls : check-policy-lts.Claims
-  check-policy-calls = (policy-head-reads.Asked, policy-head-reads.Learnt, deep-policy-reads.Asked, deep-policy-reads.Learnt, check-grant-reads.Asked, check-grant-reads.Learnt, check-policies-below, check-policies.Post, check-permit-with-trace-reads.Asked, check-permit-with-trace-reads.Learnt, check-deny-with-trace-reads.Asked, check-deny-with-trace-reads.Learnt)
+  check-policy-calls = (head-by-kind-reads.Asked, head-by-kind-reads.Learnt, deep-policy-reads.Asked, deep-policy-reads.Learnt, policy-head-reads.Asked, policy-head-reads.Learnt, check-grant-reads.Asked, check-grant-reads.Learnt, check-policies-below, check-policies.Post, check-permit-with-trace-reads.Asked, check-permit-with-trace-reads.Learnt, check-deny-with-trace-reads.Asked, check-deny-with-trace-reads.Learnt)
 
   check-policy-returns : check-policy-lts.Need-returns check-policy-calls check-policy-at check-policy.Post
   check-policy-returns c =
       let from = c .before .before .args in
       no-policy (now (from .words)) _ (from .depth) (from .residual) (c .if1 .taken)
+
+  check-policy-mul-head-by-kind : check-policy-lts.Need-mul-head-by-kind check-policy-calls check-policy-at check-policy.Post
+  check-policy-mul-head-by-kind c = search needs
+
+  check-policy-shared-slice-read-head-by-kind : check-policy-lts.Need-shared-slice-read-head-by-kind check-policy-calls check-policy-at check-policy.Post
+  check-policy-shared-slice-read-head-by-kind c = search needs
+
+  check-policy-head-by-kind-requires : check-policy-lts.Need-head-by-kind-requires check-policy-calls check-policy-at check-policy.Post
+  check-policy-head-by-kind-requires c κs = search needs
+
+  check-policy-deep-policy-requires : check-policy-lts.Need-deep-policy-requires check-policy-calls check-policy-at check-policy.Post
+  check-policy-deep-policy-requires c κs = search needs
+
+  check-policy-returns-2 : check-policy-lts.Need-returns-2 check-policy-calls check-policy-at check-policy.Post
+  check-policy-returns-2 c =
+      let test = c .before .before .before in
+      let from = test .before .before .before .args in
+      too-deep (now (from .words)) (from .at) (from .depth) (from .residual) _ _ (test .before .if1 .left) (test .if2 .taken) (c .before .head-by-kind .ensures) (c .deep-policy .ensures)
 
   check-policy-mul-policy-head : check-policy-lts.Need-mul-policy-head check-policy-calls check-policy-at check-policy.Post
   check-policy-mul-policy-head c = search needs
@@ -110,25 +142,17 @@ module _ (t : ℕ) where
   check-policy-policy-head-requires : check-policy-lts.Need-policy-head-requires check-policy-calls check-policy-at check-policy.Post
   check-policy-policy-head-requires c κs = search needs
 
-  check-policy-deep-policy-requires : check-policy-lts.Need-deep-policy-requires check-policy-calls check-policy-at check-policy.Post
-  check-policy-deep-policy-requires c κs = search needs
-
-  check-policy-returns-2 : check-policy-lts.Need-returns-2 check-policy-calls check-policy-at check-policy.Post
-  check-policy-returns-2 c =
-      let from = c .before .before .before .before .before .before .args in
-      too-deep (now (from .words)) (from .at) (from .depth) (from .residual) _ _ (c .before .before .before .before .if1 .left) (c .before .if2 .taken) (c .before .before .policy-head .ensures) (c .deep-policy .ensures)
-
   check-policy-enum-told : check-policy-lts.Need-enum-told check-policy-calls check-policy-at check-policy.Post
   check-policy-enum-told c = search needs
 
-  check-policy-add-t16 : check-policy-lts.Need-add-t16 check-policy-calls check-policy-at check-policy.Post
-  check-policy-add-t16 c = search needs
+  check-policy-add-t20 : check-policy-lts.Need-add-t20 check-policy-calls check-policy-at check-policy.Post
+  check-policy-add-t20 c = search needs
 
   check-policy-enum-told-2 : check-policy-lts.Need-enum-told-2 check-policy-calls check-policy-at check-policy.Post
   check-policy-enum-told-2 c = search needs
 
-  check-policy-add-t17 : check-policy-lts.Need-add-t17 check-policy-calls check-policy-at check-policy.Post
-  check-policy-add-t17 c = search needs
+  check-policy-add-t21 : check-policy-lts.Need-add-t21 check-policy-calls check-policy-at check-policy.Post
+  check-policy-add-t21 c = search needs
 
   check-policy-enum-known-head : check-policy-lts.Need-enum-known-head check-policy-calls check-policy-at check-policy.Post
   check-policy-enum-known-head c = search needs
@@ -195,15 +219,15 @@ module _ (t : ℕ) where
 
   -- where the match on the head begins
   abbrev Matching : Type 0
-  Matching = check-policy-lts.Else2 check-policy-calls check-policy-at check-policy.Post
+  Matching = check-policy-lts.After-policy-head check-policy-calls check-policy-at check-policy.Post
 
   abbrev start : Matching → check-policy-lts.Start check-policy-calls check-policy-at check-policy.Post
   start c = c .before .before .before .before .before
 
-  by-the-head : (c : Matching) (h : PolicyHead) → c .before .policy-head .result ≡ h →
+  by-the-head : (c : Matching) (h : PolicyHead) → c .policy-head .result ≡ h →
       checked words (start c .args .at) (nodeOf (start c .args .residual) (start c .args .depth - 1) h (drop (start c .args .at + 1) (now (start c .args .words))))
       ≡ Asked (now (start c .args .words)) (start c .args .at) (start c .args .depth) (start c .args .residual)
-  by-the-head c h e = by-head _ _ _ _ h (c .before .before .before .if1 .left) (c .if2 .left) (sym e ∙ c .before .policy-head .ensures)
+  by-the-head c h e = by-head _ _ _ _ h (c .before .before .before .if1 .left) (c .before .before .if2 .left) (sym e ∙ c .policy-head .ensures)
 
   check-policy-returns-3 : check-policy-lts.Need-returns-3 check-policy-calls check-policy-at check-policy.Post
   unfolding checked policyNode
@@ -240,12 +264,48 @@ module _ (t : ℕ) where
   unfolding checked policyNode
   check-policy-returns-12 c = by-the-head (c .before .before) (BadField) (c .enum-told6 .given .1)
 
-pub +check-policies+check-policy-spec : {M : Type 1} → statement M
-+check-policies+check-policy-spec =
-    close μ-check-policies μ-check-policy
+  -- what `check-policy-arm` calls
+  abbrev check-policy-arm-calls : check-policy-arm-lts.Claims
+  check-policy-arm-calls = (check-policy-below, check-policy.Post)
+
+  check-policy-arm-check-policy-requires : check-policy-arm-lts.Need-check-policy-requires check-policy-arm-calls check-policy-arm-at check-policy-arm.Post
+  check-policy-arm-check-policy-requires c κs = search needs
+
+  check-policy-arm-returns : check-policy-arm-lts.Need-returns check-policy-arm-calls check-policy-arm-at check-policy-arm.Post
+  check-policy-arm-returns c = c .check-policy .ensures
+
+  check-policy-arm-returns-2 : check-policy-arm-lts.Need-returns-2 check-policy-arm-calls check-policy-arm-at check-policy-arm.Post
+  check-policy-arm-returns-2 c =
+      let from = c .before .before .before .args in
+      no-policy (now (from .words)) _ (from .depth) (from .residual) (c .if2 .taken)
+
+  check-policy-arm-mul-if3 : check-policy-arm-lts.Need-mul-if3 check-policy-arm-calls check-policy-arm-at check-policy-arm.Post
+  check-policy-arm-mul-if3 c = search needs
+
+  check-policy-arm-shared-slice-read-if3 : check-policy-arm-lts.Need-shared-slice-read-if3 check-policy-arm-calls check-policy-arm-at check-policy-arm.Post
+  check-policy-arm-shared-slice-read-if3 c = search needs
+
+  check-policy-arm-add-t10 : check-policy-arm-lts.Need-add-t10 check-policy-arm-calls check-policy-arm-at check-policy-arm.Post
+  check-policy-arm-add-t10 c = search needs
+
+  check-policy-arm-returns-3 : check-policy-arm-lts.Need-returns-3 check-policy-arm-calls check-policy-arm-at check-policy-arm.Post
+  unfolding checked policyNode
+  check-policy-arm-returns-3 c =
+      let from = c .before .before .before .before .before .args in
+      by-head (now (from .words)) (from .at) (from .depth) (from .residual) (Permit _) (c .before .before .if2 .left) (c .before .before .before .if1 .left) (permit-word _ _ (c .if3 .taken))
+
+  check-policy-arm-check-policy-requires-2 : check-policy-arm-lts.Need-check-policy-requires-2 check-policy-arm-calls check-policy-arm-at check-policy-arm.Post
+  check-policy-arm-check-policy-requires-2 c κs = search needs
+
+  check-policy-arm-returns-4 : check-policy-arm-lts.Need-returns-4 check-policy-arm-calls check-policy-arm-at check-policy-arm.Post
+  check-policy-arm-returns-4 c = c .check-policy2 .ensures
+
+pub +check-policies+check-policy+check-policy-arm-spec : {M : Type 1} → statement M
++check-policies+check-policy+check-policy-arm-spec =
+    close μ-check-policies μ-check-policy μ-check-policy-arm
     (λ t. check-policies-lts.spec (check-policies-calls t) (check-policies-at t) check-policies.Post check-policies-Inv-loop check-policies-μ-loop
     (check-policies-loop-holds t)
-    (check-policies-check-policy-requires t)
+    (check-policies-check-policy-arm-requires t)
     (check-policies-enum-known-after t)
     (check-policies-sub-left t)
     (check-policies-loop-less t)
@@ -255,15 +315,18 @@ pub +check-policies+check-policy-spec : {M : Type 1} → statement M
     (check-policies-returns-2 t))
     (λ t. check-policy-lts.spec (check-policy-calls t) (check-policy-at t) check-policy.Post
     (check-policy-returns t)
+    (check-policy-mul-head-by-kind t)
+    (check-policy-shared-slice-read-head-by-kind t)
+    (check-policy-head-by-kind-requires t)
+    (check-policy-deep-policy-requires t)
+    (check-policy-returns-2 t)
     (check-policy-mul-policy-head t)
     (check-policy-shared-slice-read-policy-head t)
     (check-policy-policy-head-requires t)
-    (check-policy-deep-policy-requires t)
-    (check-policy-returns-2 t)
     (check-policy-enum-told t)
-    (check-policy-add-t16 t)
+    (check-policy-add-t20 t)
     (check-policy-enum-told-2 t)
-    (check-policy-add-t17 t)
+    (check-policy-add-t21 t)
     (check-policy-enum-known-head t)
     (check-policy-sub-check-grant t)
     (check-policy-check-grant-requires t)
@@ -295,3 +358,13 @@ pub +check-policies+check-policy-spec : {M : Type 1} → statement M
     (check-policy-returns-10 t)
     (check-policy-returns-11 t)
     (check-policy-returns-12 t))
+    (λ t. check-policy-arm-lts.spec (check-policy-arm-calls t) (check-policy-arm-at t) check-policy-arm.Post
+    (check-policy-arm-check-policy-requires t)
+    (check-policy-arm-returns t)
+    (check-policy-arm-returns-2 t)
+    (check-policy-arm-mul-if3 t)
+    (check-policy-arm-shared-slice-read-if3 t)
+    (check-policy-arm-add-t10 t)
+    (check-policy-arm-returns-3 t)
+    (check-policy-arm-check-policy-requires-2 t)
+    (check-policy-arm-returns-4 t))

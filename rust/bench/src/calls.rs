@@ -4,7 +4,9 @@ use std::hint::black_box;
 
 use compare::case::{Call, Case};
 use compare::proved::agrees;
-use compare::words::convert::{known_facts, to_policy, to_residual_policy};
+use compare::words::convert::{
+    known_facts, partial_facts, to_policy, to_residual, to_residual_policy,
+};
 use compare::words::table::Table;
 use compare::words::tree::Record;
 use compare::words::{RECORD_WORDS, read};
@@ -16,26 +18,69 @@ use crate::timing::{Timed, by_turns};
 pub type Timing = fn(&Sheet) -> Timed;
 
 /// Each call, by document 01's name.
-pub const CALLS: [(&str, Timing); 3] = [
+pub const CALLS: [(&str, Timing); 5] = [
     ("evaluate", evaluate),
+    ("partial_evaluate", partial_evaluate),
+    ("complete_residual", complete_residual),
     ("required_facts", required_facts),
     ("required_residual_facts", required_residual_facts),
 ];
 
 fn evaluate(sheet: &Sheet) -> Timed {
     let Sheet { words, table, .. } = sheet;
-    same_answers(Call::Evaluate, words, table);
     let policy = to_policy(&read::sheet(words).expect("a sheet"));
     let facts = known_facts(&Table::known(table).expect("a known table"));
+    writes(Call::Evaluate, vierskof::evaluate, words, table, || {
+        black_box(gatekeep::evaluate(black_box(&policy), black_box(&facts)));
+    })
+}
+
+/// With the sheet's table, but that every second fact that it has Absent is Unknown.
+pub fn partial_evaluate(sheet: &Sheet) -> Timed {
+    let words = &sheet.words;
+    let table = &sheet.partial();
+    let policy = to_policy(&read::sheet(words).expect("a sheet"));
+    let facts = partial_facts(&Table::partial(table).expect("a partial table"));
+    let call = vierskof::partial_evaluate;
+    writes(Call::PartialEvaluate, call, words, table, || {
+        black_box(gatekeep::partial_evaluate(
+            black_box(&policy),
+            black_box(&facts),
+        ));
+    })
+}
+
+/// Of the record whose tree is the sheet.
+fn complete_residual(sheet: &Sheet) -> Timed {
+    let words = &[&[0xF000_0000], sheet.words.as_slice()].concat();
+    let table = &sheet.table;
+    let residual = to_residual(&read::record(words).expect("a record"));
+    let facts = known_facts(&Table::known(table).expect("a known table"));
+    let call = vierskof::complete_residual;
+    writes(Call::CompleteResidual, call, words, table, || {
+        black_box(gatekeep::complete_residual(
+            black_box(&residual),
+            black_box(&facts),
+        ));
+    })
+}
+
+/// A call that writes a record.
+fn writes(
+    call: Call,
+    proved: fn(&[u32], &[u8], &mut [u32]) -> Result<usize, u32>,
+    words: &[u32],
+    table: &[u8],
+    original: impl FnMut(),
+) -> Timed {
+    same_answers(call, words, table);
     let mut out = vec![0; RECORD_WORDS];
     by_turns(
         || {
-            let written = vierskof::evaluate(black_box(words), black_box(table), &mut out);
+            let written = proved(black_box(words), black_box(table), &mut out);
             black_box(written).expect("accepted");
         },
-        || {
-            black_box(gatekeep::evaluate(black_box(&policy), black_box(&facts)));
-        },
+        original,
     )
 }
 

@@ -23,6 +23,15 @@ impl Sheet {
         }
     }
 
+    /// The table with one Absent fact of each byte Unknown; case D's, with its fact Unknown.
+    pub fn partial(&self) -> Vec<u8> {
+        let unknown = |byte: &u8| match byte {
+            0x10 => 0x20,
+            _ => byte | 0x20,
+        };
+        self.table.iter().map(unknown).collect()
+    }
+
     /// The share of one word in a time.
     pub fn a_word(&self, time: f64) -> f64 {
         let words = u32::try_from(self.words.len()).expect("few words");
@@ -42,6 +51,18 @@ pub fn cases() -> Vec<Sheet> {
         Sheet::new(&"32 levels", levels(LEVELS)),
         Sheet::new(&"All of 4,095", permits(LIST)),
     ]
+}
+
+/// An Any of as many grants as fit, all on fact 0, which is Present; the table has a byte, and the most bytes.
+pub fn tables() -> [Sheet; 2] {
+    [1, TABLE_BYTES].map(|bytes| {
+        let mut words = vec![list(0xA000_0000, 1_365)];
+        words.extend([0x8000_0001, 0, 0x2000_0000].repeat(1_365));
+        Sheet {
+            table: vec![HALF; bytes],
+            ..Sheet::new(&bytes, words)
+        }
+    })
 }
 
 /// Sheets of grants, from 16 words to the most.

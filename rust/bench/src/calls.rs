@@ -3,7 +3,7 @@
 use std::hint::black_box;
 
 use compare::case::{Call, Case};
-use compare::proved::agrees;
+use compare::proved::{Writer, agrees};
 use compare::words::convert::{
     known_facts, partial_facts, to_policy, to_residual, to_residual_policy,
 };
@@ -68,7 +68,7 @@ fn complete_residual(sheet: &Sheet) -> Timed {
 /// A call that writes a record.
 fn writes(
     call: Call,
-    proved: fn(&[u32], &[u8], &mut [u32]) -> Result<usize, u32>,
+    proved: Writer,
     words: &[u32],
     table: &[u8],
     original: impl FnMut(),

@@ -1,4 +1,4 @@
-//! Writes generated cases with their answers, for programs that have no Rust at hand, and lists what the original decides.
+//! Writes generated cases with their answers, for programs that have no Rust at hand, and compares the proved calls with the original.
 
 use std::path::PathBuf;
 use std::{fs, io};
@@ -6,7 +6,6 @@ use std::{fs, io};
 use clap::{Parser, Subcommand, ValueEnum};
 use compare::case::{Call, Case};
 use compare::generate::cases;
-use compare::listing::listing;
 use compare::{answers, rows, worked};
 
 /// Cases of document 01's calls, and what the original answers to them.
@@ -31,8 +30,6 @@ enum Command {
         #[arg(long)]
         part: Part,
     },
-    /// The listing of a request on standard input, as the original decides it.
-    Listing,
     /// Compares the proved calls with the original, and shows the first case in which they differ.
     #[cfg(feature = "proved")]
     Proved {
@@ -139,11 +136,6 @@ fn main() -> io::Result<()> {
         }
         #[cfg(feature = "proved")]
         Command::Proved { sample } => proved(&sample),
-        Command::Listing => {
-            let mut request = Vec::new();
-            io::Read::read_to_end(&mut io::stdin(), &mut request)?;
-            io::Write::write_all(&mut io::stdout(), &listing(&request))
-        }
     }
 }
 

@@ -4,7 +4,7 @@ use crate::case::{Answer, Call, Case};
 use crate::refusal::Refusal;
 
 /// A proved call that takes words, a table and an output.
-type Writer = fn(&[u32], &[u8], &mut [u32]) -> Result<usize, u32>;
+pub type Writer = fn(&[u32], &[u8], &mut [u32]) -> Result<usize, u32>;
 
 /// Whether the proved call answers as the original does, and leaves what it must.
 pub fn agrees(case: &Case) -> bool {

@@ -3,50 +3,32 @@
 //! A call answers its value, or the number of document 01's refusal; a refused call leaves its output as it was.
 
 mod c {
-    // A slice passes as a pointer and an element count.
-    pub type Write = unsafe extern "C" fn(
-        words: *const u32,
-        count: usize,
-        facts: *const u8,
-        bytes: usize,
-        out: *mut u32,
-        room: usize,
-    ) -> u64;
+    // Declared as the exported functions are: a slice passes as a pointer and an element count.
+    pub type Write =
+        unsafe extern "C" fn(*const u32, usize, *const u8, usize, *mut u32, usize) -> u64;
 
-    // Declared as the exported functions are.
+    macro_rules! writes {
+        ($($call:ident)*) => {
+            unsafe extern "C" {
+                $(pub fn $call(
+                    words: *const u32,
+                    count: usize,
+                    facts: *const u8,
+                    bytes: usize,
+                    out: *mut u32,
+                    room: usize,
+                ) -> u64;)*
+            }
+        };
+    }
+    writes! {
+        vierskof_evaluate
+        vierskof_partial_evaluate
+        vierskof_narrow_residual
+        vierskof_complete_residual
+    }
+
     unsafe extern "C" {
-        pub fn vierskof_evaluate(
-            sheet: *const u32,
-            words: usize,
-            facts: *const u8,
-            bytes: usize,
-            out: *mut u32,
-            room: usize,
-        ) -> u64;
-        pub fn vierskof_partial_evaluate(
-            sheet: *const u32,
-            words: usize,
-            facts: *const u8,
-            bytes: usize,
-            out: *mut u32,
-            room: usize,
-        ) -> u64;
-        pub fn vierskof_narrow_residual(
-            record: *const u32,
-            words: usize,
-            facts: *const u8,
-            bytes: usize,
-            out: *mut u32,
-            room: usize,
-        ) -> u64;
-        pub fn vierskof_complete_residual(
-            record: *const u32,
-            words: usize,
-            facts: *const u8,
-            bytes: usize,
-            out: *mut u32,
-            room: usize,
-        ) -> u64;
         pub fn vierskof_required_facts(
             sheet: *const u32,
             words: usize,

@@ -9,7 +9,7 @@ use compare::generate::chains::{Chain, room};
 use compare::generate::grow::{Alphabet, Grower};
 use compare::generate::limits;
 use compare::generate::rng::Rng;
-use compare::proved::agrees;
+use compare::proved::{Writer, agrees};
 use compare::words::write;
 
 use super::stages::{decided, settled};
@@ -31,12 +31,7 @@ fn all_agree(cases: impl IntoIterator<Item = Case>) {
 }
 
 /// A proved call, and the words that it writes.
-fn written(
-    call: fn(&[u32], &[u8], &mut [u32]) -> Result<usize, u32>,
-    words: &[u32],
-    table: &[u8],
-    room: usize,
-) -> Result<Vec<u32>, u32> {
+fn written(call: Writer, words: &[u32], table: &[u8], room: usize) -> Result<Vec<u32>, u32> {
     let mut out = vec![0x5A5A_5A5A; room];
     let count = call(words, table, &mut out)?;
     out.truncate(count);

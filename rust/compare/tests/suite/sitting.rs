@@ -81,5 +81,5 @@ fn a_long_input() {
     let mut given = request(&[0x6000_0001], &[]).expect("short");
     given.resize(200_000, 0xA5);
     prints_the_originals(&program, &given);
-    prints_the_originals(&program, &[0xFF; 100_000]);
+    prints_the_originals(&program, &vec![0xFF; 100_000]);
 }

@@ -76,7 +76,7 @@ fn collect_has_facts(words: &[u32], at: usize, count: u32, set: &mut [u64]) -> P
 }
 
 // Adds the facts of the condition at `at`, of at most `depth` levels, and returns the index of the word after it.
-pub fn collect_condition_facts(words: &[u32], at: usize, depth: usize, set: &mut [u64]) -> usize
+fn collect_condition_facts(words: &[u32], at: usize, depth: usize, set: &mut [u64]) -> usize
     ensures { λ r. ⌜ Collected wordsC namesC at (now (set .entry)) (now (set .exit)) (readCondition depth (drop at (now (words .entry)))) r ⌝ }
 {
     if words.len() <= at {
@@ -232,7 +232,7 @@ fn pass_permits(words: &[u32], at: usize, count: u32) -> Passed
 }
 
 // Adds the facts of the policy at `at`, of at most `depth` levels, and returns the index of the word after it.
-pub fn collect_policy_facts(
+fn collect_policy_facts(
     words: &[u32],
     at: usize,
     depth: usize,
@@ -264,7 +264,7 @@ pub fn collect_policy_facts(
 }
 
 // How many bits of the set are one.
-pub fn count_ones(set: &[u64]) -> u32
+fn count_ones(set: &[u64]) -> u32
     requires { ⌜ length (now set) ≤ 16 ⌝ }
     ensures { λ r. ⌜ r ≡ ones (now (set .entry)) ⌝ }
 {
@@ -299,7 +299,7 @@ fn replace(set: &mut [u64], by: &[u64])
 }
 
 // The facts of the policy at `at`, in a set of their own that then replaces `set`, and their count.
-pub fn facts_at(words: &[u32], at: usize, residual: bool, set: &mut [u64]) -> u32
+fn facts_at(words: &[u32], at: usize, residual: bool, set: &mut [u64]) -> u32
     ensures { λ r. ⌜ FactsOf (readPolicy (productSets .value) residual levels (drop at (now (words .entry)))) (now (set .entry)) (now (set .exit)) r ⌝ }
 {
     let mut facts = [0u64; 16];
@@ -309,7 +309,7 @@ pub fn facts_at(words: &[u32], at: usize, residual: bool, set: &mut [u64]) -> u3
 }
 
 // Refused: an empty set.
-pub fn no_facts(set: &mut [u64])
+fn no_facts(set: &mut [u64])
     ensures { λ r. ⌜ now (set .exit) ≡ setAfter (now (set .entry)) (replicate 16 0) ⌝ }
 {
     let none = [0u64; 16];

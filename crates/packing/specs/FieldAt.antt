@@ -10,8 +10,7 @@ use lib.Seq.{getD-drop}
 use Rattle.model.specs.Fields.{bits, split, packed, wordsFor, perWord, pack}
 use Rattle.model.specs.Facts.{Presence, absent, present, unknown, factCount}
 use Rattle.model.specs.Consulted.{Consulted}
-use Rattle.model.specs.Writing.{obligationBits, entryBits, presenceField, entryField}
-use Rattle.model.specs.Reading.{obligationCount}
+use Rattle.model.specs.Writing.{entryBits, presenceField, entryField}
 use Rattle.laws.specs.FieldLaws.{padded, Narrow, split-joined, length-packed}
 use Rattle.laws.specs.Lists.{Below}
 use Rattle.laws.specs.ReadForm.{Named}
@@ -89,10 +88,7 @@ packed-field width n vs rest i e h k =
     ∙ getD-drop first vs (i % suc n) 0
     ∙ ap (λ x. getD vs x 0) (div-add-mod' i (suc n))
 
--- The obligations, facts and consulted entries of lists that were packed.
-pub obligation-field : (os rest ws : List ℕ) (i : ℕ) → Below obligationCount os → i < length os → pack obligationBits os ++ rest ≡ ws → fieldAt obligationBits ws i ≡ getD os i 0
-obligation-field os rest ws i b k e = ap (λ l. fieldAt obligationBits l i) (sym e) ∙ packed-field obligationBits 3 os rest i refl (narrow-below obligationBits obligationCount os (omega arith) b) k
-
+-- The facts and consulted entries of lists that were packed.
 pub fact-field : (fs rest ws : List ℕ) (i : ℕ) → Below factCount fs → i < length fs → pack entryBits fs ++ rest ≡ ws → fieldAt entryBits ws i ≡ getD fs i 0
 fact-field fs rest ws i b k e = ap (λ l. fieldAt entryBits l i) (sym e) ∙ packed-field entryBits 1 fs rest i refl (narrow-below entryBits factCount fs (omega arith) b) k
 

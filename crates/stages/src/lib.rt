@@ -1,1 +1,1 @@
-// The staged theorem, in specs/: this crate has no code.
+// The staged guarantee of what the calls return, in specs/: this crate has no code.

@@ -108,10 +108,14 @@ pub struct Assembled {
 /// The facts about a request, in one of three ways.
 #[derive(Args, Debug)]
 pub struct Facts {
-    /// Facts such as 5=present,6=absent,7=unknown; may come several times. A fact that is not named is absent in evaluate and complete, and unknown in reduce and narrow.
+    /// Facts, such as 5=present,6=absent,7=unknown; may come several times.
+    ///
+    /// A fact that is not named is absent in evaluate and complete, and unknown in reduce and narrow.
     #[arg(long, value_name = "FACTS", value_delimiter = ',', value_parser = numbers::observation)]
     pub facts: Vec<Observation>,
-    /// A file with a fact table, its bytes taken as they are: a fact past its end is absent.
+    /// A file with a fact table, its bytes taken as they are.
+    ///
+    /// Four facts a byte, the first in the upper two bits: 0 absent, 1 present, 2 unknown. A fact past the end is absent, in every command.
     #[arg(long, value_name = "FILE", conflicts_with_all = ["facts", "table_hex"])]
     pub table: Option<PathBuf>,
     /// A fact table's bytes in hexadecimal, taken as they are.

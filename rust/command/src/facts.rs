@@ -5,8 +5,6 @@ use std::collections::BTreeMap;
 use vierskof::read::Observation;
 use vierskof::{Fact, FactTable, Presence};
 
-use crate::numbers::presence_name;
-
 /// A table's bytes, typed as hexadecimal digits.
 #[derive(Clone, Debug, PartialEq, Eq)]
 pub struct Bytes(pub Vec<u8>);
@@ -17,8 +15,9 @@ pub fn table(said: &[Observation], rest: Presence) -> Result<FactTable, String> 
     for Observation { fact, presence } in said {
         let earlier = readings.insert(*fact, *presence);
         if let Some(earlier) = earlier.filter(|earlier| earlier != presence) {
-            let (one, other) = (presence_name(earlier), presence_name(*presence));
-            return Err(format!("--facts says {fact}={one} and {fact}={other}"));
+            return Err(format!(
+                "--facts says {fact}={earlier} and {fact}={presence}"
+            ));
         }
     }
     let others = (0..=u16::MAX).map_while(Fact::new);
@@ -39,5 +38,7 @@ pub fn bytes(text: &str) -> Result<Bytes, &'static str> {
         _ => None,
     };
     let bytes: Option<Vec<u8>> = digits.chunks(2).map(read).collect();
-    bytes.map(Bytes).ok_or("two hexadecimal digits for each byte are due")
+    bytes
+        .map(Bytes)
+        .ok_or("two hexadecimal digits for each byte are due")
 }

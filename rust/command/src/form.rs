@@ -23,9 +23,9 @@ pub enum Form {
 impl Form {
     /// The form of these bytes. Every sheet and record has a zero byte in its binary form, and no node of the text form is a hexadecimal number.
     pub fn of(bytes: &[u8]) -> Self {
-        let plain = |byte: &char| byte.is_whitespace() || !byte.is_control();
+        let plain = |found: char| found.is_whitespace() || !found.is_control();
         let text = str::from_utf8(bytes).ok();
-        let Some(text) = text.filter(|text| text.chars().all(|byte| plain(&byte))) else {
+        let Some(text) = text.filter(|text| text.chars().all(plain)) else {
             return Self::Binary;
         };
         if hex_words(text).next().is_none_or(is_hex) {
@@ -99,6 +99,8 @@ fn from_binary(bytes: &[u8]) -> Result<Vec<u32>, String> {
         Ok(words.iter().copied().map(u32::from_be_bytes).collect())
     } else {
         let bytes = bytes.len();
-        Err(format!("{bytes} bytes are no whole binary words of four bytes"))
+        Err(format!(
+            "{bytes} bytes are no whole binary words of four bytes"
+        ))
     }
 }

@@ -50,19 +50,10 @@ pub fn observation(text: &str) -> Result<Observation, &'static str> {
     read().ok_or("FACT=present, FACT=absent or FACT=unknown, with a fact from 0 to 1023,")
 }
 
-/// The word for how a fact reads.
-pub const fn presence_name(presence: Presence) -> &'static str {
-    match presence {
-        Presence::Absent => "absent",
-        Presence::Present => "present",
-        Presence::Unknown => "unknown",
-    }
-}
-
 fn presence(name: &str) -> Option<Presence> {
     [Presence::Absent, Presence::Present, Presence::Unknown]
         .into_iter()
-        .find(|presence| presence_name(*presence) == name)
+        .find(|presence| presence.to_string() == name)
 }
 
 /// Digits alone: the standard reader takes a sign too.

@@ -256,21 +256,36 @@ fn node(name: &str, place: Place, fields: &mut Fields<'_>) -> Result<(Vec<u32>, 
         "never" => (vec![pack::lead(1, 0)], Below::NOTHING),
         "has" => {
             let fact = fields.item(numbers::fact)?;
-            (vec![pack::lead(2, u32::from(fact.number()))], Below::NOTHING)
+            (
+                vec![pack::lead(2, u32::from(fact.number()))],
+                Below::NOTHING,
+            )
         }
         "not" => (vec![pack::lead(3, 0)], Below::Exactly(1, place)),
-        "all" => (vec![pack::lead(if condition { 4 } else { 9 }, 0)], Below::List(place)),
-        "any" => (vec![pack::lead(if condition { 5 } else { 10 }, 0)], Below::List(place)),
+        "all" => (
+            vec![pack::lead(if condition { 4 } else { 9 }, 0)],
+            Below::List(place),
+        ),
+        "any" => (
+            vec![pack::lead(if condition { 5 } else { 10 }, 0)],
+            Below::List(place),
+        ),
         "permit" => {
             let outcome = fields.item(numbers::products)?;
-            (vec![pack::lead(6, u32::from(outcome.bits()))], Below::NOTHING)
+            (
+                vec![pack::lead(6, u32::from(outcome.bits()))],
+                Below::NOTHING,
+            )
         }
         "deny" => (vec![pack::lead(7, 0)], Below::NOTHING),
         "or-else" => (vec![pack::lead(11, 0)], Below::Exactly(2, place)),
         "grant" => {
             let outcome = fields.item(numbers::products)?;
             let clause = fields.clause(&["hidden", "label", "reason", "obligations"])?;
-            (pack::grant(outcome, &clause), Below::Exactly(1, Place::Condition))
+            (
+                pack::grant(outcome, &clause),
+                Below::Exactly(1, Place::Condition),
+            )
         }
         "permit-with-trace" => {
             let outcome = fields.item(numbers::products)?;

@@ -3,11 +3,10 @@
 use std::fmt::{self, Display, Formatter};
 
 use vierskof::read::{Decision, DenyWithTrace, Observation, PermitWithTrace, Record};
-use vierskof::{Fact, FactSet, Label, Products, Reason, Shape};
+use vierskof::{Fact, FactSet, Label, Products, Reason};
 
 use super::show::Joined;
 use crate::document::{Document, Kind};
-use crate::numbers::presence_name;
 
 pub(super) fn document(document: &Document<'_>, f: &mut Formatter<'_>) -> fmt::Result {
     match document.kind() {
@@ -30,11 +29,7 @@ fn permitted(f: &mut Formatter<'_>, permit: PermitWithTrace<'_>) -> fmt::Result 
 }
 
 fn denied(f: &mut Formatter<'_>, deny: DenyWithTrace<'_>) -> fmt::Result {
-    let shape = match deny.shape() {
-        Shape::Forbidden => "forbidden",
-        Shape::Hidden => "hidden",
-    };
-    write!(f, "# Deny, {shape}")?;
+    write!(f, "# Deny, {}", deny.shape())?;
     if let Some(outcome) = deny.denied() {
         write!(f, ". Not granted: {}", products(outcome))?;
     }
@@ -60,7 +55,7 @@ fn because(
 }
 
 fn consulted(f: &mut Formatter<'_>, record: Record<'_>) -> fmt::Result {
-    let entry = |Observation { fact, presence }| format!("{fact} {}", presence_name(presence));
+    let entry = |Observation { fact, presence }| format!("{fact} {presence}");
     let entries = record.consulted().map(entry);
     writeln!(f, "# Facts consulted: {}.", or_none(entries))
 }

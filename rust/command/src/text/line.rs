@@ -41,10 +41,10 @@ impl<'t> Line<'t> {
     /// How many levels the line stands below the margin.
     pub fn depth(&self) -> Result<usize, Fault> {
         if self.content.starts_with(char::is_whitespace) {
-            return Err(self.fault("a tab", "a line indented by spaces"));
+            return Err(self.fault("an indentation by a tab or the like", "one by spaces"));
         }
         if !self.spaces.is_multiple_of(STEP) {
-            let due = "a line indented by two spaces for each level";
+            let due = "one of two spaces for each level";
             return Err(self.fault(&self.indentation(), due));
         }
         Ok(self.spaces / STEP)
@@ -61,7 +61,7 @@ impl<'t> Line<'t> {
 
     /// The indentation in a message's words.
     pub fn indentation(&self) -> String {
-        format!("an indentation of {} spaces", self.spaces)
+        format!("an indentation of {}", self.spaces)
     }
 
     fn read(number: usize, line: &'t str) -> Option<Self> {

@@ -1,7 +1,7 @@
 //! Nodes as document 01 packs them: fields from the most significant bit on.
 
 use vierskof::read::Observation;
-use vierskof::{Fact, Obligation, Presence, Products};
+use vierskof::{Fact, Label, Obligation, Presence, Products, Reason};
 
 use super::fields::Clause;
 
@@ -30,7 +30,7 @@ pub fn permit_with_trace(outcome: Products, clause: &Clause) -> Vec<u32> {
     let first = lead(12, obligations | u32::from(outcome.bits()));
     let mut words = vec![first, label(clause) | count(clause.facts.len())];
     words.extend(bytes(&clause.obligations));
-    words.extend(halves(clause.facts.iter().map(fact)));
+    words.extend(halves(clause.facts.iter().copied().map(fact)));
     words
 }
 
@@ -40,13 +40,13 @@ pub fn deny_with_trace(clause: &Clause) -> Vec<u32> {
     let first = lead(13, shape(clause) | clause.denied.map_or(0, denied));
     let facts = count(clause.facts.len());
     let mut words = vec![first, label(clause) | reason(clause), facts];
-    words.extend(halves(clause.facts.iter().map(fact)));
+    words.extend(halves(clause.facts.iter().copied().map(fact)));
     words
 }
 
 /// Consulted entries.
 pub fn consulted(entries: &[Observation]) -> Vec<u32> {
-    let entry = |entry: &Observation| presence(entry.presence) << 14 | fact(&entry.fact);
+    let entry = |entry: &Observation| presence(entry.presence) << 14 | fact(entry.fact);
     halves(entries.iter().map(entry))
 }
 
@@ -55,16 +55,16 @@ fn shape(clause: &Clause) -> u32 {
 }
 
 fn label(clause: &Clause) -> u32 {
-    let number = clause.label.map(|label| label.number());
-    number.map_or(0, |number| 1 << 31 | u32::from(number) << 16)
+    let field = |label: Label| 1 << 31 | u32::from(label.number()) << 16;
+    clause.label.map_or(0, field)
 }
 
 fn reason(clause: &Clause) -> u32 {
-    let number = clause.reason.map(|reason| reason.number());
-    number.map_or(0, |number| 1 << 15 | u32::from(number))
+    let field = |reason: Reason| 1 << 15 | u32::from(reason.number());
+    clause.reason.map_or(0, field)
 }
 
-fn fact(fact: &Fact) -> u32 {
+fn fact(fact: Fact) -> u32 {
     u32::from(fact.number())
 }
 

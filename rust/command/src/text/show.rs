@@ -11,7 +11,6 @@ use vierskof::read::{
 use super::explain;
 use super::line::STEP;
 use crate::document::{Document, Kind};
-use crate::numbers::presence_name;
 
 /// The text form with comments in plain words.
 impl Display for Document<'_> {
@@ -45,7 +44,7 @@ fn lead(f: &mut Formatter<'_>, record: Record<'_>) -> fmt::Result {
         Status::Resolved => "resolved\n",
         Status::Pending => "pending\n",
     })?;
-    let entry = |Observation { fact, presence }| format!("{fact}={}", presence_name(presence));
+    let entry = |Observation { fact, presence }| format!("{fact}={presence}");
     let entries = record.consulted().map(entry);
     if entries.len() > 0 {
         writeln!(f, "consulted {}", Joined(entries, ","))?;
@@ -71,7 +70,12 @@ fn policy(f: &mut Formatter<'_>, policy: PolicyRef<'_>, depth: usize) -> fmt::Re
     }
 }
 
-fn policies(f: &mut Formatter<'_>, name: &str, mut arms: Policies<'_>, depth: usize) -> fmt::Result {
+fn policies(
+    f: &mut Formatter<'_>,
+    name: &str,
+    mut arms: Policies<'_>,
+    depth: usize,
+) -> fmt::Result {
     writeln!(f, "{name}")?;
     arms.try_for_each(|arm| policy(f, arm, depth + 1))
 }

@@ -111,7 +111,7 @@ pub struct Facts {
     /// Facts, such as 5=present,6=absent,7=unknown; may come several times.
     ///
     /// A fact that is not named is absent in evaluate and complete, and unknown in reduce and narrow.
-    #[arg(long, value_name = "FACTS", value_delimiter = ',', value_parser = numbers::observation)]
+    #[arg(long, value_name = "FACTS", value_delimiter = ',', value_parser = observation)]
     pub facts: Vec<Observation>,
     /// A file with a fact table, its bytes taken as they are.
     ///
@@ -121,4 +121,8 @@ pub struct Facts {
     /// A fact table's bytes in hexadecimal, taken as they are.
     #[arg(long, value_name = "BYTES", conflicts_with = "facts", value_parser = facts::bytes)]
     pub table_hex: Option<Bytes>,
+}
+
+fn observation(text: &str) -> Result<Observation, String> {
+    numbers::observation(text).map_err(|due| format!("{due} is due"))
 }

@@ -47,7 +47,7 @@ pub fn observation(text: &str) -> Result<Observation, &'static str> {
         let presence = presence(name)?;
         Some(Observation { fact, presence })
     };
-    read().ok_or("FACT=present, FACT=absent or FACT=unknown, with a fact from 0 to 1023,")
+    read().ok_or("a fact from 0 to 1023 with =present, =absent or =unknown")
 }
 
 fn presence(name: &str) -> Option<Presence> {

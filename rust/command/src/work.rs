@@ -1,5 +1,6 @@
 //! What each subcommand does, from its arguments to the bytes for standard output.
 
+use std::error::Error;
 use std::fmt::{self, Display, Formatter};
 use std::fs::File;
 use std::io::{self, Read};
@@ -42,6 +43,8 @@ impl Display for Failure {
         }
     }
 }
+
+impl Error for Failure {}
 
 impl From<Refusal> for Failure {
     fn from(refusal: Refusal) -> Self {

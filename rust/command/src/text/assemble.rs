@@ -188,7 +188,10 @@ impl<'t> Tree<'t> {
             return Err(line.fault(&quoted(name), &place.due()));
         }
         let at = self.words.len();
-        let (words, below) = node(name, place, &mut fields)?;
+        let (words, below) = match place {
+            Place::Condition => condition(name, &mut fields)?,
+            place => policy(name, place, &mut fields)?,
+        };
         fields.end()?;
         self.words.extend(words);
         self.open.push(Open {
@@ -248,45 +251,39 @@ impl<'t> Tree<'t> {
     }
 }
 
-/// A node's own words, and what stands under it.
-fn node(name: &str, place: Place, fields: &mut Fields<'_>) -> Result<(Vec<u32>, Below), Fault> {
-    let condition = place == Place::Condition;
+/// A node's own words, and what stands under it. Its name is one of its place's.
+type Node = (Vec<u32>, Below);
+
+/// A node of one word.
+fn one_word(kind: u32, low: u16, below: Below) -> Node {
+    (vec![pack::lead(kind, u32::from(low))], below)
+}
+
+fn condition(name: &str, fields: &mut Fields<'_>) -> Result<Node, Fault> {
+    let place = Place::Condition;
     Ok(match name {
-        "always" => (vec![pack::lead(0, 0)], Below::NOTHING),
-        "never" => (vec![pack::lead(1, 0)], Below::NOTHING),
-        "has" => {
-            let fact = fields.item(numbers::fact)?;
-            (
-                vec![pack::lead(2, u32::from(fact.number()))],
-                Below::NOTHING,
-            )
-        }
-        "not" => (vec![pack::lead(3, 0)], Below::Exactly(1, place)),
-        "all" => (
-            vec![pack::lead(if condition { 4 } else { 9 }, 0)],
-            Below::List(place),
-        ),
-        "any" => (
-            vec![pack::lead(if condition { 5 } else { 10 }, 0)],
-            Below::List(place),
-        ),
-        "permit" => {
-            let outcome = fields.item(numbers::products)?;
-            (
-                vec![pack::lead(6, u32::from(outcome.bits()))],
-                Below::NOTHING,
-            )
-        }
-        "deny" => (vec![pack::lead(7, 0)], Below::NOTHING),
-        "or-else" => (vec![pack::lead(11, 0)], Below::Exactly(2, place)),
+        "always" => one_word(0, 0, Below::NOTHING),
+        "never" => one_word(1, 0, Below::NOTHING),
+        "has" => one_word(2, fields.item(numbers::fact)?.number(), Below::NOTHING),
+        "not" => one_word(3, 0, Below::Exactly(1, place)),
+        "all" => one_word(4, 0, Below::List(place)),
+        _ => one_word(5, 0, Below::List(place)),
+    })
+}
+
+fn policy(name: &str, place: Place, fields: &mut Fields<'_>) -> Result<Node, Fault> {
+    Ok(match name {
+        "permit" => one_word(6, fields.item(numbers::products)?.bits(), Below::NOTHING),
+        "deny" => one_word(7, 0, Below::NOTHING),
         "grant" => {
             let outcome = fields.item(numbers::products)?;
             let clause = fields.clause(&["hidden", "label", "reason", "obligations"])?;
-            (
-                pack::grant(outcome, &clause),
-                Below::Exactly(1, Place::Condition),
-            )
+            let below = Below::Exactly(1, Place::Condition);
+            (pack::grant(outcome, &clause), below)
         }
+        "all" => one_word(9, 0, Below::List(place)),
+        "any" => one_word(10, 0, Below::List(place)),
+        "or-else" => one_word(11, 0, Below::Exactly(2, place)),
         "permit-with-trace" => {
             let outcome = fields.item(numbers::products)?;
             let clause = fields.clause(&["label", "obligations", "facts"])?;

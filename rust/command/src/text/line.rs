@@ -1,5 +1,6 @@
 //! Lines of a text form, and what can be wrong with one.
 
+use std::error::Error;
 use std::fmt::{self, Display, Formatter};
 
 /// Spaces for each level.
@@ -25,6 +26,8 @@ impl Display for Fault {
         write!(f, "line {line}: found {found}, but {due} is due")
     }
 }
+
+impl Error for Fault {}
 
 /// A line that says something, without its comment.
 #[derive(Clone, Copy, Debug)]

@@ -3,12 +3,16 @@
 use std::fmt::Write;
 use std::fs;
 
+use compare::case::{Answer, Call, Case};
+use compare::generate::cases;
 use compare::generate::chains::Chain;
 use compare::generate::grow::Alphabet;
 use compare::generate::rng::Rng;
 use compare::reference;
+use compare::refusal::Refusal;
+use compare::words::RECORD_WORDS;
 
-use super::{accepted, answer, folder, hex, words};
+use super::{accepted, answer, failure, folder, hex, run, words};
 
 const SHEET: &str = "any\n  grant 0001 obligations 7\n    has 5\n  grant 0002\n    has 6\n";
 
@@ -28,6 +32,69 @@ fn staged(name: &str, document: &str, table: &[u8]) -> String {
 /// What a shown document says in words.
 fn said(shown: &str) -> Vec<u32> {
     words(&answer("assemble", shown))
+}
+
+/// The subcommand of a call; the questions have none.
+fn subcommand(call: Call) -> &'static str {
+    match call {
+        Call::Evaluate => "evaluate",
+        Call::PartialEvaluate => "reduce",
+        Call::NarrowResidual => "narrow",
+        Call::CompleteResidual => "complete",
+        Call::RequiredFacts | Call::RequiredResidualFacts => "required",
+        _ => panic!("{call:?} has no subcommand"),
+    }
+}
+
+/// What the command answers to a case: a record's words, or the facts, or the refusal's number.
+fn found(case: &Case) -> Result<Vec<u32>, u8> {
+    let name = subcommand(case.call);
+    let arguments = if case.call.writes() {
+        format!("{name} --to hex --table-hex={}", hexadecimal(&case.table))
+    } else {
+        name.to_owned()
+    };
+    let output = run(&arguments, hex(&case.words).as_bytes());
+    let error = String::from_utf8(output.stderr).expect("text");
+    if output.status.code() == Some(1) {
+        assert_eq!(output.stdout, b"");
+        let number = error
+            .strip_prefix("refused ")
+            .and_then(|rest| rest.split_once(": "));
+        return Err(number.expect(&error).0.parse().expect(&error));
+    }
+    assert_eq!((output.status.code(), error.as_str()), (Some(0), ""));
+    let text = String::from_utf8(output.stdout).expect("text");
+    let radix = if case.call.writes() { 16 } else { 10 };
+    let number = |word| u32::from_str_radix(word, radix).expect("a number");
+    Ok(text.split_whitespace().map(number).collect())
+}
+
+#[test]
+fn drawn_calls() {
+    // The kind of the first word tells which facts are required, so only words that have the call's kind are asked.
+    let asks = |case: &Case| {
+        let record = case.words.first().is_some_and(|word| word >> 28 >= 14);
+        case.call.writes() || record != case.call.reads_sheet()
+    };
+    let mut refused = 0;
+    for mut case in cases::draw(5, 500, &Call::ALL[..6])
+        .into_iter()
+        .filter(asks)
+    {
+        case.room = RECORD_WORDS;
+        let due = case
+            .answer()
+            .map_err(Refusal::number)
+            .map(|answer| match answer {
+                Answer::Record(record) => record,
+                Answer::Facts(set) => set.facts().map(u32::from).collect(),
+                Answer::Says(_) => unreachable!("no question was drawn"),
+            });
+        refused += usize::from(due.is_err());
+        assert_eq!(found(&case), due, "{case:08X?}");
+    }
+    assert!(refused > 50, "{refused}");
 }
 
 #[test]
@@ -109,7 +176,7 @@ fn tables_are_taken_as_they_are() {
     let named = accepted(&format!("reduce --table {}", table.display()), SHEET);
     assert_eq!(named, accepted("reduce --table-hex 0010", SHEET));
     fs::write(&table, vec![0; 257]).expect("a file");
-    let message = super::failure(1, &format!("reduce --table {}", table.display()), SHEET);
+    let message = failure(1, &format!("reduce --table {}", table.display()), SHEET);
     assert!(message.starts_with("refused 2: "), "{message}");
 }
 

@@ -173,7 +173,7 @@ fn numbers() {
     ] {
         fault(text, &format!("line 2: found {found}, but {due} is due"));
     }
-    let due = "FACT=present, FACT=absent or FACT=unknown, with a fact from 0 to 1023,";
+    let due = "a fact from 0 to 1023 with =present, =absent or =unknown";
     for entry in ["5", "5=there", "1024=present", "5=Present"] {
         let text = format!("pending\nconsulted 4=absent,{entry}\ndeny");
         fault(&text, &format!("line 2: found `{entry}`, but {due} is due"));

@@ -5,6 +5,7 @@
 mod explain;
 mod fields;
 mod line;
+mod node;
 mod pack;
 
 pub mod assemble;

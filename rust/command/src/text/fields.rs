@@ -1,4 +1,4 @@
-//! The words of one line, read from the left.
+//! What a line says after its name, read from the left.
 
 use std::str::SplitWhitespace;
 
@@ -35,17 +35,11 @@ pub struct Fields<'t> {
 }
 
 impl<'t> Fields<'t> {
-    /// All words of a line.
+    /// The words of a line after its first, which is its name.
     pub fn of(line: Line<'t>) -> Self {
-        Self {
-            line,
-            left: line.content.split_whitespace(),
-        }
-    }
-
-    /// The line's first word, once: no line is without one.
-    pub fn name(&mut self) -> &'t str {
-        self.left.next().unwrap_or_default()
+        let mut left = line.content.split_whitespace();
+        left.next();
+        Self { line, left }
     }
 
     /// The next word as an item.

@@ -53,6 +53,11 @@ impl<'t> Line<'t> {
         Ok(self.spaces / STEP)
     }
 
+    /// Its first word. No line that says something is without one.
+    pub fn name(&self) -> &'t str {
+        self.content.split_whitespace().next().unwrap_or_default()
+    }
+
     /// What this line's fault is.
     pub fn fault(&self, found: &str, due: &str) -> Fault {
         Fault {

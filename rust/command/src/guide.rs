@@ -44,8 +44,10 @@ The text form
     deny              permits nothing
     grant 0003 hidden label 4 reason 9 obligations 7,12
                       permits these products with these obligations if the
-                      condition under it is true, and denies if not; what
-                      stands after the products may be left out
+                      one condition under it is true, and denies with this
+                      reason if not; a hidden deny is to be presented as if
+                      the product did not exist; the label names the clause;
+                      what stands after the products may be left out
     all               permits what all policies under it permit; denies if
                       one of them does, or if there is none
     any               permits what any policy under it permits; denies if
@@ -65,9 +67,10 @@ The text form
 
 The road in three commands
   The relay reduces a sheet with the facts it holds, the district narrows the
-  record with its own, and the archive completes it with all of them. The road
-  ends in the effect and the products that evaluate gives in one sitting with
-  all facts; this is proved for every sheet. Paste this into a shell:
+  record with its own, and the archive completes it with all of them. If none
+  of them contradicts another, the road ends in the effect and the products
+  that evaluate gives in one sitting with all facts: this is proved, for every
+  sheet. Paste this into a shell:
 
 ";
 
@@ -75,8 +78,8 @@ const STATUS: &str = "
 Exit status
   0  decided: the answer stands on standard output
   1  refused: `refused NUMBER: WHY` on standard error, and no output
-  2  usage: an option, a file that can't be read, or a fault in a text, with
-     its line";
+  2  usage: an option, a file that can't be read or written, or a fault in
+     a text, with its line";
 
 /// The long help's end.
 pub fn guide() -> String {

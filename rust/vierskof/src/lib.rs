@@ -1,4 +1,96 @@
-//! Proved access decisions.
+//! Proved access decisions: a safe interface to the static library `libvierskof.a`.
+//!
+//! A policy sheet says who may read which products, on which obligations. A sheet is decided in one
+//! sitting, or in stages: whoever holds some of the facts reduces it and passes on the rest. Every
+//! call is proved to end without fault, for any words and bytes, in the answer that the rules give;
+//! and facts brought in stages are proved to end in the effect and the products of one sitting.
+//!
+//! The crate allocates nothing, and its callers need no unsafe code. Sheets and records are 32-bit
+//! words, fact tables are bytes, and each call writes its record into an output that its caller
+//! lends. [`build`] makes a sheet's words, [`read`] gives words back as typed values, and
+//! [`FactTable`] holds what is known.
+//!
+//! # In stages
+//!
+//! A field relay reduces the sheet with the facts it has, the district narrows the record with its
+//! own, and the archive completes it.
+//!
+//! ```
+//! use vierskof::Presence::{Present, Unknown};
+//! use vierskof::build::{Condition, Grant, Policy};
+//! use vierskof::read::{Decision, Record};
+//! use vierskof::{Fact, FactTable, Obligation, Products};
+//!
+//! const CURATOR: Fact = Fact::new(0).unwrap();
+//! const MEMBER: Fact = Fact::new(1).unwrap();
+//! const SIGNED: Fact = Fact::new(2).unwrap();
+//! const NAME_THE_SOURCE: Obligation = Obligation::new(7).unwrap();
+//! const HOURLY_MEANS: Products = Products::only(1).unwrap();
+//!
+//! # fn main() -> Result<(), Box<dyn core::error::Error>> {
+//! // Curators may read hourly means; so may members who have signed, if they name the source.
+//! let curator = Condition::Has(CURATOR);
+//! let both = [Condition::Has(MEMBER), Condition::Has(SIGNED)];
+//! let signed_member = Condition::All(&both);
+//! let grants = [
+//!     Policy::Grant(Grant::new(HOURLY_MEANS, &curator)),
+//!     Policy::Grant(Grant::new(HOURLY_MEANS, &signed_member).obligations(&[NAME_THE_SOURCE])),
+//! ];
+//! let mut words = [0; 32];
+//! let sheet = Policy::Any(&grants).write(&mut words)?;
+//!
+//! // Enough for every call of the chain.
+//! const ROOM: usize = vierskof::room(32);
+//!
+//! // The relay knows that this is no curator. What it hasn't heard of, it says is Unknown.
+//! let facts = FactTable::new().with(MEMBER, Unknown).with(SIGNED, Unknown);
+//! let mut out = [0; ROOM];
+//! let relayed = vierskof::partial_evaluate(sheet.words(), facts.as_bytes(), &mut out)?;
+//!
+//! // The district has the list of members.
+//! let facts = FactTable::new().with(MEMBER, Present).with(SIGNED, Unknown);
+//! let mut out = [0; ROOM];
+//! let narrowed = vierskof::narrow_residual(relayed, facts.as_bytes(), &mut out)?;
+//! assert!(vierskof::required_residual_facts(narrowed)?.iter().eq([SIGNED]));
+//!
+//! // The archive has everything.
+//! let facts = FactTable::new().with(MEMBER, Present).with(SIGNED, Present);
+//! let mut out = [0; ROOM];
+//! let completed = vierskof::complete_residual(narrowed, facts.as_bytes(), &mut out)?;
+//! let Some(Decision::Permit(permit)) = Record::read(completed)?.decision() else {
+//!     panic!("signed members may read");
+//! };
+//! assert_eq!(permit.outcome(), HOURLY_MEANS);
+//! assert!(permit.obligations().eq([NAME_THE_SOURCE]));
+//!
+//! // One sitting with the same facts has the same effect and products.
+//! let mut out = [0; ROOM];
+//! let sitting = vierskof::evaluate(sheet.words(), facts.as_bytes(), &mut out)?;
+//! let Some(Decision::Permit(direct)) = Record::read(sitting)?.decision() else {
+//!     panic!("signed members may read");
+//! };
+//! assert_eq!(direct.outcome(), permit.outcome());
+//! # Ok(())
+//! # }
+//! ```
+//!
+//! # Refusals
+//!
+//! A call that can't answer says why by a [`Refusal`], and leaves its output as it was.
+//!
+//! ```
+//! use vierskof::Refusal;
+//!
+//! let mut out = [0; 8];
+//! let refused = vierskof::evaluate(&[], &[], &mut out);
+//! assert_eq!(refused, Err(Refusal::Length));
+//! assert_eq!(Refusal::Length.number(), 1);
+//! ```
+//!
+//! # Linking
+//!
+//! The static library is looked for in the folder that the environment variable `VIERSKOF_LIB_DIR`
+//! names. Without it the build has `rt staticlib vierskof` prove and make it.
 #![no_std]
 
 mod c;
@@ -7,11 +99,10 @@ mod facts;
 mod numbers;
 mod products;
 mod refusal;
+mod shape;
 
 pub mod build;
 pub mod read;
-
-use core::fmt;
 
 pub use calls::{
     carries_obligation, complete_residual, evaluate, is_deny_constant, is_permit_constant,
@@ -21,6 +112,7 @@ pub use facts::{FactSet, FactSetIter, FactTable, Presence};
 pub use numbers::{Fact, Label, Obligation, OutOfRange, Reason};
 pub use products::Products;
 pub use refusal::Refusal;
+pub use shape::Shape;
 
 /// Words of the longest sheet.
 pub const SHEET_WORDS: usize = 4_096;
@@ -30,30 +122,17 @@ pub const RECORD_WORDS: usize = 16_384;
 pub const TABLE_BYTES: usize = 256;
 /// Nodes on the longest way down a tree, grant and condition together.
 pub const LEVELS: usize = 32;
-/// What a count of arms, facts or consulted entries can say.
+/// The most arms, facts or consulted entries of one list.
 pub const LIST: usize = 4_095;
 
-/// The room that is always enough for every call of a chain that begins with a sheet of so many words.
+/// An output that is room enough for every call on a sheet of so many words and on the records that come of it.
+///
+/// With such outputs [`Refusal::Room`] is proved not to come.
+///
+/// ```
+/// assert_eq!(vierskof::room(vierskof::SHEET_WORDS), 12_801);
+/// ```
 #[must_use]
 pub const fn room(sheet_words: usize) -> usize {
     sheet_words.saturating_mul(3).saturating_add(513)
-}
-
-/// How a deny is to be shown.
-#[derive(Clone, Copy, Debug, Default, PartialEq, Eq, Hash)]
-pub enum Shape {
-    /// As a deny.
-    #[default]
-    Forbidden,
-    /// As if there were nothing.
-    Hidden,
-}
-
-impl fmt::Display for Shape {
-    fn fmt(&self, f: &mut fmt::Formatter<'_>) -> fmt::Result {
-        f.pad(match self {
-            Self::Forbidden => "forbidden",
-            Self::Hidden => "hidden",
-        })
-    }
 }

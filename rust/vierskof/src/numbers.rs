@@ -41,7 +41,7 @@ macro_rules! number {
 
             /// The one whose number is that of the field's bits, which are never more than it has.
             pub(crate) const fn of_field(field: u32) -> Self {
-                Self(field as $kind & $most)
+                Self((field & $most) as $kind)
             }
 
             /// Its number.

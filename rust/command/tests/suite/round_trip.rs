@@ -88,3 +88,53 @@ fn documents_at_the_limits() {
     assert_eq!(tally(limits::sheets(&mut Rng::new(1))), [16, 13]);
     assert_eq!(tally(limits::records(&mut Rng::new(1))), [21, 8]);
 }
+
+/// A text with one or two edits, each in one place.
+fn edited(rng: &mut Rng, text: &str) -> String {
+    let mut lines: Vec<String> = text.lines().map(str::to_owned).collect();
+    for _ in 0..rng.between(1, 2) {
+        let (at, other) = (rng.below(lines.len()), rng.below(lines.len()));
+        match rng.below(6) {
+            0 => lines[at].clear(),
+            1 => lines.insert(at, lines[other].clone()),
+            2 => lines.swap(at, other),
+            3 => lines[at].insert_str(0, "  "),
+            4 => lines[at] = lines[at].replacen("  ", "", 1),
+            _ => {
+                let from = rng.pick(&["0", "1", "5", " ", ",", "=", "a", "l"]);
+                let to = rng.pick(&["", "0", "9", " ", ",", "#", "=", "any", "\t", "ü"]);
+                lines[at] = lines[at].replacen(from, to, 1);
+            }
+        }
+    }
+    lines.join("\n")
+}
+
+#[test]
+fn edited_texts_are_faulty_or_say_words() {
+    let mut rng = Rng::new(3);
+    let (mut faulty, mut accepted, mut refused) = (0, 0, 0);
+    for case in cases::draw(3, 20_000, &Call::ALL) {
+        let Ok(document) = Document::read(&case.words) else {
+            continue;
+        };
+        let text = edited(&mut rng, &document.to_string());
+        match assemble(&text) {
+            Err(fault) => {
+                assert!((1..=text.lines().count()).contains(&fault.line), "{fault}");
+                faulty += 1;
+            }
+            Ok(words) if returns(&words) => accepted += 1,
+            Ok(words) => {
+                // Length, level and repeats are all that a text without a fault leaves to refuse.
+                let number = Document::read(&words).map_err(|refusal| refusal.number());
+                assert!(matches!(number, Err(1 | 7 | 9)), "{text}");
+                refused += 1;
+            }
+        }
+    }
+    assert!(
+        faulty > 3_000 && accepted > 3_000 && refused > 10,
+        "{faulty} {accepted} {refused}"
+    );
+}

@@ -4,7 +4,7 @@
 pub const ROAD: &str = "\
 cat > licence.txt <<'END'
 # Products: 0 raw stage, 1 hourly means, 2 yearly totals.
-# Facts: 5 a licence, 6 past its ninety days, 7 a research agreement.
+# Facts: 5 licence, 6 past its ninety days, 7 research, 8 own station.
 any
   permit 0004
   grant 0001 label 1 reason 1 obligations 7
@@ -14,8 +14,8 @@ any
         has 6
   grant 0002 label 2 reason 2
     any
-      has 5
       has 7
+      has 8
 END
 vierskof reduce licence.txt --facts 6=absent |
   vierskof narrow --facts 7=present |

@@ -52,7 +52,7 @@ fn the_road_leads_over_two_pending_records() {
                   vierskof narrow relay --facts 7=present > district\n\
                   vierskof required relay\n\
                   vierskof required district";
-    assert_eq!(shell(stages, &folder), "5\n7\n5\n");
+    assert_eq!(shell(stages, &folder), "5\n7\n8\n5\n");
 }
 
 #[test]

@@ -127,7 +127,7 @@ fn edited_texts_are_faulty_or_say_words() {
             Ok(words) if returns(&words) => accepted += 1,
             Ok(words) => {
                 // Length, level and repeats are all that a text without a fault leaves to refuse.
-                let number = Document::read(&words).map_err(|refusal| refusal.number());
+                let number = judged(&words).map_err(Refusal::number);
                 assert!(matches!(number, Err(1 | 7 | 9)), "{text}");
                 refused += 1;
             }

@@ -243,11 +243,9 @@ fn put_arms<T>(
     out: &mut Output<'_>,
     put: fn(&T, usize, &mut Output<'_>) -> Result<(), Unwritable>,
 ) -> Result<(), Unwritable> {
-    let count = u32::try_from(arms.len()).map_err(|_| Unwritable::Arms)?;
-    if arms.len() > LIST {
-        return Err(Unwritable::Arms);
-    }
-    out.node(kind, count)?;
+    let count = u32::try_from(arms.len()).ok();
+    let count = count.filter(|_| arms.len() <= LIST);
+    out.node(kind, count.ok_or(Unwritable::Arms)?)?;
     arms.iter().try_for_each(|arm| put(arm, level + 1, out))
 }
 

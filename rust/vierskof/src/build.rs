@@ -1,4 +1,30 @@
 //! A sheet as a value, and its words.
+//!
+//! The values lend each other their parts, so that nothing is allocated. What can't be a sheet is
+//! refused before a word is written.
+//!
+//! ```
+//! use vierskof::build::{Condition, Grant, Policy};
+//! use vierskof::{Fact, Label, Products};
+//!
+//! const MEMBER: Fact = Fact::new(5).unwrap();
+//! const CLOSED: Fact = Fact::new(6).unwrap();
+//! const MEMBERS: Label = Label::new(1).unwrap();
+//!
+//! // Members may read everything unless the gauge is closed; others are told of nothing.
+//! let closed = Condition::Has(CLOSED);
+//! let arms = [Condition::Has(MEMBER), Condition::Not(&closed)];
+//! let open_to_members = Condition::All(&arms);
+//! let grant = Grant::new(Products::ALL, &open_to_members).hidden().label(MEMBERS);
+//!
+//! let mut words = [0; 16];
+//! let sheet = Policy::Grant(grant).write(&mut words)?;
+//! assert_eq!(
+//!     sheet.words(),
+//!     [0x8800_FFFF, 0x8001_0000, 0x4000_0002, 0x2000_0005, 0x3000_0000, 0x2000_0006],
+//! );
+//! # Ok::<(), vierskof::build::Unwritable>(())
+//! ```
 
 use core::error::Error;
 use core::fmt;
@@ -34,13 +60,29 @@ pub enum Policy<'t> {
     Grant(Grant<'t>),
     /// Permits the products that all arms permit; the first arm that denies decides.
     All(&'t [Policy<'t>]),
-    /// Permits the products that any arm permits.
+    /// Permits the products that any arm permits; denies if all do.
     Any(&'t [Policy<'t>]),
     /// The primary decides; if it denies, the fallback does.
     OrElse(&'t Policy<'t>, &'t Policy<'t>),
 }
 
 /// Permits its products if its condition is true, and denies them otherwise.
+///
+/// ```
+/// use vierskof::build::{Condition, Grant, Policy};
+/// use vierskof::{Obligation, Products, Reason};
+///
+/// const NAME_THE_SOURCE: Obligation = Obligation::new(7).unwrap();
+/// const CLOSED: Reason = Reason::new(2).unwrap();
+///
+/// let grant = Grant::new(Products::from_bits(1), &Condition::Never)
+///     .reason(CLOSED)
+///     .obligations(&[NAME_THE_SOURCE]);
+/// let mut out = [0; 4];
+/// let sheet = Policy::Grant(grant).write(&mut out)?;
+/// assert_eq!(sheet.words(), [0x8010_0001, 0x0000_8002, 0x0700_0000, 0x1000_0000]);
+/// # Ok::<(), vierskof::build::Unwritable>(())
+/// ```
 #[derive(Clone, Copy, Debug, PartialEq, Eq, Hash)]
 pub struct Grant<'t> {
     outcome: Products,
@@ -51,7 +93,16 @@ pub struct Grant<'t> {
     obligations: &'t [Obligation],
 }
 
-/// Why a policy can't be written as a sheet. Nothing was written.
+/// Why a policy can't be written as a sheet: the first cause from its top down, [`Room`](Self::Room) last. Nothing was written.
+///
+/// ```
+/// use vierskof::build::{Policy, Unwritable};
+///
+/// let mut out = [1, 2];
+/// let arms = [Policy::Deny, Policy::Deny];
+/// assert_eq!(Policy::All(&arms).write(&mut out), Err(Unwritable::Room));
+/// assert_eq!(out, [1, 2]);
+/// ```
 #[derive(Clone, Copy, Debug, PartialEq, Eq, Hash)]
 pub enum Unwritable {
     /// A node stands on a 33rd level.
@@ -111,6 +162,12 @@ impl<'t> Grant<'t> {
 
 impl Policy<'_> {
     /// How many words the sheet has.
+    ///
+    /// ```
+    /// use vierskof::build::Policy;
+    ///
+    /// assert_eq!(Policy::OrElse(&Policy::Deny, &Policy::Deny).len(), Ok(3));
+    /// ```
     #[expect(clippy::len_without_is_empty, reason = "every sheet has a word")]
     pub fn len(&self) -> Result<usize, Unwritable> {
         let mut counted = Output::new(&mut []);
@@ -118,7 +175,7 @@ impl Policy<'_> {
         Ok(counted.length)
     }
 
-    /// Writes the sheet to the first words of `out`.
+    /// Writes the sheet to the first words of `out`, and leaves the later ones as they were.
     pub fn write<'o>(&self, out: &'o mut [u32]) -> Result<Sheet<'o>, Unwritable> {
         let words = out.get_mut(..self.len()?).ok_or(Unwritable::Room)?;
         self.put(1, &mut Output::new(words))?;
@@ -186,11 +243,9 @@ fn put_arms<T>(
     out: &mut Output<'_>,
     put: fn(&T, usize, &mut Output<'_>) -> Result<(), Unwritable>,
 ) -> Result<(), Unwritable> {
-    let count = u32::try_from(arms.len()).map_err(|_| Unwritable::Arms)?;
-    if arms.len() > LIST {
-        return Err(Unwritable::Arms);
-    }
-    out.node(kind, count)?;
+    let count = u32::try_from(arms.len()).ok();
+    let count = count.filter(|_| arms.len() <= LIST);
+    out.node(kind, count.ok_or(Unwritable::Arms)?)?;
     arms.iter().try_for_each(|arm| put(arm, level + 1, out))
 }
 

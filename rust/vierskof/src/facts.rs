@@ -9,6 +9,13 @@ pub use set::{FactSet, FactSetIter};
 pub use table::FactTable;
 
 /// What is known of a fact.
+///
+/// ```
+/// use vierskof::Presence;
+///
+/// assert_eq!(Presence::default(), Presence::Absent);
+/// assert_eq!(Presence::Unknown.to_string(), "unknown");
+/// ```
 #[derive(Clone, Copy, Debug, Default, PartialEq, Eq, Hash)]
 pub enum Presence {
     /// It isn't so.
@@ -40,6 +47,7 @@ impl Presence {
     }
 }
 
+/// `absent`, `present` or `unknown`, as in listings.
 impl fmt::Display for Presence {
     fn fmt(&self, f: &mut fmt::Formatter<'_>) -> fmt::Result {
         f.pad(match self {

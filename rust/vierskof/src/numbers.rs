@@ -39,7 +39,7 @@ macro_rules! number {
                 if number <= $most { Some(Self(number)) } else { None }
             }
 
-            /// The one whose number is that of the field's bits, which are never more than it has.
+            /// The one in the low bits of a field.
             pub(crate) const fn of_field(field: u32) -> Self {
                 Self((field & $most) as $kind)
             }
@@ -74,18 +74,50 @@ macro_rules! number {
 }
 
 number! {
-    /// A fact, 0 to 1,023: something that is so of a request or isn't, or isn't known yet.
+    /// A fact, 0 to 1,023: what a condition asks for.
+    ///
+    /// ```
+    /// use vierskof::Fact;
+    ///
+    /// const MEMBER: Fact = Fact::new(5).unwrap();
+    /// assert_eq!(MEMBER.number(), 5);
+    /// assert_eq!(MEMBER.to_string(), "5");
+    /// assert_eq!(Fact::new(1_024), None);
+    /// let error = Fact::try_from(1_024).unwrap_err();
+    /// assert_eq!(error.to_string(), "a fact is a number from 0 to 1023");
+    /// ```
     Fact(u16), 1_023, "a fact is a number from 0 to 1023"
 }
 number! {
-    /// An obligation, 0 to 63: what goes with a permit.
+    /// An obligation, 0 to 63: what whoever is permitted has to do.
+    ///
+    /// ```
+    /// use vierskof::Obligation;
+    ///
+    /// assert_eq!(Obligation::new(63), Some(Obligation::MAX));
+    /// assert_eq!(Obligation::new(64), None);
+    /// ```
     Obligation(u8), 63, "an obligation is a number from 0 to 63"
 }
 number! {
     /// A label, 0 to 32,767: the name of a grant's clause.
+    ///
+    /// ```
+    /// use vierskof::Label;
+    ///
+    /// assert_eq!(Label::new(32_767), Some(Label::MAX));
+    /// assert_eq!(Label::new(32_768), None);
+    /// ```
     Label(u16), 32_767, "a label is a number from 0 to 32767"
 }
 number! {
-    /// A reason, 0 to 32,767: why a grant's deny is one.
+    /// A reason, 0 to 32,767: what a grant's deny gives as its cause.
+    ///
+    /// ```
+    /// use vierskof::Reason;
+    ///
+    /// assert_eq!(Reason::new(32_767), Some(Reason::MAX));
+    /// assert_eq!(Reason::new(32_768), None);
+    /// ```
     Reason(u16), 32_767, "a reason is a number from 0 to 32767"
 }

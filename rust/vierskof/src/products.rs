@@ -3,7 +3,19 @@
 use core::fmt;
 use core::ops::{BitAnd, BitOr};
 
-/// A set of the sixteen products, one bit each, product 0 the lowest.
+/// A set of the sixteen products, one bit each, product 0 the lowest: what a policy permits.
+///
+/// ```
+/// use vierskof::Products;
+///
+/// let some = Products::from_bits(0x0003);
+/// let others = Products::from_bits(0x0006);
+/// assert_eq!((some & others).bits(), 0x0002);
+/// assert_eq!((some | others).bits(), 0x0007);
+/// assert!(some.contains(0) && !some.contains(2));
+/// assert_eq!(some.to_string(), "0003");
+/// assert_eq!(Products::only(1), Some(some & others));
+/// ```
 #[derive(Clone, Copy, Debug, Default, PartialEq, Eq, Hash)]
 pub struct Products(u16);
 
@@ -83,6 +95,7 @@ impl FromIterator<Products> for Products {
     }
 }
 
+/// Four hexadecimal digits, as in listings.
 impl fmt::Display for Products {
     fn fmt(&self, f: &mut fmt::Formatter<'_>) -> fmt::Result {
         write!(f, "{:04X}", self.0)

@@ -1,4 +1,32 @@
 //! Sheets and records as typed values, over words that the proved reader has accepted.
+//!
+//! The values borrow the words and copy nothing. A tree is walked by matching on each node:
+//!
+//! ```
+//! use vierskof::Fact;
+//! use vierskof::read::{Condition, ConditionRef, Policy, Sheet};
+//!
+//! /// How many Has there are in a condition.
+//! fn asks(condition: ConditionRef) -> usize {
+//!     match condition.node() {
+//!         Condition::Always | Condition::Never => 0,
+//!         Condition::Has(_) => 1,
+//!         Condition::Not(inner) => asks(inner),
+//!         Condition::All(arms) | Condition::Any(arms) => arms.map(asks).sum(),
+//!     }
+//! }
+//!
+//! // Permit product 0 if fact 1 is Present and fact 2 isn't.
+//! let words = [0x8000_0001, 0x0000_0000, 0x4000_0002, 0x2000_0001, 0x3000_0000, 0x2000_0002];
+//! let Policy::Grant(grant) = Sheet::read(&words)?.policy().node() else {
+//!     panic!("the sheet is a grant");
+//! };
+//! assert!(grant.outcome().contains(0));
+//! assert_eq!(asks(grant.condition()), 2);
+//! # Ok::<(), vierskof::Refusal>(())
+//! ```
+//!
+//! A tree has at most 32 levels, so a function that calls itself for each node needs little stack.
 
 mod lists;
 mod nodes;
@@ -15,13 +43,23 @@ use self::words::{count, halves, kind, tail, word};
 use crate::{Refusal, calls};
 
 /// A sheet's words, known to be valid.
+///
+/// ```
+/// use vierskof::read::{Policy, Sheet};
+/// use vierskof::{Products, Refusal};
+///
+/// let sheet = Sheet::read(&[0x6000_0001])?;
+/// assert_eq!(sheet.policy().node(), Policy::Permit(Products::from_bits(1)));
+/// assert_eq!(Sheet::read(&[0x6001_0001]), Err(Refusal::Field));
+/// # Ok::<(), Refusal>(())
+/// ```
 #[derive(Clone, Copy, PartialEq, Eq, Hash)]
 pub struct Sheet<'w> {
     words: &'w [u32],
 }
 
 impl<'w> Sheet<'w> {
-    /// Has the proved reader judge the words: a refusal is 1 or 5 to 10.
+    /// Has the proved reader judge the words: it refuses for the causes 1 and 5 to 10.
     pub fn read(words: &'w [u32]) -> Result<Self, Refusal> {
         // Of the calls that read a sheet, the one that takes neither table nor output.
         calls::required_facts(words).map(|_| Self { words })
@@ -61,13 +99,29 @@ pub enum Status {
 }
 
 /// A record's words, known to be valid.
+///
+/// ```
+/// use vierskof::Presence;
+/// use vierskof::read::{Decision, Record, Status};
+///
+/// let words = [0xE000_0001, 0x4005_0000, 0xC000_0003, 0x0000_0001, 0x0005_0000];
+/// let record = Record::read(&words)?;
+/// assert_eq!(record.status(), Status::Resolved);
+/// let read = record.consulted().next().expect("one fact was read");
+/// assert_eq!((read.fact.number(), read.presence), (5, Presence::Present));
+/// let Some(Decision::Permit(permit)) = record.decision() else {
+///     panic!("the record is a permit");
+/// };
+/// assert_eq!(permit.outcome().to_string(), "0003");
+/// # Ok::<(), vierskof::Refusal>(())
+/// ```
 #[derive(Clone, Copy, PartialEq, Eq, Hash)]
 pub struct Record<'w> {
     words: &'w [u32],
 }
 
 impl<'w> Record<'w> {
-    /// Has the proved reader judge the words: a refusal is 1 or 5 to 10.
+    /// Has the proved reader judge the words: it refuses for the causes 1 and 5 to 10.
     pub fn read(words: &'w [u32]) -> Result<Self, Refusal> {
         // Of the calls that read a record, one that does no more than to check it.
         calls::is_permit_constant(words).map(|_| Self { words })
@@ -102,7 +156,7 @@ impl<'w> Record<'w> {
         PolicyRef::new(tail(self.words, 1 + entries))
     }
 
-    /// The decision of a Resolved record.
+    /// The decision, if the record is Resolved.
     #[must_use]
     pub fn decision(self) -> Option<Decision<'w>> {
         match (self.status(), self.tree().node()) {

@@ -5,7 +5,21 @@ use core::fmt;
 
 use crate::OutOfRange;
 
-/// Why a call was turned back. Its number is the discriminant; a call that has several causes names the first in the order of checking.
+/// Why a call was turned back.
+///
+/// The discriminant is the cause's number. Where there are several causes, the call names the first
+/// that its reading meets: the length of the words, then the table, then the words from the first,
+/// then what follows them, then the room.
+///
+/// ```
+/// use vierskof::Refusal;
+///
+/// let refusal = vierskof::required_facts(&[0x7000_0000, 0x7000_0000]).unwrap_err();
+/// assert_eq!(refusal, Refusal::WordsAfterTree);
+/// assert_eq!(refusal.number(), 10);
+/// assert_eq!(refusal.to_string(), "there are words after the tree");
+/// assert_eq!(Refusal::try_from(10), Ok(refusal));
+/// ```
 #[derive(Clone, Copy, Debug, PartialEq, Eq, PartialOrd, Ord, Hash)]
 #[repr(u32)]
 pub enum Refusal {
@@ -23,13 +37,13 @@ pub enum Refusal {
     WordsEnd = 6,
     /// A node stands on a 33rd level.
     Level = 7,
-    /// A field that must be 0 isn't, or holds a number that is too high.
+    /// A field that must be 0 isn't, an obligation is over 63 or their count over 64, or a consulted presence is 3.
     Field = 8,
     /// An obligation is repeated in one list.
     RepeatedObligation = 9,
     /// There are words after the tree.
     WordsAfterTree = 10,
-    /// The resulting record has no room in the output or in a record's limits.
+    /// The resulting record is longer than the output or than 16,384 words, or a fact list in it has over 4,095 facts.
     Room = 11,
 }
 

@@ -9,6 +9,18 @@ use crate::Fact;
 const TOP: u64 = 1 << 63;
 
 /// A set of facts: sixteen numbers, fact 0 the top bit of the first.
+///
+/// ```
+/// use vierskof::{Fact, FactSet};
+///
+/// const MEMBER: Fact = Fact::new(5).unwrap();
+///
+/// let set = FactSet::from_iter([Fact::MAX, MEMBER]);
+/// assert!(set.contains(MEMBER));
+/// assert_eq!(set.len(), 2);
+/// assert!(set.iter().eq([MEMBER, Fact::MAX]));
+/// assert_eq!(set.numbers()[0], 1 << (63 - 5));
+/// ```
 #[derive(Clone, Copy, Default, PartialEq, Eq, Hash)]
 pub struct FactSet {
     numbers: [u64; 16],

@@ -8,7 +8,22 @@ use crate::{Fact, Refusal, TABLE_BYTES};
 /// Facts in a byte.
 const FIELDS: usize = 4;
 
-/// What is known of every fact: a fact that nothing was said of is Absent.
+/// What is known of every fact. A fact that nothing was said of is Absent, never Unknown.
+///
+/// ```
+/// use vierskof::{Fact, FactTable, Presence};
+///
+/// const MEMBER: Fact = Fact::new(5).unwrap();
+/// const SIGNED: Fact = Fact::new(6).unwrap();
+///
+/// let table = FactTable::new()
+///     .with(MEMBER, Presence::Present)
+///     .with(SIGNED, Presence::Unknown);
+/// assert_eq!(table.presence(SIGNED), Presence::Unknown);
+/// assert_eq!(table.presence(Fact::MAX), Presence::Absent);
+/// assert_eq!(table.as_bytes(), [0x00, 0x18]);
+/// assert!(!table.is_known());
+/// ```
 #[derive(Clone, PartialEq, Eq, Hash)]
 pub struct FactTable {
     // All of them, so that tables that say the same are equal.
@@ -24,7 +39,16 @@ impl FactTable {
         }
     }
 
-    /// The table that these bytes say: at most 256, four facts a byte, the first in the top bits, 0 Absent, 1 Present, 2 Unknown.
+    /// The table that these bytes say: at most 256, four 2-bit fields a byte, most significant first, 0 Absent, 1 Present, 2 Unknown.
+    ///
+    /// ```
+    /// use vierskof::{FactTable, Refusal};
+    ///
+    /// assert!(FactTable::from_bytes(&[0x00, 0x10])?.is_known());
+    /// assert_eq!(FactTable::from_bytes(&[0; 257]), Err(Refusal::TableLength));
+    /// assert_eq!(FactTable::from_bytes(&[0x0C]), Err(Refusal::TableField));
+    /// # Ok::<(), Refusal>(())
+    /// ```
     pub fn from_bytes(given: &[u8]) -> Result<Self, Refusal> {
         let mut table = Self::new();
         let bytes = table.bytes.get_mut(..given.len());
@@ -37,7 +61,7 @@ impl FactTable {
         }
     }
 
-    /// The shortest bytes that say this table.
+    /// The shortest bytes that say this table; calls take them.
     #[must_use]
     pub fn as_bytes(&self) -> &[u8] {
         let last = self.bytes.iter().rposition(|&byte| byte != 0);
@@ -45,7 +69,7 @@ impl FactTable {
         self.bytes.get(..length).unwrap_or_default()
     }
 
-    /// Says what is known of a fact.
+    /// Says what is known of a fact, instead of what was said before.
     pub fn set(&mut self, fact: Fact, presence: Presence) -> &mut Self {
         let (at, shift) = place(fact);
         if let Some(byte) = self.bytes.get_mut(at) {
@@ -54,7 +78,7 @@ impl FactTable {
         self
     }
 
-    /// The table with this said as well.
+    /// The table after [`set`](Self::set).
     #[must_use]
     pub fn with(mut self, fact: Fact, presence: Presence) -> Self {
         self.set(fact, presence);
@@ -69,7 +93,7 @@ impl FactTable {
         Presence::of_field(u32::from(byte >> shift & 3)).unwrap_or_default()
     }
 
-    /// Whether no fact is Unknown.
+    /// Whether no fact is Unknown, as evaluating and completing need it.
     #[must_use]
     pub fn is_known(&self) -> bool {
         self.bytes.iter().all(|byte| byte & 0xAA == 0)

@@ -6,13 +6,13 @@ use super::words::{arms, count, extent, kind, obligations, quarters, tail, word}
 use super::{Conditions, Facts, Obligations, Policies};
 use crate::{Fact, Label, Products, Reason, Shape};
 
-/// A policy's words.
+/// A policy in a sheet or record.
 #[derive(Clone, Copy, PartialEq, Eq, Hash)]
 pub struct PolicyRef<'w> {
     words: &'w [u32],
 }
 
-/// A condition's words.
+/// A condition in a sheet or record.
 #[derive(Clone, Copy, PartialEq, Eq, Hash)]
 pub struct ConditionRef<'w> {
     words: &'w [u32],
@@ -27,20 +27,20 @@ pub enum Policy<'w> {
     Deny,
     /// Permits if its condition is true.
     Grant(GrantRef<'w>),
-    /// Permits what all arms permit.
+    /// Permits the products that all arms permit; the first arm that denies decides.
     All(Policies<'w>),
-    /// Permits what any arm permits.
+    /// Permits the products that any arm permits; denies if all do.
     Any(Policies<'w>),
-    /// The fallback decides if the primary denies.
+    /// The primary decides; if it denies, the fallback does.
     OrElse {
         /// What decides first.
         primary: PolicyRef<'w>,
         /// What decides after a deny.
         fallback: PolicyRef<'w>,
     },
-    /// A stored permit, in records only.
+    /// A part that is decided already, in records only.
     PermitWithTrace(PermitWithTrace<'w>),
-    /// A stored deny, in records only.
+    /// A part that is decided already, in records only.
     DenyWithTrace(DenyWithTrace<'w>),
 }
 
@@ -55,7 +55,7 @@ pub enum Condition<'w> {
     Has(Fact),
     /// True if the condition is false.
     Not(ConditionRef<'w>),
-    /// True if all arms are, of which there is one.
+    /// True if all arms are; false if there is none.
     All(Conditions<'w>),
     /// True if any arm is.
     Any(Conditions<'w>),
@@ -154,7 +154,7 @@ impl fmt::Debug for ConditionRef<'_> {
     }
 }
 
-/// A grant: permits its products if its condition is true.
+/// Permits its products if its condition is true, and denies them otherwise.
 #[derive(Clone, Copy, PartialEq, Eq, Hash)]
 pub struct GrantRef<'w> {
     words: &'w [u32],

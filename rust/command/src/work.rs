@@ -9,7 +9,7 @@ use std::path::Path;
 use vierskof::{Presence, RECORD_WORDS, Refusal};
 
 use crate::arguments::{Arguments, Call, Command, Facts, Input};
-use crate::document::Document;
+use crate::document::{Document, Kind};
 use crate::facts;
 use crate::form::Form;
 
@@ -19,8 +19,8 @@ const LONGEST: u64 = 16 << 20;
 /// Why there is no answer.
 #[derive(Clone, Debug, PartialEq, Eq)]
 pub enum Failure {
-    /// The proved library refuses the words or the table.
-    Refused(Refusal),
+    /// The proved library refuses the words or the table; with a hint, if there is one.
+    Refused(Refusal, Option<&'static str>),
     /// The command can't be carried out as it is given.
     Usage(String),
 }
@@ -29,7 +29,7 @@ impl Failure {
     /// The exit status.
     pub const fn status(&self) -> u8 {
         match self {
-            Self::Refused(_) => 1,
+            Self::Refused(..) => 1,
             Self::Usage(_) => 2,
         }
     }
@@ -38,7 +38,10 @@ impl Failure {
 impl Display for Failure {
     fn fmt(&self, f: &mut Formatter<'_>) -> fmt::Result {
         match self {
-            Self::Refused(refusal) => write!(f, "refused {}: {refusal}", refusal.number()),
+            Self::Refused(refusal, hint) => {
+                write!(f, "refused {}: {refusal}", refusal.number())?;
+                hint.map_or(Ok(()), |hint| write!(f, " ({hint})"))
+            }
             Self::Usage(message) => write!(f, "error: {message}"),
         }
     }
@@ -48,7 +51,7 @@ impl Error for Failure {}
 
 impl From<Refusal> for Failure {
     fn from(refusal: Refusal) -> Self {
-        Self::Refused(refusal)
+        Self::Refused(refusal, None)
     }
 }
 
@@ -72,7 +75,19 @@ fn decide(call: &Call, proved: Proved, rest: Presence) -> Result<Vec<u8>, Failur
     let words = words(&call.input)?;
     let table = table(&call.facts, rest)?;
     let mut out = vec![0; RECORD_WORDS];
-    written(proved(&words, &table, &mut out)?, call.to)
+    let record = proved(&words, &table, &mut out).map_err(|refusal| refused(refusal, &words))?;
+    written(record, call.to)
+}
+
+/// The failure of a call on these words. Whole ones that are refused for a kind are a sheet where a record is due, or a record where a sheet is.
+fn refused(refusal: Refusal, words: &[u32]) -> Failure {
+    let whole = Document::read(words).ok();
+    let mistaken = whole.filter(|_| refusal == Refusal::Kind);
+    let hint = mistaken.map(|document| match document.kind() {
+        Kind::Sheet(_) => "this is a sheet: evaluate and reduce take it",
+        Kind::Record(_) => "this is a record: narrow and complete take it",
+    });
+    Failure::Refused(refusal, hint)
 }
 
 fn required(words: &[u32]) -> Result<Vec<u8>, Failure> {

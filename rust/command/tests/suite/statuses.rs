@@ -39,6 +39,25 @@ fn refusals_say_their_number() {
 }
 
 #[test]
+fn words_of_the_other_kind() {
+    for call in ["evaluate", "reduce"] {
+        let message = failure(1, call, "pending\ndeny");
+        let hint = " (this is a record: narrow and complete take it)\n";
+        assert!(message.ends_with(hint), "{message}");
+        let message = failure(1, call, "C0000001 00000000");
+        assert!(
+            message.starts_with("refused 5: ") && !message.contains('('),
+            "{message}"
+        );
+    }
+    for call in ["narrow", "complete"] {
+        let message = failure(1, call, SHEET);
+        let hint = " (this is a sheet: evaluate and reduce take it)\n";
+        assert!(message.ends_with(hint), "{message}");
+    }
+}
+
+#[test]
 fn a_record_without_room_is_refused() {
     // A true All names all its facts, here one more than a list can hold.
     let has = |count: usize| "      has 1\n".repeat(count);

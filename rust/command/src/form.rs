@@ -3,8 +3,7 @@
 use clap::ValueEnum;
 
 use crate::document::Document;
-use crate::text::assemble::assemble;
-use crate::text::{Fault, quoted};
+use crate::text::{Fault, assemble, quoted};
 
 /// Words on a line of the hexadecimal form.
 const ROW: usize = 8;

@@ -1,6 +1,6 @@
 //! Faults of a text: the line, what was found and what is due.
 
-use command::text::assemble::assemble;
+use command::text::assemble;
 
 use super::{assembled, failure, hex, words};
 

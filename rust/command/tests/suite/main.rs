@@ -13,7 +13,7 @@ use std::io::Write;
 use std::path::PathBuf;
 use std::process::{Command, Output, Stdio};
 
-use command::text::assemble::assemble;
+use command::text::assemble;
 
 /// Words written as document 01 writes them.
 fn words(text: &str) -> Vec<u32> {

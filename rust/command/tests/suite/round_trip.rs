@@ -2,7 +2,7 @@
 
 use command::document::Document;
 use command::form::Form;
-use command::text::assemble::assemble;
+use command::text::assemble;
 use compare::case::Call;
 use compare::generate::rng::Rng;
 use compare::generate::{cases, exhaustive, limits};

@@ -176,3 +176,46 @@ impl fmt::Debug for Record<'_> {
             .finish()
     }
 }
+
+#[cfg(test)]
+mod tests {
+    use super::*;
+
+    /// Reads what a policy's top node holds, and how many parts it has.
+    fn parts(policy: PolicyRef<'_>) -> usize {
+        match policy.node() {
+            Policy::Permit(_) | Policy::Deny => 0,
+            Policy::Grant(grant) => {
+                let conditions = match grant.condition().node() {
+                    Condition::All(arms) | Condition::Any(arms) => arms.count(),
+                    _ => 1,
+                };
+                grant.obligations().count() + conditions
+            }
+            Policy::All(arms) | Policy::Any(arms) => arms.count(),
+            Policy::OrElse { primary, fallback } => primary.words().len() + fallback.words().len(),
+            Policy::PermitWithTrace(permit) => {
+                permit.obligations().count() + permit.facts().count()
+            }
+            Policy::DenyWithTrace(deny) => deny.facts().count(),
+        }
+    }
+
+    /// Words that no reader has accepted are never seen from outside; yet nothing here depends on that to end without a panic.
+    #[test]
+    fn any_words_are_walked_without_a_panic() {
+        let mut drawn = 1_u32;
+        for length in (0..24).cycle().take(5_000) {
+            let words: [u32; 24] = core::array::from_fn(|_| {
+                drawn = drawn.wrapping_mul(1_664_525).wrapping_add(1_013_904_223);
+                drawn
+            });
+            let words = &words[..length];
+            assert!(parts(PolicyRef::new(words)) <= 2 * 4_095);
+            let record = Record { words };
+            assert!(record.consulted().count() <= 4_095);
+            assert!(parts(record.tree()) <= 2 * 4_095);
+            let _ = (record.status(), record.decision());
+        }
+    }
+}

@@ -88,11 +88,10 @@ fn required_facts(sheet: &Sheet) -> Timed {
     let words = &sheet.words;
     same_answers(Call::RequiredFacts, words, &[]);
     let policy = to_policy(&read::sheet(words).expect("a sheet"));
-    let mut set = [0; 16];
     by_turns(
         || {
-            let counted = vierskof::required_facts(black_box(words), &mut set);
-            black_box(counted).expect("accepted");
+            let set = vierskof::required_facts(black_box(words));
+            black_box(set).expect("accepted");
         },
         || {
             black_box(gatekeep::required_facts(black_box(&policy)));
@@ -108,11 +107,10 @@ fn required_residual_facts(sheet: &Sheet) -> Timed {
         unreachable!("a record with a tree");
     };
     let policy = to_residual_policy(&residual);
-    let mut set = [0; 16];
     by_turns(
         || {
-            let counted = vierskof::required_residual_facts(black_box(&words), &mut set);
-            black_box(counted).expect("accepted");
+            let set = vierskof::required_residual_facts(black_box(&words));
+            black_box(set).expect("accepted");
         },
         || {
             black_box(gatekeep::required_residual_facts(black_box(&policy)));

@@ -4,7 +4,7 @@ use crate::case::{Answer, Call, Case};
 use crate::refusal::Refusal;
 
 /// A proved call that takes words, a table and an output.
-pub type Writer = fn(&[u32], &[u8], &mut [u32]) -> Result<usize, u32>;
+pub type Writer = for<'o> fn(&[u32], &[u8], &'o mut [u32]) -> Result<&'o [u32], vierskof::Refusal>;
 
 /// Whether the proved call answers as the original does, and leaves what it must.
 pub fn agrees(case: &Case) -> bool {
@@ -26,41 +26,47 @@ fn writes(case: &Case, expected: &Result<Answer, Refusal>, call: Writer) -> bool
     // Words that no record has at these places, so that one that is wrongly written or left shows.
     let before: Vec<u32> = (0x0F0F_0F0F..).take(case.room).collect();
     let mut out = before.clone();
-    let found = call(&case.words, &case.table, &mut out);
+    let found = call(&case.words, &case.table, &mut out).map(<[u32]>::to_vec);
     match expected {
         Ok(Answer::Record(record)) => {
-            found == Ok(record.len())
+            found.as_ref() == Ok(record)
                 && out[..record.len()] == record[..]
                 && out[record.len()..] == before[record.len()..]
         }
         Ok(_) => false,
-        Err(refusal) => found == Err(u32::from(refusal.number())) && out == before,
+        Err(refusal) => refused(&found, *refusal) && out == before,
     }
 }
 
 fn requires(
     case: &Case,
     expected: &Result<Answer, Refusal>,
-    call: fn(&[u32], &mut vierskof::FactSet) -> Result<u32, u32>,
+    call: fn(&[u32]) -> Result<vierskof::FactSet, vierskof::Refusal>,
 ) -> bool {
-    let mut set = [0xA5A5; 16];
-    let found = call(&case.words, &mut set);
+    let found = call(&case.words);
     match expected {
-        Ok(Answer::Facts(facts)) => found == Ok(facts.count()) && set == facts.0,
+        Ok(Answer::Facts(facts)) => found.is_ok_and(|set| *set.numbers() == facts.0),
         Ok(_) => false,
-        Err(refusal) => found == Err(u32::from(refusal.number())) && set == [0; 16],
+        Err(refusal) => refused(&found, *refusal),
     }
 }
 
 fn says(
     case: &Case,
     expected: &Result<Answer, Refusal>,
-    call: fn(&[u32]) -> Result<bool, u32>,
+    call: fn(&[u32]) -> Result<bool, vierskof::Refusal>,
 ) -> bool {
     let found = call(&case.words);
     match expected {
         Ok(Answer::Says(yes)) => found == Ok(*yes),
         Ok(_) => false,
-        Err(refusal) => found == Err(u32::from(refusal.number())),
+        Err(refusal) => refused(&found, *refusal),
     }
+}
+
+/// Whether the proved call was turned back with the original's number.
+fn refused<T>(found: &Result<T, vierskof::Refusal>, expected: Refusal) -> bool {
+    found
+        .as_ref()
+        .is_err_and(|refusal| refusal.number() == u32::from(expected.number()))
 }

@@ -1,138 +1,138 @@
-//! The proved calls, as safe functions over `libvierskof.a`.
+//! Proved access decisions: a safe interface to the static library `libvierskof.a`.
 //!
-//! A call answers its value, or the number of document 01's refusal; a refused call leaves its output as it was.
+//! A policy sheet says who may read which products, on which obligations. A sheet is decided in one
+//! sitting, or in stages: whoever holds some of the facts reduces it and passes on the rest. Every
+//! call is proved to end without fault, for any words and bytes, in the answer that the rules give;
+//! and facts brought in stages are proved to end in the effect and the products of one sitting.
+//!
+//! The crate allocates nothing, and its callers need no unsafe code. Sheets and records are 32-bit
+//! words, fact tables are bytes, and each call writes its record into an output that its caller
+//! lends. [`build`] makes a sheet's words, [`read`] gives words back as typed values, and
+//! [`FactTable`] holds what is known.
+//!
+//! # In stages
+//!
+//! A field relay reduces the sheet with the facts it has, the district narrows the record with its
+//! own, and the archive completes it.
+//!
+//! ```
+//! use vierskof::Presence::{Present, Unknown};
+//! use vierskof::build::{Condition, Grant, Policy};
+//! use vierskof::read::{Decision, Record};
+//! use vierskof::{Fact, FactTable, Obligation, Products};
+//!
+//! const CURATOR: Fact = Fact::new(0).unwrap();
+//! const MEMBER: Fact = Fact::new(1).unwrap();
+//! const SIGNED: Fact = Fact::new(2).unwrap();
+//! const NAME_THE_SOURCE: Obligation = Obligation::new(7).unwrap();
+//! const HOURLY_MEANS: Products = Products::only(1).unwrap();
+//!
+//! # fn main() -> Result<(), Box<dyn core::error::Error>> {
+//! // Curators may read hourly means; so may members who have signed, if they name the source.
+//! let curator = Condition::Has(CURATOR);
+//! let both = [Condition::Has(MEMBER), Condition::Has(SIGNED)];
+//! let signed_member = Condition::All(&both);
+//! let grants = [
+//!     Policy::Grant(Grant::new(HOURLY_MEANS, &curator)),
+//!     Policy::Grant(Grant::new(HOURLY_MEANS, &signed_member).obligations(&[NAME_THE_SOURCE])),
+//! ];
+//! let mut words = [0; 32];
+//! let sheet = Policy::Any(&grants).write(&mut words)?;
+//!
+//! // Enough for every call of the chain.
+//! const ROOM: usize = vierskof::room(32);
+//!
+//! // The relay knows that this is no curator. What it hasn't heard of, it says is Unknown.
+//! let facts = FactTable::new().with(MEMBER, Unknown).with(SIGNED, Unknown);
+//! let mut out = [0; ROOM];
+//! let relayed = vierskof::partial_evaluate(sheet.words(), facts.as_bytes(), &mut out)?;
+//!
+//! // The district has the list of members.
+//! let facts = FactTable::new().with(MEMBER, Present).with(SIGNED, Unknown);
+//! let mut out = [0; ROOM];
+//! let narrowed = vierskof::narrow_residual(relayed, facts.as_bytes(), &mut out)?;
+//! assert!(vierskof::required_residual_facts(narrowed)?.iter().eq([SIGNED]));
+//!
+//! // The archive has everything.
+//! let facts = FactTable::new().with(MEMBER, Present).with(SIGNED, Present);
+//! let mut out = [0; ROOM];
+//! let completed = vierskof::complete_residual(narrowed, facts.as_bytes(), &mut out)?;
+//! let Some(Decision::Permit(permit)) = Record::read(completed)?.decision() else {
+//!     panic!("signed members may read");
+//! };
+//! assert_eq!(permit.outcome(), HOURLY_MEANS);
+//! assert!(permit.obligations().eq([NAME_THE_SOURCE]));
+//!
+//! // One sitting with the same facts has the same effect and products.
+//! let mut out = [0; ROOM];
+//! let sitting = vierskof::evaluate(sheet.words(), facts.as_bytes(), &mut out)?;
+//! let Some(Decision::Permit(direct)) = Record::read(sitting)?.decision() else {
+//!     panic!("signed members may read");
+//! };
+//! assert_eq!(direct.outcome(), permit.outcome());
+//! # Ok(())
+//! # }
+//! ```
+//!
+//! # Refusals
+//!
+//! A call that can't answer says why by a [`Refusal`], and leaves its output as it was.
+//!
+//! ```
+//! use vierskof::Refusal;
+//!
+//! let mut out = [0; 8];
+//! let refused = vierskof::evaluate(&[], &[], &mut out);
+//! assert_eq!(refused, Err(Refusal::Length));
+//! assert_eq!(Refusal::Length.number(), 1);
+//! ```
+//!
+//! # Linking
+//!
+//! The static library is looked for in the folder that the environment variable `VIERSKOF_LIB_DIR`
+//! names. Without it the build has `rt staticlib vierskof` prove and make it.
+#![no_std]
 
-mod c {
-    // Declared as the exported functions are: a slice passes as a pointer and an element count.
-    pub type Write =
-        unsafe extern "C" fn(*const u32, usize, *const u8, usize, *mut u32, usize) -> u64;
+mod c;
+mod calls;
+mod facts;
+mod numbers;
+mod products;
+mod refusal;
+mod shape;
 
-    macro_rules! writes {
-        ($($call:ident)*) => {
-            unsafe extern "C" {
-                $(pub fn $call(
-                    words: *const u32,
-                    count: usize,
-                    facts: *const u8,
-                    bytes: usize,
-                    out: *mut u32,
-                    room: usize,
-                ) -> u64;)*
-            }
-        };
-    }
-    writes! {
-        vierskof_evaluate
-        vierskof_partial_evaluate
-        vierskof_narrow_residual
-        vierskof_complete_residual
-    }
+pub mod build;
+pub mod read;
 
-    unsafe extern "C" {
-        pub fn vierskof_required_facts(
-            sheet: *const u32,
-            words: usize,
-            set: *mut u64,
-            numbers: usize,
-        ) -> u64;
-        pub fn vierskof_required_residual_facts(
-            record: *const u32,
-            words: usize,
-            set: *mut u64,
-            numbers: usize,
-        ) -> u64;
-        pub fn vierskof_is_permit_constant(record: *const u32, words: usize) -> u64;
-        pub fn vierskof_is_deny_constant(record: *const u32, words: usize) -> u64;
-        pub fn vierskof_carries_obligation(record: *const u32, words: usize) -> u64;
-    }
-}
+pub use calls::{
+    carries_obligation, complete_residual, evaluate, is_deny_constant, is_permit_constant,
+    narrow_residual, partial_evaluate, required_facts, required_residual_facts,
+};
+pub use facts::{FactSet, FactSetIter, FactTable, Presence};
+pub use numbers::{Fact, Label, Obligation, OutOfRange, Reason};
+pub use products::Products;
+pub use refusal::Refusal;
+pub use shape::Shape;
 
-/// Sixteen numbers, fact 0 the top bit of the first.
-pub type FactSet = [u64; 16];
+/// Words of the longest sheet.
+pub const SHEET_WORDS: usize = 4_096;
+/// Words of the longest record.
+pub const RECORD_WORDS: usize = 16_384;
+/// Bytes of the longest table.
+pub const TABLE_BYTES: usize = 256;
+/// Nodes on the longest way down a tree, grant and condition together.
+pub const LEVELS: usize = 32;
+/// The most arms, facts or consulted entries of one list.
+pub const LIST: usize = 4_095;
 
-/// Decides a sheet with a known table, and answers how many words of `out` the record takes.
-pub fn evaluate(sheet: &[u32], facts: &[u8], out: &mut [u32]) -> Result<usize, u32> {
-    writes(c::vierskof_evaluate, sheet, facts, out)
-}
-
-/// Reduces a sheet with a table that may leave facts open, and answers how many words of `out` the record takes.
-pub fn partial_evaluate(sheet: &[u32], facts: &[u8], out: &mut [u32]) -> Result<usize, u32> {
-    writes(c::vierskof_partial_evaluate, sheet, facts, out)
-}
-
-/// Narrows a record by a table of further facts, and answers how many words of `out` the resulting record takes.
-pub fn narrow_residual(record: &[u32], facts: &[u8], out: &mut [u32]) -> Result<usize, u32> {
-    writes(c::vierskof_narrow_residual, record, facts, out)
-}
-
-/// Completes a record with a known table, and answers how many words of `out` the resulting record takes.
-pub fn complete_residual(record: &[u32], facts: &[u8], out: &mut [u32]) -> Result<usize, u32> {
-    writes(c::vierskof_complete_residual, record, facts, out)
-}
-
-/// A call that writes a record.
-fn writes(call: c::Write, words: &[u32], facts: &[u8], out: &mut [u32]) -> Result<usize, u32> {
-    // SAFETY: each pointer comes from a slice with its own length, and the proved function reads and writes no further.
-    let returned = unsafe {
-        call(
-            words.as_ptr(),
-            words.len(),
-            facts.as_ptr(),
-            facts.len(),
-            out.as_mut_ptr(),
-            out.len(),
-        )
-    };
-    value(returned).map(|words| words as usize)
-}
-
-/// The facts that a sheet names, in `set`, and their count; refused, the set is empty.
-pub fn required_facts(sheet: &[u32], set: &mut FactSet) -> Result<u32, u32> {
-    // SAFETY: as above.
-    value(unsafe {
-        c::vierskof_required_facts(sheet.as_ptr(), sheet.len(), set.as_mut_ptr(), set.len())
-    })
-}
-
-/// The same of a record's tree.
-pub fn required_residual_facts(record: &[u32], set: &mut FactSet) -> Result<u32, u32> {
-    // SAFETY: as above.
-    value(unsafe {
-        c::vierskof_required_residual_facts(
-            record.as_ptr(),
-            record.len(),
-            set.as_mut_ptr(),
-            set.len(),
-        )
-    })
-}
-
-/// Whether a record's tree is a permit: its top node is 6 or 12.
-pub fn is_permit_constant(record: &[u32]) -> Result<bool, u32> {
-    // SAFETY: as above.
-    says(unsafe { c::vierskof_is_permit_constant(record.as_ptr(), record.len()) })
-}
-
-/// Whether a record's tree is a deny: its top node is 7 or 13.
-pub fn is_deny_constant(record: &[u32]) -> Result<bool, u32> {
-    // SAFETY: as above.
-    says(unsafe { c::vierskof_is_deny_constant(record.as_ptr(), record.len()) })
-}
-
-/// Whether any 8 or 12 of a record's tree has obligations.
-pub fn carries_obligation(record: &[u32]) -> Result<bool, u32> {
-    // SAFETY: as above.
-    says(unsafe { c::vierskof_carries_obligation(record.as_ptr(), record.len()) })
-}
-
-/// 1 for yes, 0 for no.
-fn says(returned: u64) -> Result<bool, u32> {
-    value(returned).map(|yes| yes == 1)
-}
-
-/// The upper half is the number of the refusal, 0 when accepted; the lower one is the value.
-fn value(returned: u64) -> Result<u32, u32> {
-    let number = (returned >> 32) as u32;
-    let value = (returned & 0xFFFF_FFFF) as u32;
-    if number == 0 { Ok(value) } else { Err(number) }
+/// An output that is room enough for every call on a sheet of so many words and on the records that come of it.
+///
+/// With such outputs [`Refusal::Room`] is proved not to come.
+///
+/// ```
+/// assert_eq!(vierskof::room(vierskof::SHEET_WORDS), 12_801);
+/// ```
+#[must_use]
+pub const fn room(sheet_words: usize) -> usize {
+    sheet_words.saturating_mul(3).saturating_add(513)
 }

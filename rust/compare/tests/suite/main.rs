@@ -11,6 +11,8 @@ mod readings;
 #[cfg(feature = "proved")]
 mod sitting;
 mod stages;
+#[cfg(feature = "proved")]
+mod typed;
 mod worked;
 
 use compare::case::{Answer, Call, Case};

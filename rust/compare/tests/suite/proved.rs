@@ -31,11 +31,14 @@ fn all_agree(cases: impl IntoIterator<Item = Case>) {
 }
 
 /// A proved call, and the words that it writes.
-fn written(call: Writer, words: &[u32], table: &[u8], room: usize) -> Result<Vec<u32>, u32> {
+fn written(
+    call: Writer,
+    words: &[u32],
+    table: &[u8],
+    room: usize,
+) -> Result<Vec<u32>, vierskof::Refusal> {
     let mut out = vec![0x5A5A_5A5A; room];
-    let count = call(words, table, &mut out)?;
-    out.truncate(count);
-    Ok(out)
+    call(words, table, &mut out).map(<[u32]>::to_vec)
 }
 
 /// The whole road on the proved calls, refused narrowings on the way: settled facts are gone, and the end is one sitting's effect and products.
@@ -103,14 +106,13 @@ fn the_limits_agree_on_a_small_stack() {
     let small = thread::Builder::new().stack_size(256 * 1024);
     let walked = small.spawn(move || {
         let mut out = vec![0; 16_384];
-        let mut set = [0; 16];
         for (words, table) in words.iter().zip(&tables) {
             let _ = vierskof::evaluate(words, table, &mut out);
             let _ = vierskof::partial_evaluate(words, table, &mut out);
             let _ = vierskof::narrow_residual(words, table, &mut out);
             let _ = vierskof::complete_residual(words, table, &mut out);
-            let _ = vierskof::required_facts(words, &mut set);
-            let _ = vierskof::required_residual_facts(words, &mut set);
+            let _ = vierskof::required_facts(words);
+            let _ = vierskof::required_residual_facts(words);
             let _ = vierskof::is_permit_constant(words);
             let _ = vierskof::is_deny_constant(words);
             let _ = vierskof::carries_obligation(words);

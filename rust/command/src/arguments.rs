@@ -1,0 +1,128 @@
+//! The command line.
+
+use std::path::PathBuf;
+
+use clap::{Args, Parser, Subcommand};
+use vierskof::read::Observation;
+
+use crate::facts::{self, Bytes};
+use crate::form::Form;
+use crate::{guide, numbers};
+
+/// Decides who may read which product, by a policy sheet and the facts about a request.
+#[derive(Debug, Parser)]
+#[command(name = "vierskof", version, after_long_help = guide::guide())]
+pub struct Arguments {
+    /// What is done.
+    #[command(subcommand)]
+    pub command: Command,
+}
+
+/// The subcommands.
+#[derive(Debug, Subcommand)]
+pub enum Command {
+    /// Decides a sheet in one sitting.
+    #[command(after_help = "\
+Example:
+  vierskof evaluate licence.txt --facts 5=present,7=present")]
+    Evaluate(Call),
+    /// Reduces a sheet with the facts at hand, and leaves the rest open.
+    #[command(after_help = "\
+Example:
+  vierskof reduce licence.txt --facts 6=absent > relay.txt")]
+    Reduce(Call),
+    /// Narrows a record with further facts.
+    #[command(after_help = "\
+Example:
+  vierskof narrow relay.txt --facts 7=present > district.txt")]
+    Narrow(Call),
+    /// Completes a record with all facts, and so decides it.
+    #[command(after_help = "\
+Example:
+  vierskof complete district.txt --facts 5=present,6=absent,7=present")]
+    Complete(Call),
+    /// Lists the facts that a sheet or a record needs, one a line.
+    #[command(after_help = "\
+Example:
+  vierskof required relay.txt")]
+    Required(Input),
+    /// Shows a sheet or a record as a tree, with comments in plain words.
+    #[command(after_help = "\
+Example:
+  echo E0000001 40050000 C0000003 00000001 00050000 | vierskof show")]
+    Show(Shown),
+    /// Gives the words of a sheet or a record, judged by the proved reader.
+    #[command(after_help = "\
+Example:
+  vierskof assemble licence.txt --to binary > licence.bin")]
+    Assemble(Assembled),
+}
+
+/// Where words come from.
+#[derive(Args, Debug)]
+pub struct Input {
+    /// The sheet's or record's file; - is standard input.
+    #[arg(default_value = "-")]
+    pub file: PathBuf,
+    /// The form of the file; told from its bytes if it is left out.
+    #[arg(long, value_name = "FORM")]
+    pub from: Option<Form>,
+}
+
+/// A call that brings facts and writes a record.
+#[derive(Args, Debug)]
+pub struct Call {
+    /// What the facts are brought to.
+    #[command(flatten)]
+    pub input: Input,
+    /// The facts.
+    #[command(flatten)]
+    pub facts: Facts,
+    /// The form of the record that is written.
+    #[arg(long, value_name = "FORM", default_value = "text")]
+    pub to: Form,
+}
+
+/// A document in the text form.
+#[derive(Args, Debug)]
+pub struct Shown {
+    /// What is shown.
+    #[command(flatten)]
+    pub input: Input,
+    /// The form that is written.
+    #[arg(long, value_name = "FORM", default_value = "text")]
+    pub to: Form,
+}
+
+/// A document in words.
+#[derive(Args, Debug)]
+pub struct Assembled {
+    /// What is assembled.
+    #[command(flatten)]
+    pub input: Input,
+    /// The form that is written.
+    #[arg(long, value_name = "FORM", default_value = "hex")]
+    pub to: Form,
+}
+
+/// The facts about a request, in one of three ways.
+#[derive(Args, Debug)]
+pub struct Facts {
+    /// Facts, such as 5=present,6=absent,7=unknown; may come several times.
+    ///
+    /// A fact that is not named is absent in evaluate and complete, and unknown in reduce and narrow.
+    #[arg(long, value_name = "FACTS", value_delimiter = ',', value_parser = observation)]
+    pub facts: Vec<Observation>,
+    /// A file with a fact table, its bytes taken as they are.
+    ///
+    /// Four facts a byte, the first in the upper two bits: 0 absent, 1 present, 2 unknown. A fact past the end is absent, in every command.
+    #[arg(long, value_name = "FILE", conflicts_with_all = ["facts", "table_hex"])]
+    pub table: Option<PathBuf>,
+    /// A fact table's bytes in hexadecimal, taken as they are.
+    #[arg(long, value_name = "BYTES", conflicts_with = "facts", value_parser = facts::bytes)]
+    pub table_hex: Option<Bytes>,
+}
+
+fn observation(text: &str) -> Result<Observation, String> {
+    numbers::observation(text).map_err(|due| format!("{due} is due"))
+}

@@ -1,0 +1,87 @@
+//! What `--help` says beyond the options.
+
+/// The road over three stations and one sitting, as they are pasted into a shell.
+pub const ROAD: &str = "\
+cat > licence.txt <<'END'
+# Products: 0 raw stage, 1 hourly means, 2 yearly totals.
+# Facts: 5 licence, 6 past its ninety days, 7 research, 8 own station.
+any
+  permit 0004
+  grant 0001 label 1 reason 1 obligations 7
+    all
+      has 5
+      not
+        has 6
+  grant 0002 label 2 reason 2
+    any
+      has 7
+      has 8
+END
+vierskof reduce licence.txt --facts 6=absent |
+  vierskof narrow --facts 7=present |
+  vierskof complete --facts 5=present,6=absent,7=present
+vierskof evaluate licence.txt --facts 5=present,6=absent,7=present
+";
+
+const DOCUMENTS: &str = "\
+What a sheet is
+  A sheet is a policy: who may read which products, on which conditions and
+  with which obligations. Its conditions ask for facts about a request. A fact
+  has a number from 0 to 1023 and is present, absent or unknown.
+
+What a record is
+  A record is what facts have made of a sheet. A resolved record holds the
+  decision, and why. A pending record holds what is left of the policy, and
+  shows which facts it still needs. Both hold the facts that were consulted.
+
+The text form
+  One node a line; what belongs under a node is indented by two spaces; #
+  begins a comment. A list has commas and no spaces. Four hexadecimal digits
+  are a set of products, product 0 the last bit: 0003 is products 0 and 1.
+
+  Policies:
+    permit 0003       permits these products
+    deny              permits nothing
+    grant 0003 hidden label 4 reason 9 obligations 7,12
+                      permits these products with these obligations if the
+                      one condition under it is true, and denies with this
+                      reason if not; a hidden deny is to be presented as if
+                      the product did not exist; the label names the clause;
+                      what stands after the products may be left out
+    all               permits what all policies under it permit; denies if
+                      one of them does, or if there is none
+    any               permits what any policy under it permits; denies if
+                      none does
+    or-else           of two policies the first, or the second if that denies
+  Conditions:
+    has 5             true if fact 5 is present
+    not               true if the one condition under it is false
+    all, any          true if all are, or any is; false with none under it
+    always, never     true, false
+  A record begins with the line resolved or pending and, if facts were
+  consulted, a line such as
+    consulted 5=present,6=absent
+  Then comes its tree, in which what is decided stands as
+    permit-with-trace 0003 label 4 obligations 7 facts 5,6
+    deny-with-trace hidden denied 0003 label 1 reason 2 facts 5
+
+The road in three commands
+  The relay reduces a sheet with the facts it holds, the district narrows the
+  record with its own, and the archive completes it with all of them. If none
+  of them contradicts another, the road ends in the effect and the products
+  that evaluate gives in one sitting with all facts: this is proved, for every
+  sheet. Paste this into a shell:
+
+";
+
+const STATUS: &str = "
+Exit status
+  0  decided: the answer stands on standard output
+  1  refused: `refused NUMBER: WHY` on standard error, and no output
+  2  usage: an option, a file that can't be read or written, or a fault in
+     a text, with its line";
+
+/// The long help's end.
+pub fn guide() -> String {
+    [DOCUMENTS, ROAD, STATUS].concat()
+}

@@ -1,0 +1,63 @@
+//! The numbers of the field as they are typed. A reader that fails says what is due in the number's place.
+
+use vierskof::read::Observation;
+use vierskof::{Fact, Label, Obligation, Presence, Products, Reason};
+
+/// Reads one item, or says what is due.
+pub type Read<T> = fn(&str) -> Result<T, &'static str>;
+
+/// A fact.
+pub fn fact(text: &str) -> Result<Fact, &'static str> {
+    let fact = number(text).and_then(Fact::new);
+    fact.ok_or("a fact from 0 to 1023")
+}
+
+/// An obligation.
+pub fn obligation(text: &str) -> Result<Obligation, &'static str> {
+    let number = number(text).and_then(|number| u8::try_from(number).ok());
+    let obligation = number.and_then(Obligation::new);
+    obligation.ok_or("an obligation from 0 to 63")
+}
+
+/// A label.
+pub fn label(text: &str) -> Result<Label, &'static str> {
+    let label = number(text).and_then(Label::new);
+    label.ok_or("a label from 0 to 32767")
+}
+
+/// A reason.
+pub fn reason(text: &str) -> Result<Reason, &'static str> {
+    let reason = number(text).and_then(Reason::new);
+    reason.ok_or("a reason from 0 to 32767")
+}
+
+/// A set of products.
+pub fn products(text: &str) -> Result<Products, &'static str> {
+    let digits = text.len() == 4 && text.bytes().all(|byte| byte.is_ascii_hexdigit());
+    let bits = u16::from_str_radix(text, 16).ok().filter(|_| digits);
+    bits.map(Products::from_bits)
+        .ok_or("a set of products in four hexadecimal digits")
+}
+
+/// A fact and how it reads, such as `5=present`.
+pub fn observation(text: &str) -> Result<Observation, &'static str> {
+    let read = || {
+        let (number, name) = text.split_once('=')?;
+        let fact = fact(number).ok()?;
+        let presence = presence(name)?;
+        Some(Observation { fact, presence })
+    };
+    read().ok_or("a fact from 0 to 1023 with =present, =absent or =unknown")
+}
+
+fn presence(name: &str) -> Option<Presence> {
+    [Presence::Absent, Presence::Present, Presence::Unknown]
+        .into_iter()
+        .find(|presence| presence.to_string() == name)
+}
+
+/// Digits alone: the standard reader takes a sign too.
+fn number(text: &str) -> Option<u16> {
+    let digits = text.bytes().all(|byte| byte.is_ascii_digit());
+    text.parse().ok().filter(|_| digits)
+}

@@ -1,0 +1,78 @@
+//! The C interface, and every unsafe block of the crate.
+//!
+//! Each call returns one number: that of its refusal, or 0, in the upper half, and its value in the lower one.
+#![allow(unsafe_code)]
+
+/// Calls that write a record: words, a table and an output. The value is the count of words written.
+macro_rules! writes {
+    ($($call:ident = $symbol:ident;)*) => {
+        unsafe extern "C" {
+            $(fn $symbol(
+                words: *const u32,
+                count: usize,
+                facts: *const u8,
+                bytes: usize,
+                out: *mut u32,
+                room: usize,
+            ) -> u64;)*
+        }
+        $(pub fn $call(words: &[u32], facts: &[u8], out: &mut [u32]) -> u64 {
+            let room = out.len();
+            // SAFETY: each pointer comes from a slice with that slice's length; the proved call reads and writes no further.
+            unsafe {
+                $symbol(
+                    words.as_ptr(),
+                    words.len(),
+                    facts.as_ptr(),
+                    facts.len(),
+                    out.as_mut_ptr(),
+                    room,
+                )
+            }
+        })*
+    };
+}
+
+/// Calls that name facts: words and sixteen numbers. The value is the count of facts.
+macro_rules! names {
+    ($($call:ident = $symbol:ident;)*) => {
+        unsafe extern "C" {
+            $(fn $symbol(words: *const u32, count: usize, set: *mut u64, numbers: usize) -> u64;)*
+        }
+        $(pub fn $call(words: &[u32], set: &mut [u64; 16]) -> u64 {
+            // SAFETY: as for the calls that write.
+            unsafe { $symbol(words.as_ptr(), words.len(), set.as_mut_ptr(), set.len()) }
+        })*
+    };
+}
+
+/// Questions about a record. The value is 1 for yes.
+macro_rules! asks {
+    ($($call:ident = $symbol:ident;)*) => {
+        unsafe extern "C" {
+            $(fn $symbol(words: *const u32, count: usize) -> u64;)*
+        }
+        $(pub fn $call(words: &[u32]) -> u64 {
+            // SAFETY: as for the calls that write.
+            unsafe { $symbol(words.as_ptr(), words.len()) }
+        })*
+    };
+}
+
+writes! {
+    evaluate = vierskof_evaluate;
+    partial_evaluate = vierskof_partial_evaluate;
+    narrow_residual = vierskof_narrow_residual;
+    complete_residual = vierskof_complete_residual;
+}
+
+names! {
+    required_facts = vierskof_required_facts;
+    required_residual_facts = vierskof_required_residual_facts;
+}
+
+asks! {
+    is_permit_constant = vierskof_is_permit_constant;
+    is_deny_constant = vierskof_is_deny_constant;
+    carries_obligation = vierskof_carries_obligation;
+}

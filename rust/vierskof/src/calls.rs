@@ -1,0 +1,190 @@
+//! The nine calls.
+
+use crate::{FactSet, Refusal, c};
+
+/// Decides a sheet with a known table: the Resolved record is the first words of `out`.
+///
+/// Later words of `out` are left as they were, and so is all of it when the call is refused. Every [`Refusal`] may come.
+///
+/// ```
+/// use vierskof::read::{Decision, Record};
+///
+/// // Permit the products 0 and 1 if fact 5 is Present; it is.
+/// let sheet = [0x8800_0003, 0x0000_0000, 0x2000_0005];
+/// let mut out = [0; 8];
+/// let record = vierskof::evaluate(&sheet, &[0x00, 0x10], &mut out)?;
+/// assert_eq!(record, [0xE000_0001, 0x4005_0000, 0xC000_0003, 0x0000_0001, 0x0005_0000]);
+/// assert!(matches!(Record::read(record)?.decision(), Some(Decision::Permit(_))));
+/// # Ok::<(), vierskof::Refusal>(())
+/// ```
+pub fn evaluate<'o>(sheet: &[u32], facts: &[u8], out: &'o mut [u32]) -> Result<&'o [u32], Refusal> {
+    written(c::evaluate(sheet, facts, out), out)
+}
+
+/// Reduces a sheet with a table that may leave facts Unknown: the record is the first words of `out`.
+///
+/// The record is Resolved if what is known decides the sheet; otherwise it is Pending, and its tree is what remains to be decided. Outputs and refusals are as with [`evaluate`], but [`Refusal::UnknownFact`] never comes.
+///
+/// ```
+/// let sheet = [0x8800_0003, 0x0000_0000, 0x2000_0005];
+/// let mut out = [0; 8];
+/// // Fact 5 is Unknown, so the grant remains.
+/// let record = vierskof::partial_evaluate(&sheet, &[0x00, 0x20], &mut out)?;
+/// assert_eq!(record, [0xF000_0000, 0x8800_0003, 0x0000_0000, 0x2000_0005]);
+/// # Ok::<(), vierskof::Refusal>(())
+/// ```
+pub fn partial_evaluate<'o>(
+    sheet: &[u32],
+    facts: &[u8],
+    out: &'o mut [u32],
+) -> Result<&'o [u32], Refusal> {
+    written(c::partial_evaluate(sheet, facts, out), out)
+}
+
+/// Narrows a record with a table of further facts: the new record is the first words of `out`.
+///
+/// What the table leaves Unknown stays open; a Resolved record comes back equal. Outputs and refusals are as with [`partial_evaluate`].
+///
+/// ```
+/// use vierskof::read::{Record, Status};
+///
+/// let pending = [0xF000_0000, 0x8800_0003, 0x0000_0000, 0x2000_0005];
+/// let mut out = [0; 8];
+/// let record = vierskof::narrow_residual(&pending, &[0x00, 0x10], &mut out)?;
+/// assert_eq!(Record::read(record)?.status(), Status::Resolved);
+/// # Ok::<(), vierskof::Refusal>(())
+/// ```
+pub fn narrow_residual<'o>(
+    record: &[u32],
+    facts: &[u8],
+    out: &'o mut [u32],
+) -> Result<&'o [u32], Refusal> {
+    written(c::narrow_residual(record, facts, out), out)
+}
+
+/// Completes a record with a known table: the Resolved record is the first words of `out`.
+///
+/// A Resolved record comes back equal, whatever the table says. Outputs and refusals are as with [`evaluate`].
+///
+/// ```
+/// use vierskof::read::{Decision, Record};
+///
+/// let pending = [0xF000_0000, 0x8800_0003, 0x0000_0000, 0x2000_0005];
+/// let mut out = [0; 8];
+/// // Nothing is Present.
+/// let record = vierskof::complete_residual(&pending, &[], &mut out)?;
+/// assert!(matches!(Record::read(record)?.decision(), Some(Decision::Deny(_))));
+/// # Ok::<(), vierskof::Refusal>(())
+/// ```
+pub fn complete_residual<'o>(
+    record: &[u32],
+    facts: &[u8],
+    out: &'o mut [u32],
+) -> Result<&'o [u32], Refusal> {
+    written(c::complete_residual(record, facts, out), out)
+}
+
+/// The facts that a sheet names: those that a Has in it carries.
+///
+/// ```
+/// use vierskof::Fact;
+///
+/// let sheet = [0x8800_0003, 0x0000_0000, 0x2000_0005];
+/// let facts = vierskof::required_facts(&sheet)?;
+/// assert!(facts.iter().map(Fact::number).eq([5]));
+/// # Ok::<(), vierskof::Refusal>(())
+/// ```
+pub fn required_facts(sheet: &[u32]) -> Result<FactSet, Refusal> {
+    let mut set = [0; 16];
+    named(c::required_facts(sheet, &mut set), set)
+}
+
+/// The facts that a record's tree names, and that it therefore waits for.
+///
+/// ```
+/// let resolved = [0xE000_0000, 0xC000_0001, 0x0000_0000];
+/// assert!(vierskof::required_residual_facts(&resolved)?.is_empty());
+/// # Ok::<(), vierskof::Refusal>(())
+/// ```
+pub fn required_residual_facts(record: &[u32]) -> Result<FactSet, Refusal> {
+    let mut set = [0; 16];
+    named(c::required_residual_facts(record, &mut set), set)
+}
+
+/// Whether the top of a record's tree is a permit, stored or plain.
+///
+/// ```
+/// let resolved = [0xE000_0000, 0xC000_0001, 0x0000_0000];
+/// assert_eq!(vierskof::is_permit_constant(&resolved), Ok(true));
+/// ```
+pub fn is_permit_constant(record: &[u32]) -> Result<bool, Refusal> {
+    says(c::is_permit_constant(record))
+}
+
+/// Whether the top of a record's tree is a deny, stored or plain.
+///
+/// ```
+/// let resolved = [0xE000_0000, 0xC000_0001, 0x0000_0000];
+/// assert_eq!(vierskof::is_deny_constant(&resolved), Ok(false));
+/// ```
+pub fn is_deny_constant(record: &[u32]) -> Result<bool, Refusal> {
+    says(c::is_deny_constant(record))
+}
+
+/// Whether a grant or a stored permit of a record's tree has obligations.
+///
+/// ```
+/// let resolved = [0xE000_0000, 0xC010_0001, 0x0000_0000, 0x0700_0000];
+/// assert_eq!(vierskof::carries_obligation(&resolved), Ok(true));
+/// ```
+pub fn carries_obligation(record: &[u32]) -> Result<bool, Refusal> {
+    says(c::carries_obligation(record))
+}
+
+fn written(returned: u64, out: &mut [u32]) -> Result<&[u32], Refusal> {
+    let words = value(returned)? as usize;
+    out.get(..words).ok_or(Refusal::Room)
+}
+
+fn named(returned: u64, set: [u64; 16]) -> Result<FactSet, Refusal> {
+    value(returned).map(|_| FactSet::from_numbers(set))
+}
+
+fn says(returned: u64) -> Result<bool, Refusal> {
+    value(returned).map(|yes| yes == 1)
+}
+
+/// The lower half, unless the upper one is the number of a refusal.
+fn value(returned: u64) -> Result<u32, Refusal> {
+    match (returned >> 32) as u32 {
+        0 => Ok((returned & 0xFFFF_FFFF) as u32),
+        // No call returns a number past the last one: that is proved, so what stands here never shows.
+        number => Err(Refusal::try_from(number).unwrap_or(Refusal::Room)),
+    }
+}
+
+#[cfg(test)]
+mod tests {
+    use super::*;
+
+    /// The count that a call returns is the set's, and a refused call leaves an empty set and the value 0.
+    #[test]
+    fn sets_and_counts_belong_together() {
+        let accepted = [0xF000_0000, 0x8800_0003, 0x0000_0000, 0x2000_0005];
+        for refused in [&accepted[..3], &accepted[..0]] {
+            let mut set = [0xA5A5; 16];
+            let returned = c::required_residual_facts(refused, &mut set);
+            assert_eq!(returned & 0xFFFF_FFFF, 0);
+            assert_eq!(set, [0; 16]);
+            let mut set = [0xA5A5; 16];
+            let returned = c::required_facts(refused, &mut set);
+            assert_eq!(returned & 0xFFFF_FFFF, 0);
+            assert_eq!(set, [0; 16]);
+        }
+        let mut set = [0xA5A5; 16];
+        assert_eq!(c::required_residual_facts(&accepted, &mut set), 1);
+        assert_eq!(FactSet::from_numbers(set).len(), 1);
+        assert_eq!(c::required_facts(&accepted[1..], &mut set), 1);
+        assert_eq!(FactSet::from_numbers(set).len(), 1);
+    }
+}

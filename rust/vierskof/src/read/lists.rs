@@ -1,0 +1,168 @@
+//! The lists of a record and its nodes.
+
+use core::fmt;
+use core::iter::FusedIterator;
+
+use super::words::{extent, word};
+use super::{ConditionRef, PolicyRef};
+use crate::{Fact, Obligation, Presence};
+
+/// Fields of `WIDTH` bits, as many as a word holds, most significant first.
+#[derive(Clone)]
+struct Fields<'w, const WIDTH: usize> {
+    words: &'w [u32],
+    next: usize,
+    end: usize,
+}
+
+impl<'w, const WIDTH: usize> Fields<'w, WIDTH> {
+    const fn new(words: &'w [u32], end: usize) -> Self {
+        Self {
+            words,
+            next: 0,
+            end,
+        }
+    }
+}
+
+impl<const WIDTH: usize> Iterator for Fields<'_, WIDTH> {
+    type Item = u32;
+
+    fn next(&mut self) -> Option<u32> {
+        if self.next == self.end {
+            return None;
+        }
+        let bit = self.next * WIDTH;
+        self.next += 1;
+        Some(word(self.words, bit / 32) << (bit % 32) >> (32 - WIDTH))
+    }
+
+    fn size_hint(&self) -> (usize, Option<usize>) {
+        let left = self.end - self.next;
+        (left, Some(left))
+    }
+}
+
+/// The words of each arm of a list, in order.
+#[derive(Clone, PartialEq, Eq, Hash)]
+struct Arms<'w> {
+    rest: &'w [u32],
+    left: usize,
+}
+
+impl<'w> Iterator for Arms<'w> {
+    type Item = &'w [u32];
+
+    fn next(&mut self) -> Option<&'w [u32]> {
+        self.left = self.left.checked_sub(1)?;
+        let (arm, rest) = self.rest.split_at(extent(self.rest));
+        self.rest = rest;
+        Some(arm)
+    }
+
+    fn size_hint(&self) -> (usize, Option<usize>) {
+        (self.left, Some(self.left))
+    }
+}
+
+/// A public iterator over a private one.
+macro_rules! list {
+    ($(#[$doc:meta])* $name:ident<$w:lifetime>($inner:ty) -> $item:ty = $make:expr) => {
+        $(#[$doc])*
+        #[derive(Clone)]
+        pub struct $name<$w>($inner);
+
+        impl<$w> Iterator for $name<$w> {
+            type Item = $item;
+
+            fn next(&mut self) -> Option<$item> {
+                self.0.next().map($make)
+            }
+
+            fn size_hint(&self) -> (usize, Option<usize>) {
+                self.0.size_hint()
+            }
+        }
+
+        impl ExactSizeIterator for $name<'_> {}
+
+        impl FusedIterator for $name<'_> {}
+
+        impl fmt::Debug for $name<'_> {
+            fn fmt(&self, f: &mut fmt::Formatter<'_>) -> fmt::Result {
+                f.debug_list().entries(self.clone()).finish()
+            }
+        }
+    };
+}
+
+list! {
+    /// Obligations, none twice.
+    Obligations<'w>(Fields<'w, 8>) -> Obligation = Obligation::of_field
+}
+list! {
+    /// The facts that a decision names; one may come twice.
+    Facts<'w>(Fields<'w, 16>) -> Fact = Fact::of_field
+}
+list! {
+    /// The facts that were read, in the order of reading.
+    Consulted<'w>(Fields<'w, 16>) -> Observation = Observation::of_field
+}
+list! {
+    /// The arms of a policy list, in order.
+    #[derive(PartialEq, Eq, Hash)]
+    Policies<'w>(Arms<'w>) -> PolicyRef<'w> = PolicyRef::new
+}
+list! {
+    /// The arms of a condition list, in order.
+    #[derive(PartialEq, Eq, Hash)]
+    Conditions<'w>(Arms<'w>) -> ConditionRef<'w> = ConditionRef::new
+}
+
+impl<'w> Obligations<'w> {
+    pub(super) const fn new(words: &'w [u32], count: usize) -> Self {
+        Self(Fields::new(words, count))
+    }
+}
+
+impl<'w> Facts<'w> {
+    pub(super) const fn new(words: &'w [u32], count: usize) -> Self {
+        Self(Fields::new(words, count))
+    }
+}
+
+impl<'w> Consulted<'w> {
+    pub(super) const fn new(words: &'w [u32], count: usize) -> Self {
+        Self(Fields::new(words, count))
+    }
+}
+
+impl<'w> Policies<'w> {
+    pub(super) const fn new(rest: &'w [u32], left: usize) -> Self {
+        Self(Arms { rest, left })
+    }
+}
+
+impl<'w> Conditions<'w> {
+    pub(super) const fn new(rest: &'w [u32], left: usize) -> Self {
+        Self(Arms { rest, left })
+    }
+}
+
+/// A fact that was read, and how it read.
+#[derive(Clone, Copy, Debug, PartialEq, Eq, Hash)]
+pub struct Observation {
+    /// The fact.
+    pub fact: Fact,
+    /// What was known of it.
+    pub presence: Presence,
+}
+
+impl Observation {
+    fn of_field(field: u32) -> Self {
+        Self {
+            fact: Fact::of_field(field),
+            presence: Presence::of_field(field >> 14).unwrap_or_default(),
+        }
+    }
+}

@@ -1,0 +1,112 @@
+//! The numbered causes for which a call is turned back.
+
+use core::error::Error;
+use core::fmt;
+
+use crate::OutOfRange;
+
+/// Why a call was turned back.
+///
+/// The discriminant is the cause's number. Where there are several causes, the call names the first
+/// that its reading meets: the length of the words, then the table, then the words from the first,
+/// then what follows them, then the room.
+///
+/// ```
+/// use vierskof::Refusal;
+///
+/// let refusal = vierskof::required_facts(&[0x7000_0000, 0x7000_0000]).unwrap_err();
+/// assert_eq!(refusal, Refusal::WordsAfterTree);
+/// assert_eq!(refusal.number(), 10);
+/// assert_eq!(refusal.to_string(), "there are words after the tree");
+/// assert_eq!(Refusal::try_from(10), Ok(refusal));
+/// ```
+#[derive(Clone, Copy, Debug, PartialEq, Eq, PartialOrd, Ord, Hash)]
+#[repr(u32)]
+pub enum Refusal {
+    /// A sheet is 1 to 4,096 words long, a record 1 to 16,384.
+    Length = 1,
+    /// A table is at most 256 bytes long.
+    TableLength = 2,
+    /// A table has a field 3, which is no presence.
+    TableField = 3,
+    /// A known table has an Unknown fact.
+    UnknownFact = 4,
+    /// A node has a kind that may not stand there.
+    Kind = 5,
+    /// The words end before the record or tree is complete.
+    WordsEnd = 6,
+    /// A node stands on a 33rd level.
+    Level = 7,
+    /// A field that must be 0 isn't, an obligation is over 63 or their count over 64, or a consulted presence is 3.
+    Field = 8,
+    /// An obligation is repeated in one list.
+    RepeatedObligation = 9,
+    /// There are words after the tree.
+    WordsAfterTree = 10,
+    /// The resulting record is longer than the output or than 16,384 words, or a fact list in it has over 4,095 facts.
+    Room = 11,
+}
+
+impl Refusal {
+    /// Every refusal, in the order of their numbers.
+    pub const ALL: [Self; 11] = [
+        Self::Length,
+        Self::TableLength,
+        Self::TableField,
+        Self::UnknownFact,
+        Self::Kind,
+        Self::WordsEnd,
+        Self::Level,
+        Self::Field,
+        Self::RepeatedObligation,
+        Self::WordsAfterTree,
+        Self::Room,
+    ];
+
+    /// The number, 1 to 11.
+    #[must_use]
+    pub const fn number(self) -> u32 {
+        self as u32
+    }
+
+    const fn sentence(self) -> &'static str {
+        match self {
+            Self::Length => "the sheet or record is empty or too long",
+            Self::TableLength => "the fact table is longer than 256 bytes",
+            Self::TableField => "a field of the fact table is 3, which is no presence",
+            Self::UnknownFact => "a fact is Unknown in a table that has to be known",
+            Self::Kind => "a node's kind may not stand where it stands",
+            Self::WordsEnd => "the words end before the record or tree is complete",
+            Self::Level => "the tree has more than 32 levels",
+            Self::Field => "a field holds a number that it may not hold",
+            Self::RepeatedObligation => "an obligation is repeated in one list",
+            Self::WordsAfterTree => "there are words after the tree",
+            Self::Room => "the resulting record has no room in the output or exceeds its limits",
+        }
+    }
+}
+
+impl fmt::Display for Refusal {
+    fn fmt(&self, f: &mut fmt::Formatter<'_>) -> fmt::Result {
+        f.pad(self.sentence())
+    }
+}
+
+impl Error for Refusal {}
+
+impl From<Refusal> for u32 {
+    fn from(refusal: Refusal) -> Self {
+        refusal.number()
+    }
+}
+
+impl TryFrom<u32> for Refusal {
+    type Error = OutOfRange;
+
+    fn try_from(number: u32) -> Result<Self, OutOfRange> {
+        Self::ALL
+            .into_iter()
+            .find(|refusal| refusal.number() == number)
+            .ok_or(OutOfRange::new("a refusal is a number from 1 to 11"))
+    }
+}

@@ -1,0 +1,116 @@
+//! Each refusal, by a call that meets it.
+
+use std::collections::BTreeSet;
+
+use vierskof::read::{Record, Sheet};
+use vierskof::{Refusal, complete_residual, evaluate, narrow_residual, partial_evaluate};
+
+/// A Deny node.
+const DENY: u32 = 0x7000_0000;
+/// The lead of a Pending record without consulted entries.
+const PENDING: u32 = 0xF000_0000;
+
+/// Calls that write a record, refused: with this number, and the output as it was.
+#[track_caller]
+fn refused(number: u32, sheet: &[u32], facts: &[u8]) {
+    let mut out = [0x5A5A_5A5A; 600];
+    let record = [&[PENDING], sheet].concat();
+    let found = [
+        evaluate(sheet, facts, &mut out).map(<[u32]>::len),
+        complete_residual(&record, facts, &mut out).map(<[u32]>::len),
+    ];
+    assert_eq!(found, [Err(Refusal::try_from(number).unwrap()); 2]);
+    assert_eq!(out, [0x5A5A_5A5A; 600]);
+}
+
+/// Words that reading refuses, whichever way they are read.
+#[track_caller]
+fn unread(number: u32, sheet: &[u32]) {
+    refused(number, sheet, &[]);
+    let refusal = Refusal::try_from(number).unwrap();
+    let record = [&[PENDING], sheet].concat();
+    assert_eq!(Sheet::read(sheet), Err(refusal));
+    assert_eq!(Record::read(&record), Err(refusal));
+    assert_eq!(vierskof::required_facts(sheet), Err(refusal));
+    assert_eq!(vierskof::required_residual_facts(&record), Err(refusal));
+    assert_eq!(vierskof::is_permit_constant(&record), Err(refusal));
+    assert_eq!(vierskof::is_deny_constant(&record), Err(refusal));
+    assert_eq!(vierskof::carries_obligation(&record), Err(refusal));
+}
+
+#[test]
+fn length_is_1() {
+    let mut out = [0; 8];
+    for words in [0, 4_097] {
+        let sheet = vec![DENY; words];
+        assert_eq!(Sheet::read(&sheet), Err(Refusal::Length));
+        assert_eq!(evaluate(&sheet, &[], &mut out), Err(Refusal::Length));
+    }
+    for words in [0, 16_385] {
+        let record = vec![DENY; words];
+        assert_eq!(Record::read(&record), Err(Refusal::Length));
+        let narrowed = narrow_residual(&record, &[], &mut out);
+        assert_eq!(narrowed.map_err(Refusal::number), Err(1));
+    }
+}
+
+#[test]
+fn tables_are_2_to_4() {
+    refused(2, &[DENY], &[0; 257]);
+    refused(3, &[DENY], &[0x00, 0x03]);
+    refused(4, &[DENY], &[0x00, 0x02]);
+    let mut out = [0; 8];
+    assert!(partial_evaluate(&[DENY], &[0x00, 0x02], &mut out).is_ok());
+}
+
+#[test]
+fn words_are_5_to_10() {
+    unread(5, &[0x0000_0000]);
+    unread(5, &[0xE000_0000]);
+    unread(6, &[0x9000_0001]);
+    unread(7, &[0x9000_0001; 33]);
+    unread(8, &[0x7000_0001]);
+    unread(8, &[0x8010_0001, 0, 0x4000_0000, 0]);
+    unread(9, &[0x8020_0001, 0, 0x0707_0000, 0]);
+    unread(10, &[DENY, DENY]);
+}
+
+/// Stored decisions stand in records only, and alone in a Resolved one.
+#[test]
+fn kinds_have_their_places() {
+    let permit = [0xC000_0001, 0x0000_0000];
+    assert_eq!(Sheet::read(&permit), Err(Refusal::Kind));
+    let record = |lead: u32, tree: &[u32]| Record::read(&[&[lead], tree].concat()).is_ok();
+    assert!(record(PENDING, &permit));
+    assert!(record(0xE000_0000, &permit));
+    assert!(record(PENDING, &[DENY]));
+    assert!(!record(0xE000_0000, &[DENY]));
+}
+
+#[test]
+fn room_is_11() {
+    let sheet = [0x8800_0003, 0x0000_0000, 0x2000_0005];
+    let mut out = [1, 2, 3];
+    let refused = partial_evaluate(&sheet, &[0x00, 0x20], &mut out);
+    assert_eq!(refused, Err(Refusal::Room));
+    assert_eq!(Refusal::Room.number(), 11);
+    assert_eq!(out, [1, 2, 3]);
+    let mut out = [9; 6];
+    let accepted = partial_evaluate(&sheet, &[0x00, 0x20], &mut out);
+    assert_eq!(accepted, Ok(&[PENDING, sheet[0], sheet[1], sheet[2]][..]));
+    assert_eq!(out[4..], [9, 9]);
+}
+
+#[test]
+fn numbers_and_refusals_belong_together() {
+    for (number, refusal) in (1..).zip(Refusal::ALL) {
+        assert_eq!(refusal.number(), number);
+        assert_eq!(u32::from(refusal), number);
+        assert_eq!(Refusal::try_from(number), Ok(refusal));
+    }
+    for number in [0, 12, u32::MAX] {
+        assert!(Refusal::try_from(number).is_err());
+    }
+    let sentences: BTreeSet<String> = Refusal::ALL.iter().map(ToString::to_string).collect();
+    assert_eq!(sentences.len(), Refusal::ALL.len());
+}

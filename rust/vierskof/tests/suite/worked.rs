@@ -1,0 +1,152 @@
+//! The worked sheets A to H, built, decided and read.
+
+use vierskof::build::{Condition, Grant, Policy};
+use vierskof::read::{self, Decision, PermitWithTrace, Record, Status};
+use vierskof::{
+    FactTable, Presence, Shape, complete_residual, evaluate, narrow_residual, partial_evaluate,
+};
+
+use super::{fact, obligation, products};
+
+/// Room for every record here.
+const ROOM: usize = 16;
+
+fn built(policy: &Policy) -> Vec<u32> {
+    let mut out = [0; ROOM];
+    policy.write(&mut out).expect("a sheet").words().to_vec()
+}
+
+fn sitting(policy: &Policy, facts: &FactTable) -> Vec<u32> {
+    let mut out = [0; ROOM];
+    let record = evaluate(&built(policy), facts.as_bytes(), &mut out);
+    record.expect("a record").to_vec()
+}
+
+fn five(presence: Presence) -> FactTable {
+    FactTable::new().with(fact(5), presence)
+}
+
+/// D's sheet.
+const D: Policy = Policy::Grant(Grant::new(products(3), &Condition::Has(FIVE)).hidden());
+const FIVE: vierskof::Fact = vierskof::Fact::new(5).unwrap();
+
+fn permit(record: &[u32]) -> PermitWithTrace<'_> {
+    match Record::read(record).map(Record::decision) {
+        Ok(Some(Decision::Permit(permit))) => permit,
+        other => panic!("{other:?} is no permit"),
+    }
+}
+
+#[test]
+fn a_permits() {
+    let policy = Policy::Permit(products(1));
+    assert_eq!(built(&policy), [0x6000_0001]);
+    let record = sitting(&policy, &FactTable::new());
+    assert_eq!(record, [0xE000_0000, 0xC000_0001, 0x0000_0000]);
+    let permit = permit(&record);
+    assert_eq!(permit.outcome(), products(1));
+    assert_eq!(permit.label(), None);
+    assert_eq!((permit.obligations().len(), permit.facts().len()), (0, 0));
+}
+
+#[test]
+fn b_and_c_deny() {
+    let policies = [Policy::Deny, Policy::All(&[]), Policy::Any(&[])];
+    let sheets = [0x7000_0000, 0x9000_0000, 0xA000_0000];
+    for (policy, sheet) in policies.iter().zip(sheets) {
+        assert_eq!(built(policy), [sheet]);
+        let record = sitting(policy, &FactTable::new());
+        assert_eq!(record, [0xE000_0000, 0xD000_0000, 0, 0]);
+        let Some(Decision::Deny(deny)) = Record::read(&record).unwrap().decision() else {
+            panic!("{record:X?} is no deny");
+        };
+        assert_eq!(deny.denied(), None);
+        assert_eq!(deny.shape(), Shape::Forbidden);
+        assert_eq!((deny.label(), deny.reason()), (None, None));
+        assert_eq!(deny.facts().len(), 0);
+    }
+}
+
+#[test]
+fn d_permits_on_its_fact() {
+    assert_eq!(built(&D), [0x8800_0003, 0x0000_0000, 0x2000_0005]);
+    let record = sitting(&D, &five(Presence::Present));
+    let expected = [0xE000_0001, 0x4005_0000, 0xC000_0003, 1, 0x0005_0000];
+    assert_eq!(record, expected);
+    let consulted = Record::read(&record).unwrap().consulted();
+    let present = read::Observation {
+        fact: fact(5),
+        presence: Presence::Present,
+    };
+    assert!(consulted.eq([present]));
+    assert_eq!(permit(&record).outcome(), products(3));
+    assert!(permit(&record).facts().eq([fact(5)]));
+}
+
+#[test]
+fn e_denies_without_it() {
+    let record = sitting(&D, &FactTable::new());
+    let expected = [0xE000_0001, 0x0005_0000, 0xDC00_0003, 0, 1, 0x0005_0000];
+    assert_eq!(record, expected);
+    let record = Record::read(&record).unwrap();
+    let consulted = record.consulted().map(|read| (read.fact, read.presence));
+    assert!(consulted.eq([(fact(5), Presence::Absent)]));
+    let Some(Decision::Deny(deny)) = record.decision() else {
+        panic!("{record:?} is no deny");
+    };
+    assert_eq!(deny.denied(), Some(products(3)));
+    assert_eq!(deny.shape(), Shape::Hidden);
+    assert!(deny.facts().eq([fact(5)]));
+}
+
+#[test]
+fn f_stays_pending() {
+    let sheet = built(&D);
+    let mut out = [0; ROOM];
+    let record = partial_evaluate(&sheet, five(Presence::Unknown).as_bytes(), &mut out).unwrap();
+    assert_eq!(record, [&[0xF000_0000], &sheet[..]].concat());
+    let typed = Record::read(record).unwrap();
+    assert_eq!(typed.status(), Status::Pending);
+    assert_eq!(typed.decision(), None);
+    assert_eq!(typed.consulted().len(), 0);
+    assert_eq!(typed.tree(), read::Sheet::read(&sheet).unwrap().policy());
+    let named = vierskof::required_residual_facts(record).unwrap();
+    assert!(named.iter().eq([fact(5)]));
+    let mut narrowed = [0; ROOM];
+    let narrowed = narrow_residual(record, five(Presence::Present).as_bytes(), &mut narrowed);
+    assert_eq!(narrowed, Ok(&sitting(&D, &five(Presence::Present))[..]));
+}
+
+#[test]
+fn g_meets_and_joins() {
+    let permits = [Policy::Permit(products(3)), Policy::Permit(products(6))];
+    for (policy, outcome) in [(Policy::All(&permits), 2), (Policy::Any(&permits), 7)] {
+        let record = sitting(&policy, &FactTable::new());
+        assert_eq!(record, [0xE000_0000, 0xC000_0000 | outcome, 0]);
+        assert_eq!(u32::from(permit(&record).outcome().bits()), outcome);
+    }
+}
+
+#[test]
+fn h_loses_an_obligation_on_the_way() {
+    let has = Condition::Has(fact(5));
+    let seven = [obligation(7)];
+    let arms = [
+        Policy::Grant(Grant::new(products(1), &has).obligations(&seven)),
+        Policy::Permit(products(1)),
+    ];
+    let policy = Policy::All(&arms);
+    let one = sitting(&policy, &five(Presence::Present));
+    assert!(permit(&one).obligations().eq(seven));
+
+    let (mut out, mut completed) = ([0; ROOM], [0; ROOM]);
+    let sheet = built(&policy);
+    let pending = partial_evaluate(&sheet, five(Presence::Unknown).as_bytes(), &mut out).unwrap();
+    assert_eq!(vierskof::carries_obligation(pending), Ok(true));
+    let present = five(Presence::Present);
+    let staged = complete_residual(pending, present.as_bytes(), &mut completed).unwrap();
+    assert_eq!(vierskof::is_permit_constant(staged), Ok(true));
+    assert_eq!(vierskof::is_deny_constant(staged), Ok(false));
+    assert_eq!(permit(staged).outcome(), permit(&one).outcome());
+    assert_eq!(permit(staged).obligations().len(), 0);
+}

@@ -1,6 +1,6 @@
 //! Proved access decisions: a safe interface to the static library `libvierskof.a`.
 //!
-//! A policy sheet says who may read which products, on which obligations. A sheet is decided in one
+//! A policy sheet says who may read which products, with which obligations. A sheet is decided in one
 //! sitting, or in stages: whoever holds some of the facts reduces it and passes on the rest. Every
 //! call is proved to end without fault, for any words and bytes, in the answer that the rules give;
 //! and facts brought in stages are proved to end in the effect and the products of one sitting.

@@ -13,6 +13,8 @@ const SUBCOMMANDS: [&str; 7] = [
     "evaluate", "reduce", "narrow", "complete", "required", "show", "assemble",
 ];
 
+const README: &str = include_str!("../../../../README.md");
+
 /// Runs commands as they would be pasted into a shell, with this build's command on the path.
 #[track_caller]
 fn shell(commands: &str, folder: &Path) -> String {
@@ -53,6 +55,22 @@ fn the_road_leads_over_two_pending_records() {
                   vierskof required relay\n\
                   vierskof required district";
     assert_eq!(shell(stages, &folder), "5\n7\n8\n5\n");
+}
+
+/// The README's commands begin with `./run`, which builds the command and hands its arguments over.
+#[test]
+fn the_readme_has_the_same_road() {
+    assert!(README.contains(&ROAD.replace("vierskof ", "./run ")));
+}
+
+#[test]
+fn the_readme_shows_what_is_printed() {
+    let (_, example) = README.split_once("\n    $ ").expect("an example");
+    let (typed, rest) = example.split_once('\n').expect("a line");
+    let printed = rest.lines().map_while(|line| line.strip_prefix("    "));
+    let printed: String = printed.map(|line| format!("{line}\n")).collect();
+    let shown = shell(&typed.replace("./run", "vierskof"), &folder("readme"));
+    assert_eq!(shown, printed);
 }
 
 #[test]

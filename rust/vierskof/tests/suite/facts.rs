@@ -81,7 +81,7 @@ fn bytes_are_read() {
 #[test]
 fn tables_that_say_the_same_are_equal() {
     let short = FactTable::from_bytes(&[0x40]).expect("a table");
-    let long = FactTable::try_from(&[0x40, 0, 0][..]).expect("a table");
+    let long = FactTable::from_bytes(&[0x40, 0, 0]).expect("a table");
     assert_eq!(short, long);
     assert_eq!(AsRef::<[u8]>::as_ref(&long), [0x40]);
 }

@@ -2,7 +2,7 @@
 
 use std::thread;
 
-use vierskof::read::{Condition, ConditionRef, Policy, PolicyRef, Record, Sheet, Status};
+use vierskof::read::{Condition, ConditionRef, Decision, Policy, PolicyRef, Record, Sheet, Status};
 use vierskof::{LEVELS, LIST, Presence, RECORD_WORDS, Refusal, SHEET_WORDS, Shape};
 
 use super::{fact, label, obligation, products, reason};
@@ -263,6 +263,19 @@ fn a_deny_with_everything() {
     assert_eq!(deny.label(), Some(label(1)));
     assert_eq!(deny.reason(), Some(reason(0x7FFF)));
     assert!(deny.facts().eq([fact(1_023)]));
+}
+
+#[test]
+fn a_deny_is_hidden_or_denies_an_outcome_by_itself() {
+    let deny = |first: u32| {
+        let words = [0xE000_0000, first, 0, 0];
+        match Record::read(&words).map(|record| record.decision()) {
+            Ok(Some(Decision::Deny(deny))) => (deny.shape(), deny.denied()),
+            other => panic!("{other:?}"),
+        }
+    };
+    assert_eq!(deny(0xD400_0000), (Shape::Forbidden, Some(products(0))));
+    assert_eq!(deny(0xD800_0000), (Shape::Hidden, None));
 }
 
 #[test]

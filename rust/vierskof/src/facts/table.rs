@@ -79,13 +79,6 @@ impl FactTable {
         self
     }
 
-    /// Ends with the last byte that isn't 0, of which none is past the first `most`.
-    fn end_by(&mut self, most: usize) {
-        let mut bytes = self.bytes.iter().take(most);
-        let last = bytes.rposition(|&byte| byte != 0);
-        self.length = last.map_or(0, |last| last + 1);
-    }
-
     /// The table after [`set`](Self::set).
     #[must_use]
     pub fn with(mut self, fact: Fact, presence: Presence) -> Self {
@@ -105,6 +98,13 @@ impl FactTable {
     #[must_use]
     pub fn is_known(&self) -> bool {
         self.bytes.iter().all(|byte| byte & 0xAA == 0)
+    }
+
+    /// Ends with the last byte that isn't 0, of which none is past the first `most`.
+    fn end_by(&mut self, most: usize) {
+        let mut bytes = self.bytes.iter().take(most);
+        let last = bytes.rposition(|&byte| byte != 0);
+        self.length = last.map_or(0, |last| last + 1);
     }
 }
 

@@ -269,7 +269,7 @@ fn a_deny_with_everything() {
 fn a_deny_is_hidden_or_denies_an_outcome_by_itself() {
     let deny = |first: u32| {
         let words = [0xE000_0000, first, 0, 0];
-        match Record::read(&words).map(|record| record.decision()) {
+        match Record::read(&words).map(Record::decision) {
             Ok(Some(Decision::Deny(deny))) => (deny.shape(), deny.denied()),
             other => panic!("{other:?}"),
         }

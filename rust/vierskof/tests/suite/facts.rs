@@ -54,6 +54,10 @@ fn what_is_said_last_holds() {
         .set(last, Presence::Absent);
     assert!(table.is_known());
     assert_eq!(table.as_bytes(), [0x40]);
+    let lower = FactTable::new()
+        .with(last, Presence::Present)
+        .with(first, Presence::Absent);
+    assert_eq!(lower.as_bytes().len(), TABLE_BYTES);
     let twice = [(first, Presence::Unknown), (first, Presence::Present)];
     assert_eq!(twice.into_iter().collect::<FactTable>(), table);
 }

@@ -30,7 +30,10 @@ fn made() -> Result<PathBuf, String> {
     // Cargo reads this script's standard output.
     match rt.stdout(io::stderr()).status() {
         Ok(status) if status.success() => Ok(folder),
-        Ok(status) => Err(format!("`rt staticlib vierskof` failed: {status}")),
+        Ok(status) => Err(format!(
+            "`rt staticlib vierskof` failed ({status}): run it in {} to see why",
+            root.display()
+        )),
         Err(_) => found(folder),
     }
 }
@@ -42,7 +45,7 @@ fn found(folder: PathBuf) -> Result<PathBuf, String> {
         Ok(folder)
     } else {
         Err(format!(
-            "no libvierskof.a in {}: put `rt` on the PATH to make it, or set VIERSKOF_LIB_DIR to its folder",
+            "no libvierskof.a in {}: `rt staticlib vierskof` makes it in target/staticlib, and VIERSKOF_LIB_DIR names another folder",
             folder.display()
         ))
     }

@@ -30,15 +30,16 @@
 
 mod lists;
 mod nodes;
+mod parts;
 mod words;
 
 use core::fmt;
 
 pub use lists::{Conditions, Consulted, Facts, Obligations, Observation, Policies};
-pub use nodes::{
-    Condition, ConditionRef, Decision, DenyWithTrace, GrantRef, PermitWithTrace, Policy, PolicyRef,
-};
+pub use nodes::{Condition, ConditionRef, Decision, Policy, PolicyRef};
+pub use parts::{DenyWithTrace, GrantRef, PermitWithTrace};
 
+use self::lists::Fields;
 use self::words::{count, halves, kind, tail, word};
 use crate::{Refusal, calls};
 
@@ -144,9 +145,9 @@ impl<'w> Record<'w> {
     }
 
     /// The facts that were read, in the order of reading.
-    #[must_use]
     pub fn consulted(self) -> Consulted<'w> {
-        Consulted::new(tail(self.words, 1), count(word(self.words, 0)))
+        let entries = count(word(self.words, 0));
+        Consulted(Fields::new(tail(self.words, 1), entries))
     }
 
     /// The record's tree.

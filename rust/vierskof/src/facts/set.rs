@@ -59,7 +59,6 @@ impl FactSet {
     }
 
     /// Its facts, ascending.
-    #[must_use]
     pub fn iter(&self) -> FactSetIter<'_> {
         FactSetIter { set: self, next: 0 }
     }
@@ -116,6 +115,7 @@ impl fmt::Debug for FactSet {
 
 /// The facts of a set, ascending.
 #[derive(Clone, Debug)]
+#[must_use = "an iterator does nothing until it is asked"]
 pub struct FactSetIter<'s> {
     set: &'s FactSet,
     next: u32,

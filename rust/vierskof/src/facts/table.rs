@@ -26,8 +26,9 @@ const FIELDS: usize = 4;
 /// ```
 #[derive(Clone, PartialEq, Eq, Hash)]
 pub struct FactTable {
-    // All of them, so that tables that say the same are equal.
     bytes: [u8; TABLE_BYTES],
+    /// Up to the last byte that isn't 0, so that tables that say the same are equal.
+    length: usize,
 }
 
 impl FactTable {
@@ -36,6 +37,7 @@ impl FactTable {
     pub const fn new() -> Self {
         Self {
             bytes: [0; TABLE_BYTES],
+            length: 0,
         }
     }
 
@@ -55,18 +57,16 @@ impl FactTable {
         bytes.ok_or(Refusal::TableLength)?.copy_from_slice(given);
         let three = |byte: &u8| byte & byte >> 1 & 0x55 != 0;
         if given.iter().any(three) {
-            Err(Refusal::TableField)
-        } else {
-            Ok(table)
+            return Err(Refusal::TableField);
         }
+        table.end_by(given.len());
+        Ok(table)
     }
 
     /// The shortest bytes that say this table; calls take them.
     #[must_use]
     pub fn as_bytes(&self) -> &[u8] {
-        let last = self.bytes.iter().rposition(|&byte| byte != 0);
-        let length = last.map_or(0, |last| last + 1);
-        self.bytes.get(..length).unwrap_or_default()
+        self.bytes.get(..self.length).unwrap_or_default()
     }
 
     /// Says what is known of a fact, instead of what was said before.
@@ -75,6 +75,7 @@ impl FactTable {
         if let Some(byte) = self.bytes.get_mut(at) {
             *byte = *byte & !(3 << shift) | presence.field() << shift;
         }
+        self.end_by(self.length.max(at + 1));
         self
     }
 
@@ -98,6 +99,13 @@ impl FactTable {
     pub fn is_known(&self) -> bool {
         self.bytes.iter().all(|byte| byte & 0xAA == 0)
     }
+
+    /// Ends with the last byte that isn't 0, of which none is past the first `most`.
+    fn end_by(&mut self, most: usize) {
+        let mut bytes = self.bytes.iter().take(most);
+        let last = bytes.rposition(|&byte| byte != 0);
+        self.length = last.map_or(0, |last| last + 1);
+    }
 }
 
 /// The byte of a fact's field, and how far from the right the field is.
@@ -115,14 +123,6 @@ impl Default for FactTable {
 impl AsRef<[u8]> for FactTable {
     fn as_ref(&self) -> &[u8] {
         self.as_bytes()
-    }
-}
-
-impl TryFrom<&[u8]> for FactTable {
-    type Error = Refusal;
-
-    fn try_from(bytes: &[u8]) -> Result<Self, Refusal> {
-        Self::from_bytes(bytes)
     }
 }
 

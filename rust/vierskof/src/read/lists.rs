@@ -9,14 +9,14 @@ use crate::{Fact, Obligation, Presence};
 
 /// Fields of `WIDTH` bits, as many as a word holds, most significant first.
 #[derive(Clone)]
-struct Fields<'w, const WIDTH: usize> {
+pub struct Fields<'w, const WIDTH: usize> {
     words: &'w [u32],
     next: usize,
     end: usize,
 }
 
 impl<'w, const WIDTH: usize> Fields<'w, WIDTH> {
-    const fn new(words: &'w [u32], end: usize) -> Self {
+    pub const fn new(words: &'w [u32], end: usize) -> Self {
         Self {
             words,
             next: 0,
@@ -45,9 +45,15 @@ impl<const WIDTH: usize> Iterator for Fields<'_, WIDTH> {
 
 /// The words of each arm of a list, in order.
 #[derive(Clone, PartialEq, Eq, Hash)]
-struct Arms<'w> {
+pub struct Arms<'w> {
     rest: &'w [u32],
     left: usize,
+}
+
+impl<'w> Arms<'w> {
+    pub const fn new(rest: &'w [u32], left: usize) -> Self {
+        Self { rest, left }
+    }
 }
 
 impl<'w> Iterator for Arms<'w> {
@@ -70,7 +76,8 @@ macro_rules! list {
     ($(#[$doc:meta])* $name:ident<$w:lifetime>($inner:ty) -> $item:ty = $make:expr) => {
         $(#[$doc])*
         #[derive(Clone)]
-        pub struct $name<$w>($inner);
+        #[must_use = "an iterator does nothing until it is asked"]
+        pub struct $name<$w>(pub(super) $inner);
 
         impl<$w> Iterator for $name<$w> {
             type Item = $item;
@@ -117,36 +124,6 @@ list! {
     /// The arms of a condition list, in order.
     #[derive(PartialEq, Eq, Hash)]
     Conditions<'w>(Arms<'w>) -> ConditionRef<'w> = ConditionRef::new
-}
-
-impl<'w> Obligations<'w> {
-    pub(super) const fn new(words: &'w [u32], count: usize) -> Self {
-        Self(Fields::new(words, count))
-    }
-}
-
-impl<'w> Facts<'w> {
-    pub(super) const fn new(words: &'w [u32], count: usize) -> Self {
-        Self(Fields::new(words, count))
-    }
-}
-
-impl<'w> Consulted<'w> {
-    pub(super) const fn new(words: &'w [u32], count: usize) -> Self {
-        Self(Fields::new(words, count))
-    }
-}
-
-impl<'w> Policies<'w> {
-    pub(super) const fn new(rest: &'w [u32], left: usize) -> Self {
-        Self(Arms { rest, left })
-    }
-}
-
-impl<'w> Conditions<'w> {
-    pub(super) const fn new(rest: &'w [u32], left: usize) -> Self {
-        Self(Arms { rest, left })
-    }
 }
 
 /// A fact that was read, and how it read.

@@ -1,5 +1,7 @@
 //! Fields of words, and where a tree ends. A word past the end reads 0, which valid words never need.
 
+use crate::Products;
+
 /// The word at a place.
 pub fn word(words: &[u32], at: usize) -> u32 {
     words.get(at).copied().unwrap_or_default()
@@ -23,6 +25,11 @@ pub const fn count(word: u32) -> usize {
 /// The count of obligations in the first word of a grant or permit.
 pub const fn obligations(word: u32) -> usize {
     (word >> 20 & 0x7F) as usize
+}
+
+/// The outcome in the last 16 bits of a node's first word.
+pub fn outcome(words: &[u32]) -> Products {
+    Products::from_bits((word(words, 0) & 0xFFFF) as u16)
 }
 
 /// How many words so many 16-bit fields take.

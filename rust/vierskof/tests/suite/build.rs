@@ -90,6 +90,11 @@ fn every_node_has_its_words() {
 fn levels_end_at_32() {
     written(&nested(Policy::Deny, LEVELS - 1));
     unwritable(&nested(Policy::Deny, LEVELS), Unwritable::Levels);
+    let tall = nested(Policy::Deny, LEVELS - 2);
+    written(&Policy::OrElse(&tall, &tall));
+    let taller = nested(Policy::Deny, LEVELS - 1);
+    unwritable(&Policy::OrElse(&tall, &taller), Unwritable::Levels);
+    unwritable(&Policy::OrElse(&taller, &tall), Unwritable::Levels);
     let has = Condition::Has(fact(5));
     written(&nested(granted(&has), LEVELS - 2));
     unwritable(&nested(granted(&has), LEVELS - 1), Unwritable::Levels);

@@ -54,6 +54,10 @@ fn what_is_said_last_holds() {
         .set(last, Presence::Absent);
     assert!(table.is_known());
     assert_eq!(table.as_bytes(), [0x40]);
+    let lower = FactTable::new()
+        .with(last, Presence::Present)
+        .with(first, Presence::Absent);
+    assert_eq!(lower.as_bytes().len(), TABLE_BYTES);
     let twice = [(first, Presence::Unknown), (first, Presence::Present)];
     assert_eq!(twice.into_iter().collect::<FactTable>(), table);
 }
@@ -81,7 +85,7 @@ fn bytes_are_read() {
 #[test]
 fn tables_that_say_the_same_are_equal() {
     let short = FactTable::from_bytes(&[0x40]).expect("a table");
-    let long = FactTable::try_from(&[0x40, 0, 0][..]).expect("a table");
+    let long = FactTable::from_bytes(&[0x40, 0, 0]).expect("a table");
     assert_eq!(short, long);
     assert_eq!(AsRef::<[u8]>::as_ref(&long), [0x40]);
 }

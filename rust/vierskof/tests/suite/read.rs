@@ -2,7 +2,7 @@
 
 use std::thread;
 
-use vierskof::read::{Condition, ConditionRef, Policy, PolicyRef, Record, Sheet, Status};
+use vierskof::read::{Condition, ConditionRef, Decision, Policy, PolicyRef, Record, Sheet, Status};
 use vierskof::{LEVELS, LIST, Presence, RECORD_WORDS, Refusal, SHEET_WORDS, Shape};
 
 use super::{fact, label, obligation, products, reason};
@@ -134,6 +134,76 @@ fn the_longest_record() {
     assert_eq!(Record::read(&words), Err(Refusal::Length));
 }
 
+/// One node of each kind that may be an arm in a record, with parts of its own.
+const ARMS: [&[u32]; 8] = [
+    &[0x6000_FFFF],
+    &[0x7000_0000],
+    &[
+        0x8050_0001,
+        0x8001_8001,
+        0x0102_0304,
+        0x0500_0000,
+        0x3000_0000,
+        0x2000_0005,
+    ],
+    &[
+        0x8000_0001,
+        0x0000_0000,
+        0x4000_0002,
+        0x5000_0001,
+        0x0000_0000,
+        0x1000_0000,
+    ],
+    &[0x9000_0002, 0xA000_0000, 0x7000_0000],
+    &[
+        0xB000_0000,
+        0xB000_0000,
+        0x7000_0000,
+        0x7000_0000,
+        0x6000_0001,
+    ],
+    &[
+        0xC050_0001,
+        0x8001_0003,
+        0x0102_0304,
+        0x0500_0000,
+        0x0001_0002,
+        0x0003_0000,
+    ],
+    &[
+        0xDC00_0001,
+        0x8001_8001,
+        0x0000_0003,
+        0x0001_0002,
+        0x0003_0000,
+    ],
+];
+
+#[test]
+fn an_arm_ends_where_the_next_begins() {
+    for turned in 0..ARMS.len() {
+        let mut arms = ARMS;
+        arms.rotate_left(turned);
+        let record = [&[0xF000_0000, 0x9000_0008], arms.concat().as_slice()].concat();
+        let Policy::All(found) = Record::read(&record).unwrap().tree().node() else {
+            panic!("no All");
+        };
+        assert!(found.map(PolicyRef::words).eq(arms));
+    }
+    for (primary, fallback) in ARMS.iter().zip(ARMS.iter().rev()) {
+        let record = [&[0xF000_0000, 0xB000_0000], *primary, *fallback].concat();
+        let node = Record::read(&record).unwrap().tree().node();
+        let Policy::OrElse {
+            primary: first,
+            fallback: second,
+        } = node
+        else {
+            panic!("no OrElse");
+        };
+        assert_eq!((first.words(), second.words()), (*primary, *fallback));
+    }
+}
+
 #[test]
 fn the_longest_lists() {
     let facts: Vec<u32> = (0..4_095).map(|at| at % 1_024).collect();
@@ -193,6 +263,19 @@ fn a_deny_with_everything() {
     assert_eq!(deny.label(), Some(label(1)));
     assert_eq!(deny.reason(), Some(reason(0x7FFF)));
     assert!(deny.facts().eq([fact(1_023)]));
+}
+
+#[test]
+fn a_deny_is_hidden_or_denies_an_outcome_by_itself() {
+    let deny = |first: u32| {
+        let words = [0xE000_0000, first, 0, 0];
+        match Record::read(&words).map(Record::decision) {
+            Ok(Some(Decision::Deny(deny))) => (deny.shape(), deny.denied()),
+            other => panic!("{other:?}"),
+        }
+    };
+    assert_eq!(deny(0xD400_0000), (Shape::Forbidden, Some(products(0))));
+    assert_eq!(deny(0xD800_0000), (Shape::Hidden, None));
 }
 
 #[test]

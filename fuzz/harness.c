@@ -1,0 +1,228 @@
+// The fuzzer's harness over the C interface. An input is a call, a room and a table's length, 16 bits each, the table and the words, all most significant
+// byte first. Every claim holds of every input; one that doesn't ends the run.
+#include <stdio.h>
+
+#include "calls.h"
+
+enum { LEAD = 6, REFUSALS = 11, RESOLVED = 14, FACTS = 1024, TABLE_BYTES = 256, RECORD_WORDS = 16384 };
+
+enum { ABSENT, PRESENT, UNKNOWN };
+
+#define HOLDS(claim) ((claim) ? (void)0 : broken(#claim, __LINE__))
+
+static void broken(const char *claim, int line) {
+    fprintf(stderr, "harness.c:%d: not so: %s\n", line, claim);
+    abort();
+}
+
+// What a call returned, and its output afterwards: a record's words, or a set's numbers.
+struct answer {
+    uint32_t number;
+    uint32_t value;
+    uint32_t *out;
+};
+
+// The words of an output before a call; `mark` sets two calls apart.
+static uint32_t marked(uint32_t mark, size_t place) { return mark ^ (uint32_t)place * 0x9E3779B1; }
+
+// A refusal has a number of the table and no value; an accepted call's value is in its range.
+static void in_range(const struct given *given, const struct answer *answer) {
+    HOLDS(answer->number <= REFUSALS);
+    if (answer->number) {
+        HOLDS(answer->value == 0);
+    } else if (writes(given->call)) {
+        HOLDS(answer->value >= 3 && answer->value <= given->room && answer->value <= RECORD_WORDS);
+    } else {
+        HOLDS(answer->value <= (counts(given->call) ? FACTS : 1));
+    }
+}
+
+// The count is the number of one bits in the set: 0 when refused, whatever stood there before.
+static void counted(const struct answer *answer) {
+    const uint64_t *set = (const uint64_t *)answer->out;
+    int ones = 0;
+    for (size_t i = 0; i < SET_NUMBERS; i++) ones += __builtin_popcountll(set[i]);
+    HOLDS((uint32_t)ones == answer->value);
+}
+
+// One call on blocks of exact length. It changes nothing that it is given, and no word past its record; the output is the caller's to free.
+static struct answer call(struct given given, uint32_t mark) {
+    struct given own = given;
+    own.words = copy(given.words, given.count * sizeof *given.words);
+    own.table = copy(given.table, given.bytes);
+    size_t bytes = out_bytes(&given);
+    uint32_t *out = block(bytes);
+    for (size_t i = 0; i < bytes / sizeof *out; i++) out[i] = marked(mark, i);
+    uint64_t told = returned(&own, out);
+    struct answer answer = {(uint32_t)(told >> 32), (uint32_t)told, out};
+    in_range(&given, &answer);
+    if (counts(given.call)) counted(&answer);
+    for (size_t i = answer.value; writes(given.call) && i < given.room; i++) HOLDS(out[i] == marked(mark, i));
+    HOLDS(!memcmp(own.words, given.words, given.count * sizeof *given.words));
+    HOLDS(!memcmp(own.table, given.table, given.bytes));
+    free(own.words);
+    free(own.table);
+    return answer;
+}
+
+// The number of a call's refusal.
+static uint32_t number_of(struct given given) {
+    struct answer answer = call(given, 0);
+    free(answer.out);
+    return answer.number;
+}
+
+// A second call on the same input, in another output, answers the same.
+static struct answer same_twice(struct given given) {
+    struct answer first = call(given, 0x5A5A5A5A), second = call(given, 0xA5A5A5A5);
+    size_t bytes = writes(given.call) ? first.value * sizeof *first.out : out_bytes(&given);
+    HOLDS(first.number == second.number && first.value == second.value);
+    HOLDS(!memcmp(first.out, second.out, bytes));
+    free(second.out);
+    return first;
+}
+
+// ---- records
+
+// All calls that read only a record refuse the same ones for the same cause; the tree of a Resolved record is a permit or a deny, and no tree is both.
+static uint32_t as_record(const uint32_t *words, size_t count) {
+    struct given given = {REQUIRED_RESIDUAL_FACTS, (uint32_t *)words, count, NULL, 0, 0};
+    uint32_t number = number_of(given);
+    uint32_t said[CALLS] = {0};
+    for (given.call = IS_PERMIT_CONSTANT; given.call < CALLS; given.call++) {
+        struct answer answer = call(given, 0);
+        HOLDS(answer.number == number);
+        said[given.call] = answer.value;
+        free(answer.out);
+    }
+    HOLDS(!(said[IS_PERMIT_CONSTANT] && said[IS_DENY_CONSTANT]));
+    HOLDS(number || words[0] >> 28 != RESOLVED || said[IS_PERMIT_CONSTANT] || said[IS_DENY_CONSTANT]);
+    return number;
+}
+
+// The record that a call wrote, in a block of its own length: the calls that read records accept it.
+static struct given record_of(struct answer answer, size_t room) {
+    struct given record = {NARROW_RESIDUAL, copy(answer.out, answer.value * sizeof *answer.out), answer.value, NULL, 0, room};
+    HOLDS(as_record(record.words, record.count) == 0);
+    free(answer.out);
+    return record;
+}
+
+// The products under a node 12 of a Resolved record, and more than all of them under a 13.
+static uint32_t decided(const uint32_t *record) {
+    HOLDS(record[0] >> 28 == RESOLVED);
+    uint32_t node = record[1 + ((record[0] & 0xFFF) + 1) / 2];
+    HOLDS(node >> 28 == 12 || node >> 28 == 13);
+    return node >> 28 == 12 ? node & 0xFFFF : 0x10000;
+}
+
+// ---- tables
+
+static int presence(const struct given *table, size_t fact) {
+    return fact / 4 < table->bytes ? table->table[fact / 4] >> (6 - 2 * (fact % 4)) & 3 : ABSENT;
+}
+
+// Settles those facts that a table leaves Unknown: all of them, or every other one.
+static void settle(const struct given *from, int all, uint8_t *table) {
+    memset(table, 0, from->bytes);
+    for (size_t fact = 0; fact < 4 * from->bytes; fact++) {
+        int settled = (int)((fact ^ from->count) & 1), field = presence(from, fact);
+        if (field == UNKNOWN && (all || fact & 2)) field = settled ? PRESENT : ABSENT;
+        table[fact / 4] |= (uint8_t)(field << (6 - 2 * (fact % 4)));
+    }
+}
+
+// No condition of the record names a fact that the table has settled.
+static void names_no_settled(const struct given *record, const struct given *table) {
+    struct given given = *record;
+    given.call = REQUIRED_RESIDUAL_FACTS;
+    struct answer answer = call(given, 0);
+    const uint64_t *set = (const uint64_t *)answer.out;
+    for (size_t fact = 0; fact < FACTS; fact++) HOLDS(!(set[fact / 64] >> (63 - fact % 64) & 1) || presence(table, fact) == UNKNOWN);
+    free(answer.out);
+}
+
+// ---- roads
+
+// The record of a call that has to be accepted.
+static struct given accepted(struct given given, enum call which, const uint8_t *table, size_t bytes) {
+    given.call = which;
+    given.table = (uint8_t *)table;
+    given.bytes = bytes;
+    struct answer answer = call(given, 0);
+    HOLDS(answer.number == 0);
+    return record_of(answer, given.room);
+}
+
+// The effect and products in which a way ends.
+static uint32_t end(struct given given, enum call last, const uint8_t *known, size_t bytes) {
+    struct given record = accepted(given, last, known, bytes);
+    uint32_t found = decided(record.words);
+    free(record.words);
+    return found;
+}
+
+// Reduced with the first table, narrowed with the second and completed with the known one, an accepted sheet ends as in one sitting.
+static void road(struct given sheet, const uint8_t *first, const uint8_t *second, const uint8_t *known) {
+    size_t bytes = sheet.bytes;
+    struct given reduced = accepted(sheet, PARTIAL_EVALUATE, first, bytes);
+    struct given narrowed = accepted(reduced, NARROW_RESIDUAL, second, bytes);
+    struct given table = {.table = (uint8_t *)second, .bytes = bytes};
+    names_no_settled(&narrowed, &table);
+    uint32_t sitting = end(sheet, EVALUATE, known, bytes);
+    HOLDS(end(reduced, COMPLETE_RESIDUAL, known, bytes) == sitting);
+    HOLDS(end(narrowed, COMPLETE_RESIDUAL, known, bytes) == sitting);
+    free(reduced.words);
+    free(narrowed.words);
+}
+
+// The roads of a sheet: with tables that leave facts open, and with the known one from the start.
+static void roads(struct given sheet) {
+    sheet.room = 3 * sheet.count + 513;
+    uint8_t *some = block(sheet.bytes), *known = block(sheet.bytes);
+    settle(&sheet, 0, some);
+    settle(&sheet, 1, known);
+    road(sheet, sheet.table, some, known);
+    road(sheet, known, known, known);
+    free(some);
+    free(known);
+}
+
+// ---- inputs
+
+// Whether the table is one that a reduction takes.
+static int faultless(const struct given *given) {
+    for (size_t fact = 0; fact < 4 * given->bytes; fact++)
+        if (presence(given, fact) == 3) return 0;
+    return given->bytes <= TABLE_BYTES;
+}
+
+// What holds of any answer, and of the words and the table that it was given.
+static void hold(struct given given) {
+    struct answer answer = same_twice(given);
+    if (writes(given.call) && answer.number == 0) {
+        free(record_of(answer, given.room).words);
+    } else {
+        free(answer.out);
+    }
+    if (!reads_sheet(given.call)) {
+        as_record(given.words, given.count);
+    } else if (faultless(&given)) {
+        struct given sheet = given;
+        sheet.call = REQUIRED_FACTS;
+        if (number_of(sheet) == 0) roads(sheet);
+    }
+}
+
+int LLVMFuzzerTestOneInput(const uint8_t *data, size_t size) {
+    if (size < LEAD) return 0;
+    size_t bytes = number_at(data + 4, 2), left = size - LEAD;
+    if (bytes > left) bytes = left;
+    struct given given = {number_at(data, 2) % CALLS, NULL, (left - bytes) / 4, NULL, bytes, number_at(data + 2, 2)};
+    given.table = copy(data + LEAD, bytes);
+    given.words = words_at(data + LEAD + bytes, given.count);
+    hold(given);
+    free(given.table);
+    free(given.words);
+    return 0;
+}

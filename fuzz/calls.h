@@ -24,6 +24,9 @@ enum call {
 // A set of facts is sixteen 64-bit numbers.
 enum { SET_NUMBERS = 16 };
 
+// An input of the fuzzer begins with call, room and table bytes, as a stored answer does.
+enum { LEAD = 6 };
+
 // What a call is given: a sheet's or a record's words, a table, and the room of the output in words.
 struct given {
     enum call call;
@@ -71,6 +74,12 @@ static inline uint32_t *words_at(const uint8_t *from, size_t count) {
     uint32_t *words = block(count * sizeof *words);
     for (size_t i = 0; i < count; i++) words[i] = number_at(from + 4 * i, 4);
     return words;
+}
+
+// The table's bytes of an input, at most those that are there.
+static inline size_t table_bytes(const uint8_t *data, size_t size) {
+    size_t bytes = number_at(data + 4, 2), left = size - LEAD;
+    return bytes < left ? bytes : left;
 }
 
 // What the call returns. `out` holds `out_bytes`.

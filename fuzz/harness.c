@@ -4,7 +4,10 @@
 
 #include "calls.h"
 
-enum { LEAD = 6, REFUSALS = 11, RESOLVED = 14, FACTS = 1024, TABLE_BYTES = 256, RECORD_WORDS = 16384 };
+enum { NO_ROOM = 11, RESOLVED = 14, FACTS = 1024, TABLE_BYTES = 256, RECORD_WORDS = 16384 };
+
+// Effects and products as one number: products under a permit, or one of these.
+enum { DENIED = 0x10000, NOTHING };
 
 enum { ABSENT, PRESENT, UNKNOWN };
 
@@ -27,7 +30,7 @@ static uint32_t marked(uint32_t mark, size_t place) { return mark ^ (uint32_t)pl
 
 // A refusal has a number of the table and no value; an accepted call's value is in its range.
 static void in_range(const struct given *given, const struct answer *answer) {
-    HOLDS(answer->number <= REFUSALS);
+    HOLDS(answer->number <= NO_ROOM);
     if (answer->number) {
         HOLDS(answer->value == 0);
     } else if (writes(given->call)) {
@@ -108,12 +111,12 @@ static struct given record_of(struct answer answer, size_t room) {
     return record;
 }
 
-// The products under a node 12 of a Resolved record, and more than all of them under a 13.
+// A Resolved record's effect and products.
 static uint32_t decided(const uint32_t *record) {
     HOLDS(record[0] >> 28 == RESOLVED);
     uint32_t node = record[1 + ((record[0] & 0xFFF) + 1) / 2];
     HOLDS(node >> 28 == 12 || node >> 28 == 13);
-    return node >> 28 == 12 ? node & 0xFFFF : 0x10000;
+    return node >> 28 == 12 ? node & 0xFFFF : DENIED;
 }
 
 // ---- tables
@@ -144,46 +147,68 @@ static void names_no_settled(const struct given *record, const struct given *tab
 
 // ---- roads
 
-// The record of a call that has to be accepted.
-static struct given accepted(struct given given, enum call which, const uint8_t *table, size_t bytes) {
+// Takes an accepted sheet or record through a call with a faultless table, which is refused for want of room alone. Whether there was room.
+static int taken(struct given given, enum call which, const uint8_t *table, size_t bytes, struct given *record) {
     given.call = which;
     given.table = (uint8_t *)table;
     given.bytes = bytes;
     struct answer answer = call(given, 0);
-    HOLDS(answer.number == 0);
-    return record_of(answer, given.room);
+    HOLDS(answer.number == 0 || answer.number == NO_ROOM);
+    if (answer.number == 0) {
+        *record = record_of(answer, given.room);
+    } else {
+        free(answer.out);
+    }
+    return answer.number == 0;
 }
 
-// The effect and products in which a way ends.
+// The effect and products in which a way ends, and NOTHING without room.
 static uint32_t end(struct given given, enum call last, const uint8_t *known, size_t bytes) {
-    struct given record = accepted(given, last, known, bytes);
+    struct given record;
+    if (!taken(given, last, known, bytes, &record)) return NOTHING;
     uint32_t found = decided(record.words);
     free(record.words);
     return found;
 }
 
-// Reduced with the first table, narrowed with the second and completed with the known one, an accepted sheet ends as in one sitting.
-static void road(struct given sheet, const uint8_t *first, const uint8_t *second, const uint8_t *known) {
-    size_t bytes = sheet.bytes;
-    struct given reduced = accepted(sheet, PARTIAL_EVALUATE, first, bytes);
-    struct given narrowed = accepted(reduced, NARROW_RESIDUAL, second, bytes);
-    struct given table = {.table = (uint8_t *)second, .bytes = bytes};
-    names_no_settled(&narrowed, &table);
-    uint32_t sitting = end(sheet, EVALUATE, known, bytes);
-    HOLDS(end(reduced, COMPLETE_RESIDUAL, known, bytes) == sitting);
-    HOLDS(end(narrowed, COMPLETE_RESIDUAL, known, bytes) == sitting);
-    free(reduced.words);
-    free(narrowed.words);
+// Narrowed first, a record is completed to the same end; a Resolved one comes back equal.
+static void narrowed(struct given record, const uint8_t *table, const uint8_t *known, uint32_t ends) {
+    struct given given = {.table = (uint8_t *)table, .bytes = record.bytes}, narrower;
+    int room = taken(record, NARROW_RESIDUAL, table, record.bytes, &narrower);
+    HOLDS(room || record.room == RECORD_WORDS);
+    if (!room) return;
+    names_no_settled(&narrower, &given);
+    uint32_t found = end(narrower, COMPLETE_RESIDUAL, known, record.bytes);
+    HOLDS(found == ends || (record.room == RECORD_WORDS && (found == NOTHING || ends == NOTHING)));
+    if (record.words[0] >> 28 == RESOLVED) {
+        HOLDS(narrower.count == record.count && !memcmp(narrower.words, record.words, record.count * sizeof *record.words));
+    }
+    free(narrower.words);
 }
 
-// The roads of a sheet: with tables that leave facts open, and with the known one from the start.
-static void roads(struct given sheet) {
-    sheet.room = 3 * sheet.count + 513;
-    uint8_t *some = block(sheet.bytes), *known = block(sheet.bytes);
-    settle(&sheet, 0, some);
-    settle(&sheet, 1, known);
-    road(sheet, sheet.table, some, known);
-    road(sheet, known, known, known);
+// Reduced with the first table, narrowed with the second and completed with the known one, an accepted sheet ends as in one sitting.
+static void staged(struct given sheet, const uint8_t *first, const uint8_t *second, const uint8_t *known) {
+    struct given reduced;
+    uint32_t sitting = end(sheet, EVALUATE, known, sheet.bytes);
+    HOLDS(sitting != NOTHING && taken(sheet, PARTIAL_EVALUATE, first, sheet.bytes, &reduced));
+    reduced.bytes = sheet.bytes;
+    HOLDS(end(reduced, COMPLETE_RESIDUAL, known, sheet.bytes) == sitting);
+    narrowed(reduced, second, known, sitting);
+    free(reduced.words);
+}
+
+// An accepted sheet or record with a faultless table: with tables that leave facts open, and with the known one from the start.
+static void roads(struct given given, int sheet) {
+    given.room = sheet ? 3 * given.count + 513 : RECORD_WORDS;
+    uint8_t *some = block(given.bytes), *known = block(given.bytes);
+    settle(&given, 0, some);
+    settle(&given, 1, known);
+    if (sheet) {
+        staged(given, given.table, some, known);
+        staged(given, known, known, known);
+    } else {
+        narrowed(given, given.table, known, end(given, COMPLETE_RESIDUAL, known, given.bytes));
+    }
     free(some);
     free(known);
 }
@@ -205,22 +230,19 @@ static void hold(struct given given) {
     } else {
         free(answer.out);
     }
-    if (!reads_sheet(given.call)) {
-        as_record(given.words, given.count);
-    } else if (faultless(&given)) {
-        struct given sheet = given;
-        sheet.call = REQUIRED_FACTS;
-        if (number_of(sheet) == 0) roads(sheet);
-    }
+    struct given facts = given;
+    facts.call = REQUIRED_FACTS;
+    int sheet = reads_sheet(given.call);
+    uint32_t number = sheet ? number_of(facts) : as_record(given.words, given.count);
+    if (number == 0 && faultless(&given)) roads(given, sheet);
 }
 
 int LLVMFuzzerTestOneInput(const uint8_t *data, size_t size) {
     if (size < LEAD) return 0;
-    size_t bytes = number_at(data + 4, 2), left = size - LEAD;
-    if (bytes > left) bytes = left;
-    struct given given = {number_at(data, 2) % CALLS, NULL, (left - bytes) / 4, NULL, bytes, number_at(data + 2, 2)};
+    size_t bytes = table_bytes(data, size), words = LEAD + bytes;
+    struct given given = {number_at(data, 2) % CALLS, NULL, (size - words) / 4, NULL, bytes, number_at(data + 2, 2)};
     given.table = copy(data + LEAD, bytes);
-    given.words = words_at(data + LEAD + bytes, given.count);
+    given.words = words_at(data + words, given.count);
     hold(given);
     free(given.table);
     free(given.words);

@@ -1,9 +1,6 @@
 // Writes what each stored answer of a file was given as an input of the fuzzer, a file each: FILE FOLDER.
 #include "stored.h"
 
-// Call, room and table bytes: what an input begins with.
-enum { LEAD = 6 };
-
 static void write_seed(const struct stored *stored, const char *name) {
     FILE *to = fopen(name, "wb");
     size_t given = stored->given.bytes + 4 * stored->given.count;

@@ -25,8 +25,19 @@ struct answer {
     uint32_t *out;
 };
 
-// The words of an output before a call; `mark` sets two calls apart.
-static uint32_t marked(uint32_t mark, size_t place) { return mark ^ (uint32_t)place * 0x9E3779B1; }
+// What sets the outputs of two calls apart.
+enum mark { FIRST = 0x5A5A5A5A, SECOND = 0x25A5A5A5 };
+
+// The words of an output before a call: another one at each place.
+static uint32_t marked(enum mark mark, size_t place) { return mark ^ (uint32_t)place * 0x9E3779B1; }
+
+static uint32_t *output(size_t bytes, enum mark mark) {
+    uint32_t *out = block(bytes);
+    for (size_t i = 0; i < bytes / sizeof *out; i++) out[i] = marked(mark, i);
+    return out;
+}
+
+static int same(const void *one, const void *other, size_t bytes) { return bytes == 0 || memcmp(one, other, bytes) == 0; }
 
 // A refusal has a number of the table and no value; an accepted call's value is in its range.
 static void in_range(const struct given *given, const struct answer *answer) {
@@ -49,20 +60,18 @@ static void counted(const struct answer *answer) {
 }
 
 // One call on blocks of exact length. It changes nothing that it is given, and no word past its record; the output is the caller's to free.
-static struct answer call(struct given given, uint32_t mark) {
+static struct answer call(struct given given, enum mark mark) {
     struct given own = given;
     own.words = copy(given.words, given.count * sizeof *given.words);
     own.table = copy(given.table, given.bytes);
-    size_t bytes = out_bytes(&given);
-    uint32_t *out = block(bytes);
-    for (size_t i = 0; i < bytes / sizeof *out; i++) out[i] = marked(mark, i);
+    uint32_t *out = output(out_bytes(&given), mark);
     uint64_t told = returned(&own, out);
     struct answer answer = {(uint32_t)(told >> 32), (uint32_t)told, out};
     in_range(&given, &answer);
     if (counts(given.call)) counted(&answer);
     for (size_t i = answer.value; writes(given.call) && i < given.room; i++) HOLDS(out[i] == marked(mark, i));
-    HOLDS(!memcmp(own.words, given.words, given.count * sizeof *given.words));
-    HOLDS(!memcmp(own.table, given.table, given.bytes));
+    HOLDS(same(own.words, given.words, given.count * sizeof *given.words));
+    HOLDS(same(own.table, given.table, given.bytes));
     free(own.words);
     free(own.table);
     return answer;
@@ -70,19 +79,33 @@ static struct answer call(struct given given, uint32_t mark) {
 
 // The number of a call's refusal.
 static uint32_t number_of(struct given given) {
-    struct answer answer = call(given, 0);
+    struct answer answer = call(given, FIRST);
     free(answer.out);
     return answer.number;
 }
 
 // A second call on the same input, in another output, answers the same.
 static struct answer same_twice(struct given given) {
-    struct answer first = call(given, 0x5A5A5A5A), second = call(given, 0xA5A5A5A5);
+    struct answer first = call(given, FIRST), second = call(given, SECOND);
     size_t bytes = writes(given.call) ? first.value * sizeof *first.out : out_bytes(&given);
     HOLDS(first.number == second.number && first.value == second.value);
-    HOLDS(!memcmp(first.out, second.out, bytes));
+    HOLDS(same(first.out, second.out, bytes));
     free(second.out);
     return first;
+}
+
+// The original, where it is linked: it answers as the C interface does.
+__attribute__((weak)) uint64_t judge_answer(size_t call, const uint32_t *words, size_t count, const uint8_t *table, size_t bytes, uint32_t *out, size_t room);
+
+// The original returns the same, and would leave the same output.
+static void judged(struct given given, const struct answer *answer) {
+    if (!judge_answer) return;
+    size_t bytes = out_bytes(&given);
+    uint32_t *out = output(bytes, FIRST);
+    uint64_t told = judge_answer(given.call, given.words, given.count, given.table, given.bytes, out, bytes / sizeof *out);
+    HOLDS(told == ((uint64_t)answer->number << 32 | answer->value));
+    HOLDS(same(out, answer->out, bytes));
+    free(out);
 }
 
 // ---- records
@@ -93,7 +116,7 @@ static uint32_t as_record(const uint32_t *words, size_t count) {
     uint32_t number = number_of(given);
     uint32_t said[CALLS] = {0};
     for (given.call = IS_PERMIT_CONSTANT; given.call < CALLS; given.call++) {
-        struct answer answer = call(given, 0);
+        struct answer answer = call(given, FIRST);
         HOLDS(answer.number == number);
         said[given.call] = answer.value;
         free(answer.out);
@@ -139,7 +162,7 @@ static void settle(const struct given *from, int all, uint8_t *table) {
 static void names_no_settled(const struct given *record, const struct given *table) {
     struct given given = *record;
     given.call = REQUIRED_RESIDUAL_FACTS;
-    struct answer answer = call(given, 0);
+    struct answer answer = call(given, FIRST);
     const uint64_t *set = (const uint64_t *)answer.out;
     for (size_t fact = 0; fact < FACTS; fact++) HOLDS(!(set[fact / 64] >> (63 - fact % 64) & 1) || presence(table, fact) == UNKNOWN);
     free(answer.out);
@@ -152,7 +175,7 @@ static int taken(struct given given, enum call which, const uint8_t *table, size
     given.call = which;
     given.table = (uint8_t *)table;
     given.bytes = bytes;
-    struct answer answer = call(given, 0);
+    struct answer answer = call(given, FIRST);
     HOLDS(answer.number == 0 || answer.number == NO_ROOM);
     if (answer.number == 0) {
         *record = record_of(answer, given.room);
@@ -181,7 +204,7 @@ static void narrowed(struct given record, const uint8_t *table, const uint8_t *k
     uint32_t found = end(narrower, COMPLETE_RESIDUAL, known, record.bytes);
     HOLDS(found == ends || (record.room == RECORD_WORDS && (found == NOTHING || ends == NOTHING)));
     if (record.words[0] >> 28 == RESOLVED) {
-        HOLDS(narrower.count == record.count && !memcmp(narrower.words, record.words, record.count * sizeof *record.words));
+        HOLDS(narrower.count == record.count && same(narrower.words, record.words, record.count * sizeof *record.words));
     }
     free(narrower.words);
 }
@@ -225,6 +248,7 @@ static int faultless(const struct given *given) {
 // What holds of any answer, and of the words and the table that it was given.
 static void hold(struct given given) {
     struct answer answer = same_twice(given);
+    judged(given, &answer);
     if (writes(given.call) && answer.number == 0) {
         free(record_of(answer, given.room).words);
     } else {

@@ -47,10 +47,15 @@ static uint32_t condition(struct input *input) { return draw(input, 8) ? 0x20000
 
 static uint32_t policy(struct input *input) { return draw(input, 3) ? 0x60000000 | draw(input, 8) : 0x70000000; }
 
+// Nodes with one arm around a node: one, or about as many as there may be levels.
+static void wrap(struct input *input, size_t at, uint32_t word) {
+    for (uint32_t left = draw(input, 4) ? 1 : 26 + draw(input, 8); left > 0; left--) insert(input, at, word);
+}
+
 // Another condition in a leaf's place, or one around it.
 static void change_condition(struct input *input, size_t at) {
     switch (draw(input, 4)) {
-    case 0: insert(input, at, 0x30000000); break;
+    case 0: wrap(input, at, draw(input, 2) ? 0x30000000 : 0x40000001); break;
     case 1:
         insert(input, at, condition(input));
         insert(input, at, 0x40000002 + (draw(input, 2) << 28));
@@ -62,7 +67,7 @@ static void change_condition(struct input *input, size_t at) {
 // Another policy in a leaf's place, or one around it.
 static void change_policy(struct input *input, size_t at, int sheet) {
     switch (draw(input, sheet ? 4 : 6)) {
-    case 0:
+    case 0: wrap(input, at, draw(input, 2) ? 0x90000001 : 0xA0000001); break;
     case 1:
         insert(input, at, policy(input));
         insert(input, at, (uint32_t[]){0x90000002, 0xA0000002, 0xB0000000}[draw(input, 3)]);

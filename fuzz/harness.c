@@ -194,15 +194,15 @@ static uint32_t end(struct given given, enum call last, const uint8_t *known, si
     return found;
 }
 
-// Narrowed first, a record is completed to the same end; a Resolved one comes back equal.
-static void narrowed(struct given record, const uint8_t *table, const uint8_t *known, uint32_t ends) {
+// Narrowed first, a record is completed to the same end; a Resolved one comes back equal. A record of a road has room for certain.
+static void narrowed(struct given record, const uint8_t *table, const uint8_t *known, uint32_t ends, int certain) {
     struct given given = {.table = (uint8_t *)table, .bytes = record.bytes}, narrower;
     int room = taken(record, NARROW_RESIDUAL, table, record.bytes, &narrower);
-    HOLDS(room || record.room == RECORD_WORDS);
+    HOLDS(room || !certain);
     if (!room) return;
     names_no_settled(&narrower, &given);
     uint32_t found = end(narrower, COMPLETE_RESIDUAL, known, record.bytes);
-    HOLDS(found == ends || (record.room == RECORD_WORDS && (found == NOTHING || ends == NOTHING)));
+    HOLDS(found == ends || (!certain && (found == NOTHING || ends == NOTHING)));
     if (record.words[0] >> 28 == RESOLVED) {
         HOLDS(narrower.count == record.count && same(narrower.words, record.words, record.count * sizeof *record.words));
     }
@@ -216,7 +216,7 @@ static void staged(struct given sheet, const uint8_t *first, const uint8_t *seco
     HOLDS(sitting != NOTHING && taken(sheet, PARTIAL_EVALUATE, first, sheet.bytes, &reduced));
     reduced.bytes = sheet.bytes;
     HOLDS(end(reduced, COMPLETE_RESIDUAL, known, sheet.bytes) == sitting);
-    narrowed(reduced, second, known, sitting);
+    narrowed(reduced, second, known, sitting, 1);
     free(reduced.words);
 }
 
@@ -230,7 +230,7 @@ static void roads(struct given given, int sheet) {
         staged(given, given.table, some, known);
         staged(given, known, known, known);
     } else {
-        narrowed(given, given.table, known, end(given, COMPLETE_RESIDUAL, known, given.bytes));
+        narrowed(given, given.table, known, end(given, COMPLETE_RESIDUAL, known, given.bytes), 0);
     }
     free(some);
     free(known);

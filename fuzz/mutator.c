@@ -122,6 +122,11 @@ static void change_facts(struct input *input, size_t at, uint32_t word) {
 
 static void change_word(struct input *input, size_t at, int sheet) {
     uint32_t word = number_at(input->data + at, 4);
+    // Now and then a damaged word, for the reader.
+    if (draw(input, 8) == 0) {
+        put(input->data + at, word ^ 1U << draw(input, 32), 4);
+        return;
+    }
     switch (word >> 28) {
     case 0:
     case 1:

@@ -5,7 +5,8 @@ use std::{fs, io};
 
 use clap::{Parser, Subcommand, ValueEnum};
 use compare::case::{Call, Case};
-use compare::generate::cases;
+use compare::generate::rng::Rng;
+use compare::generate::{cases, limits};
 use compare::{answers, rows, worked};
 
 /// Cases of document 01's calls, and what the original answers to them.
@@ -19,6 +20,11 @@ struct Arguments {
 enum Command {
     /// Stored answers: document 01's worked sheets and limits, then drawn cases; only calls that the original has.
     Answers {
+        #[command(flatten)]
+        sample: Sample,
+    },
+    /// Stored answers of all nine calls: cases at the limits, then drawn ones.
+    Calls {
         #[command(flatten)]
         sample: Sample,
     },
@@ -129,6 +135,11 @@ fn main() -> io::Result<()> {
         Command::Answers { sample } => {
             let cases = [worked::cases(), sample.cases(&ANSWERED)].concat();
             sample.write(&answers::file(&sample.command("answers"), &cases))
+        }
+        Command::Calls { sample } => {
+            let limits = limits::cases(&mut Rng::new(sample.seed));
+            let cases = [limits, sample.cases(&Call::ALL)].concat();
+            sample.write(&answers::file(&sample.command("calls"), &cases))
         }
         Command::Rows { sample, part } => {
             let made_by = format!("{} --part {}", sample.command("rows"), part.name());

@@ -1,0 +1,100 @@
+// The nine calls by the numbers that the stored answers give them, on heap blocks of exact length, so that a checker of memory sees every access past an end.
+#ifndef CALLS_H
+#define CALLS_H
+
+#include <stdint.h>
+#include <stdlib.h>
+#include <string.h>
+
+#include "vierskof.h"
+
+enum call {
+    EVALUATE,
+    PARTIAL_EVALUATE,
+    NARROW_RESIDUAL,
+    COMPLETE_RESIDUAL,
+    REQUIRED_FACTS,
+    REQUIRED_RESIDUAL_FACTS,
+    IS_PERMIT_CONSTANT,
+    IS_DENY_CONSTANT,
+    CARRIES_OBLIGATION,
+    CALLS
+};
+
+// An input of the fuzzer begins with call, room and table bytes, as a stored answer does.
+enum { LEAD = 6 };
+
+// What a call is given: a sheet's or a record's words, a table, and the room of the output in words.
+struct given {
+    enum call call;
+    uint32_t *words;
+    size_t count;
+    uint8_t *table;
+    size_t bytes;
+    size_t room;
+};
+
+static inline int writes(enum call call) { return call <= COMPLETE_RESIDUAL; }
+
+static inline int counts(enum call call) { return call == REQUIRED_FACTS || call == REQUIRED_RESIDUAL_FACTS; }
+
+static inline int reads_sheet(enum call call) { return call == EVALUATE || call == PARTIAL_EVALUATE || call == REQUIRED_FACTS; }
+
+// Bytes of what the call writes to.
+static inline size_t out_bytes(const struct given *given) {
+    if (counts(given->call)) return VIERSKOF_SET_NUMBERS * sizeof(uint64_t);
+    return writes(given->call) ? given->room * sizeof(uint32_t) : 0;
+}
+
+// A block of exactly this length. One of no bytes is a pointer too.
+static inline void *block(size_t bytes) {
+    void *made = malloc(bytes);
+    if (!made) abort();
+    return made;
+}
+
+static inline void *copy(const void *from, size_t bytes) {
+    void *made = block(bytes);
+    if (bytes) memcpy(made, from, bytes);
+    return made;
+}
+
+// The big-endian number of this many bytes.
+static inline uint32_t number_at(const uint8_t *from, size_t bytes) {
+    uint32_t number = 0;
+    for (size_t i = 0; i < bytes; i++) number = number << 8 | from[i];
+    return number;
+}
+
+// Words that stand most significant byte first, in a block of their own.
+static inline uint32_t *words_at(const uint8_t *from, size_t count) {
+    uint32_t *words = block(count * sizeof *words);
+    for (size_t i = 0; i < count; i++) words[i] = number_at(from + 4 * i, 4);
+    return words;
+}
+
+// The table's bytes of an input, at most those that are there.
+static inline size_t table_bytes(const uint8_t *data, size_t size) {
+    size_t bytes = number_at(data + 4, 2), left = size - LEAD;
+    return bytes < left ? bytes : left;
+}
+
+// What the call returns. `out` holds `out_bytes`.
+static inline uint64_t returned(const struct given *given, void *out) {
+    const uint32_t *words = given->words;
+    size_t count = given->count;
+    switch (given->call) {
+    case EVALUATE: return vierskof_evaluate(words, count, given->table, given->bytes, out, given->room);
+    case PARTIAL_EVALUATE: return vierskof_partial_evaluate(words, count, given->table, given->bytes, out, given->room);
+    case NARROW_RESIDUAL: return vierskof_narrow_residual(words, count, given->table, given->bytes, out, given->room);
+    case COMPLETE_RESIDUAL: return vierskof_complete_residual(words, count, given->table, given->bytes, out, given->room);
+    case REQUIRED_FACTS: return vierskof_required_facts(words, count, out, VIERSKOF_SET_NUMBERS);
+    case REQUIRED_RESIDUAL_FACTS: return vierskof_required_residual_facts(words, count, out, VIERSKOF_SET_NUMBERS);
+    case IS_PERMIT_CONSTANT: return vierskof_is_permit_constant(words, count);
+    case IS_DENY_CONSTANT: return vierskof_is_deny_constant(words, count);
+    case CARRIES_OBLIGATION: return vierskof_carries_obligation(words, count);
+    default: abort();
+    }
+}
+
+#endif

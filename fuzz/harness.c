@@ -1,0 +1,274 @@
+// The fuzzer's harness over the C interface. An input is a call, a room and a table's length, 16 bits each, the table and the words, all most significant
+// byte first. Every claim holds of every input; one that doesn't ends the run.
+#include <stdio.h>
+
+#include "calls.h"
+
+enum { NO_ROOM = 11, RESOLVED = 14, FACTS = 1024, TABLE_BYTES = 256, RECORD_WORDS = 16384 };
+
+// Effects and products as one number: products under a permit, or one of these.
+enum { DENIED = 0x10000, NOTHING };
+
+enum { ABSENT, PRESENT, UNKNOWN };
+
+#define HOLDS(claim) ((claim) ? (void)0 : broken(#claim, __LINE__))
+
+static void broken(const char *claim, int line) {
+    fprintf(stderr, "harness.c:%d: not so: %s\n", line, claim);
+    abort();
+}
+
+// What a call returned, and its output afterwards: a record's words, or a set's numbers.
+struct answer {
+    uint32_t number;
+    uint32_t value;
+    uint32_t *out;
+};
+
+// What sets the outputs of two calls apart.
+enum mark { FIRST = 0x5A5A5A5A, SECOND = 0x25A5A5A5 };
+
+// The words of an output before a call: another one at each place.
+static uint32_t marked(enum mark mark, size_t place) { return mark ^ (uint32_t)place * 0x9E3779B1; }
+
+static uint32_t *output(size_t bytes, enum mark mark) {
+    uint32_t *out = block(bytes);
+    for (size_t i = 0; i < bytes / sizeof *out; i++) out[i] = marked(mark, i);
+    return out;
+}
+
+static int same(const void *one, const void *other, size_t bytes) { return bytes == 0 || memcmp(one, other, bytes) == 0; }
+
+// A refusal has a number of the table and no value; an accepted call's value is in its range.
+static void in_range(const struct given *given, const struct answer *answer) {
+    HOLDS(answer->number <= NO_ROOM);
+    if (answer->number) {
+        HOLDS(answer->value == 0);
+    } else if (writes(given->call)) {
+        HOLDS(answer->value >= 3 && answer->value <= given->room && answer->value <= RECORD_WORDS);
+    } else {
+        HOLDS(answer->value <= (counts(given->call) ? FACTS : 1));
+    }
+}
+
+// The count is the number of one bits in the set: 0 when refused, whatever stood there before.
+static void counted(const struct answer *answer) {
+    const uint64_t *set = (const uint64_t *)answer->out;
+    int ones = 0;
+    for (size_t i = 0; i < VIERSKOF_SET_NUMBERS; i++) ones += __builtin_popcountll(set[i]);
+    HOLDS((uint32_t)ones == answer->value);
+}
+
+// One call on blocks of exact length. It changes nothing that it is given, and no word past its record; the output is the caller's to free.
+static struct answer call(struct given given, enum mark mark) {
+    struct given own = given;
+    own.words = copy(given.words, given.count * sizeof *given.words);
+    own.table = copy(given.table, given.bytes);
+    uint32_t *out = output(out_bytes(&given), mark);
+    uint64_t told = returned(&own, out);
+    struct answer answer = {(uint32_t)(told >> 32), (uint32_t)told, out};
+    in_range(&given, &answer);
+    if (counts(given.call)) counted(&answer);
+    for (size_t i = answer.value; writes(given.call) && i < given.room; i++) HOLDS(out[i] == marked(mark, i));
+    HOLDS(same(own.words, given.words, given.count * sizeof *given.words));
+    HOLDS(same(own.table, given.table, given.bytes));
+    free(own.words);
+    free(own.table);
+    return answer;
+}
+
+// The number of a call's refusal.
+static uint32_t number_of(struct given given) {
+    struct answer answer = call(given, FIRST);
+    free(answer.out);
+    return answer.number;
+}
+
+// A second call on the same input, in another output, answers the same.
+static struct answer same_twice(struct given given) {
+    struct answer first = call(given, FIRST), second = call(given, SECOND);
+    size_t bytes = writes(given.call) ? first.value * sizeof *first.out : out_bytes(&given);
+    HOLDS(first.number == second.number && first.value == second.value);
+    HOLDS(same(first.out, second.out, bytes));
+    free(second.out);
+    return first;
+}
+
+// The original, where it is linked: it answers as the C interface does.
+__attribute__((weak)) uint64_t judge_answer(size_t call, const uint32_t *words, size_t count, const uint8_t *table, size_t bytes, uint32_t *out, size_t room);
+
+// The original returns the same, and would leave the same output.
+static void judged(struct given given, const struct answer *answer) {
+    if (!judge_answer) return;
+    size_t bytes = out_bytes(&given);
+    uint32_t *out = output(bytes, FIRST);
+    uint64_t told = judge_answer(given.call, given.words, given.count, given.table, given.bytes, out, bytes / sizeof *out);
+    HOLDS(told == ((uint64_t)answer->number << 32 | answer->value));
+    HOLDS(same(out, answer->out, bytes));
+    free(out);
+}
+
+// ---- records
+
+// All calls that read only a record refuse the same ones for the same cause; the tree of a Resolved record is a permit or a deny, and no tree is both.
+static uint32_t as_record(const uint32_t *words, size_t count) {
+    struct given given = {REQUIRED_RESIDUAL_FACTS, (uint32_t *)words, count, NULL, 0, 0};
+    uint32_t number = number_of(given);
+    uint32_t said[CALLS] = {0};
+    for (given.call = IS_PERMIT_CONSTANT; given.call < CALLS; given.call++) {
+        struct answer answer = call(given, FIRST);
+        HOLDS(answer.number == number);
+        said[given.call] = answer.value;
+        free(answer.out);
+    }
+    HOLDS(!(said[IS_PERMIT_CONSTANT] && said[IS_DENY_CONSTANT]));
+    HOLDS(number || words[0] >> 28 != RESOLVED || said[IS_PERMIT_CONSTANT] || said[IS_DENY_CONSTANT]);
+    return number;
+}
+
+// The record that a call wrote, in a block of its own length: the calls that read records accept it.
+static struct given record_of(struct answer answer, size_t room) {
+    struct given record = {NARROW_RESIDUAL, copy(answer.out, answer.value * sizeof *answer.out), answer.value, NULL, 0, room};
+    HOLDS(as_record(record.words, record.count) == 0);
+    free(answer.out);
+    return record;
+}
+
+// A Resolved record's effect and products.
+static uint32_t decided(const uint32_t *record) {
+    HOLDS(record[0] >> 28 == RESOLVED);
+    uint32_t node = record[1 + ((record[0] & 0xFFF) + 1) / 2];
+    HOLDS(node >> 28 == 12 || node >> 28 == 13);
+    return node >> 28 == 12 ? node & 0xFFFF : DENIED;
+}
+
+// ---- tables
+
+static int presence(const struct given *table, size_t fact) {
+    return fact / 4 < table->bytes ? table->table[fact / 4] >> (6 - 2 * (fact % 4)) & 3 : ABSENT;
+}
+
+// Settles those facts that a table leaves Unknown: all of them, or every other one.
+static void settle(const struct given *from, int all, uint8_t *table) {
+    memset(table, 0, from->bytes);
+    for (size_t fact = 0; fact < 4 * from->bytes; fact++) {
+        int settled = (int)((fact ^ from->count) & 1), field = presence(from, fact);
+        if (field == UNKNOWN && (all || fact & 2)) field = settled ? PRESENT : ABSENT;
+        table[fact / 4] |= (uint8_t)(field << (6 - 2 * (fact % 4)));
+    }
+}
+
+// No condition of the record names a fact that the table has settled.
+static void names_no_settled(const struct given *record, const struct given *table) {
+    struct given given = *record;
+    given.call = REQUIRED_RESIDUAL_FACTS;
+    struct answer answer = call(given, FIRST);
+    const uint64_t *set = (const uint64_t *)answer.out;
+    for (size_t fact = 0; fact < FACTS; fact++) HOLDS(!(set[fact / 64] >> (63 - fact % 64) & 1) || presence(table, fact) == UNKNOWN);
+    free(answer.out);
+}
+
+// ---- roads
+
+// Takes an accepted sheet or record through a call with a faultless table, which is refused for want of room alone. Whether there was room.
+static int taken(struct given given, enum call which, const uint8_t *table, size_t bytes, struct given *record) {
+    given.call = which;
+    given.table = (uint8_t *)table;
+    given.bytes = bytes;
+    struct answer answer = call(given, FIRST);
+    HOLDS(answer.number == 0 || answer.number == NO_ROOM);
+    if (answer.number == 0) {
+        *record = record_of(answer, given.room);
+    } else {
+        free(answer.out);
+    }
+    return answer.number == 0;
+}
+
+// The effect and products in which a way ends, and NOTHING without room.
+static uint32_t end(struct given given, enum call last, const uint8_t *known, size_t bytes) {
+    struct given record;
+    if (!taken(given, last, known, bytes, &record)) return NOTHING;
+    uint32_t found = decided(record.words);
+    free(record.words);
+    return found;
+}
+
+// Narrowed first, a record is completed to the same end; a Resolved one comes back equal. A record of a road has room for certain.
+static void narrowed(struct given record, const uint8_t *table, const uint8_t *known, uint32_t ends, int certain) {
+    struct given given = {.table = (uint8_t *)table, .bytes = record.bytes}, narrower;
+    int room = taken(record, NARROW_RESIDUAL, table, record.bytes, &narrower);
+    HOLDS(room || !certain);
+    if (!room) return;
+    names_no_settled(&narrower, &given);
+    uint32_t found = end(narrower, COMPLETE_RESIDUAL, known, record.bytes);
+    HOLDS(found == ends || (!certain && (found == NOTHING || ends == NOTHING)));
+    if (record.words[0] >> 28 == RESOLVED) {
+        HOLDS(narrower.count == record.count && same(narrower.words, record.words, record.count * sizeof *record.words));
+    }
+    free(narrower.words);
+}
+
+// Reduced with the first table, narrowed with the second and completed with the known one, an accepted sheet ends as in one sitting.
+static void staged(struct given sheet, const uint8_t *first, const uint8_t *second, const uint8_t *known) {
+    struct given reduced;
+    uint32_t sitting = end(sheet, EVALUATE, known, sheet.bytes);
+    HOLDS(sitting != NOTHING && taken(sheet, PARTIAL_EVALUATE, first, sheet.bytes, &reduced));
+    reduced.bytes = sheet.bytes;
+    HOLDS(end(reduced, COMPLETE_RESIDUAL, known, sheet.bytes) == sitting);
+    narrowed(reduced, second, known, sitting, 1);
+    free(reduced.words);
+}
+
+// An accepted sheet or record with a faultless table: with tables that leave facts open, and with the known one from the start.
+static void roads(struct given given, int sheet) {
+    given.room = sheet ? 3 * given.count + 513 : RECORD_WORDS;
+    uint8_t *some = block(given.bytes), *known = block(given.bytes);
+    settle(&given, 0, some);
+    settle(&given, 1, known);
+    if (sheet) {
+        staged(given, given.table, some, known);
+        staged(given, known, known, known);
+    } else {
+        narrowed(given, given.table, known, end(given, COMPLETE_RESIDUAL, known, given.bytes), 0);
+    }
+    free(some);
+    free(known);
+}
+
+// ---- inputs
+
+// Whether the table is one that a reduction takes.
+static int faultless(const struct given *given) {
+    for (size_t fact = 0; fact < 4 * given->bytes; fact++)
+        if (presence(given, fact) == 3) return 0;
+    return given->bytes <= TABLE_BYTES;
+}
+
+// What holds of any answer, and of the words and the table that it was given.
+static void hold(struct given given) {
+    struct answer answer = same_twice(given);
+    judged(given, &answer);
+    if (writes(given.call) && answer.number == 0) {
+        free(record_of(answer, given.room).words);
+    } else {
+        free(answer.out);
+    }
+    struct given facts = given;
+    facts.call = REQUIRED_FACTS;
+    int sheet = reads_sheet(given.call);
+    uint32_t number = sheet ? number_of(facts) : as_record(given.words, given.count);
+    if (number == 0 && faultless(&given)) roads(given, sheet);
+}
+
+int LLVMFuzzerTestOneInput(const uint8_t *data, size_t size) {
+    if (size < LEAD) return 0;
+    size_t bytes = table_bytes(data, size), words = LEAD + bytes;
+    struct given given = {number_at(data, 2) % CALLS, NULL, (size - words) / 4, NULL, bytes, number_at(data + 2, 2)};
+    given.table = copy(data + LEAD, bytes);
+    given.words = words_at(data + words, given.count);
+    hold(given);
+    free(given.table);
+    free(given.words);
+    return 0;
+}

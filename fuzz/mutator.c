@@ -1,0 +1,181 @@
+// Changes of the fuzzer's inputs that keep most trees whole, so that many get past the reader. The others are the fuzzer's own.
+#include "calls.h"
+
+size_t LLVMFuzzerMutate(uint8_t *data, size_t size, size_t max);
+
+struct input {
+    uint8_t *data;
+    size_t size;
+    size_t max;
+    uint64_t seed;
+};
+
+// A number below the bound.
+static uint32_t draw(struct input *input, uint32_t bound) {
+    input->seed = input->seed * 6364136223846793005 + 1442695040888963407;
+    return (uint32_t)(input->seed >> 33) % bound;
+}
+
+static void put(uint8_t *at, uint32_t number, size_t bytes) {
+    for (size_t i = bytes; i-- > 0; number >>= 8) at[i] = (uint8_t)number;
+}
+
+// Opens a gap of bytes, all 0. Whether there was room.
+static int gap(struct input *input, size_t at, size_t bytes) {
+    if (at > input->size || input->size + bytes > input->max) return 0;
+    memmove(input->data + at + bytes, input->data + at, input->size - at);
+    memset(input->data + at, 0, bytes);
+    input->size += bytes;
+    return 1;
+}
+
+static void cut(struct input *input, size_t at, size_t bytes) {
+    memmove(input->data + at, input->data + at + bytes, input->size - at - bytes);
+    input->size -= bytes;
+}
+
+static void insert(struct input *input, size_t at, uint32_t word) {
+    if (gap(input, at, 4)) put(input->data + at, word, 4);
+}
+
+// Most facts and outcomes are small, so that they meet each other often.
+static uint32_t fact(struct input *input) { return draw(input, 16) ? draw(input, 6) : draw(input, 1024); }
+
+static uint32_t two_facts(struct input *input) { return fact(input) << 16 | fact(input); }
+
+static uint32_t condition(struct input *input) { return draw(input, 8) ? 0x20000000 | fact(input) : draw(input, 2) << 28; }
+
+static uint32_t policy(struct input *input) { return draw(input, 3) ? 0x60000000 | draw(input, 8) : 0x70000000; }
+
+// Nodes with one arm around a node: one, or about as many as there may be levels.
+static void wrap(struct input *input, size_t at, uint32_t word) {
+    for (uint32_t left = draw(input, 4) ? 1 : 26 + draw(input, 8); left > 0; left--) insert(input, at, word);
+}
+
+// Another condition in a leaf's place, or one around it.
+static void change_condition(struct input *input, size_t at) {
+    switch (draw(input, 4)) {
+    case 0: wrap(input, at, draw(input, 2) ? 0x30000000 : 0x40000001); break;
+    case 1:
+        insert(input, at, condition(input));
+        insert(input, at, 0x40000002 + (draw(input, 2) << 28));
+        break;
+    default: put(input->data + at, condition(input), 4);
+    }
+}
+
+// Another policy in a leaf's place, or one around it.
+static void change_policy(struct input *input, size_t at, int sheet) {
+    switch (draw(input, sheet ? 4 : 6)) {
+    case 0: wrap(input, at, draw(input, 2) ? 0x90000001 : 0xA0000001); break;
+    case 1:
+        insert(input, at, policy(input));
+        insert(input, at, (uint32_t[]){0x90000002, 0xA0000002, 0xB0000000}[draw(input, 3)]);
+        break;
+    case 2: put(input->data + at, policy(input), 4); break;
+    case 3:
+        put(input->data + at, 0x80000000 | draw(input, 8), 4);
+        insert(input, at + 4, condition(input));
+        insert(input, at + 4, 0);
+        break;
+    case 4:
+        put(input->data + at, 0xC0000000 | draw(input, 8), 4);
+        insert(input, at + 4, 0);
+        break;
+    default:
+        put(input->data + at, 0xD0000000, 4);
+        insert(input, at + 4, 0);
+        insert(input, at + 4, 0);
+    }
+}
+
+// One more arm, or All for Any.
+static void change_list(struct input *input, size_t at, uint32_t word) {
+    int conditions = word >> 28 < 6;
+    if (draw(input, 3) == 0) {
+        put(input->data + at, word ^ (conditions ? 0x10000000 : 0x30000000), 4);
+    } else {
+        put(input->data + at, word + 1, 4);
+        insert(input, at + 4, conditions ? condition(input) : policy(input));
+    }
+}
+
+// Another outcome or shape, or four more obligations.
+static void change_grant(struct input *input, size_t at, uint32_t word) {
+    if (draw(input, 2)) {
+        put(input->data + at, word ^ (draw(input, 4) ? 1U << draw(input, 3) : 0x08000000), 4);
+    } else {
+        put(input->data + at, word + 0x400000, 4);
+        insert(input, at + 8, 0x00010203 + 0x04040404 * draw(input, 16));
+    }
+}
+
+// Two more facts of a node 12 or 13, or two more consulted entries.
+static void change_facts(struct input *input, size_t at, uint32_t word) {
+    uint32_t kind = word >> 28;
+    size_t count = kind == 12 ? at + 4 : kind == 13 ? at + 8 : at;
+    size_t facts = count + 4 + (kind == 12 ? ((word >> 20 & 0x7F) + 3) / 4 * 4 : 0);
+    if (facts > input->size) return;
+    put(input->data + count, number_at(input->data + count, 4) + 2, 4);
+    insert(input, facts, two_facts(input) | (kind > 13 ? draw(input, 3) << 30 | draw(input, 3) << 14 : 0));
+}
+
+static void change_word(struct input *input, size_t at, int sheet) {
+    uint32_t word = number_at(input->data + at, 4);
+    // Now and then a damaged word, for the reader.
+    if (draw(input, 8) == 0) {
+        put(input->data + at, word ^ 1U << draw(input, 32), 4);
+        return;
+    }
+    switch (word >> 28) {
+    case 0:
+    case 1:
+    case 2: change_condition(input, at); break;
+    case 3: cut(input, at, 4); break;
+    case 4:
+    case 5:
+    case 9:
+    case 10: change_list(input, at, word); break;
+    case 6:
+    case 7: change_policy(input, at, sheet); break;
+    case 8: change_grant(input, at, word); break;
+    case 11: put(input->data + at, draw(input, 2) ? 0x90000002 : 0xA0000002, 4); break;
+    default: change_facts(input, at, word);
+    }
+}
+
+// Another call. A sheet becomes a record by a lead before it, and such a record a sheet again.
+static void change_call(struct input *input, size_t words, enum call call) {
+    enum call other = draw(input, CALLS);
+    int lead = input->size >= words + 4 && number_at(input->data + words, 4) == 0xF0000000;
+    put(input->data, other, 2);
+    if (reads_sheet(call) && !reads_sheet(other)) insert(input, words, 0xF0000000);
+    if (!reads_sheet(call) && reads_sheet(other) && lead) cut(input, words, 4);
+}
+
+// Another reading of a fact, or four more.
+static void change_table(struct input *input, size_t bytes) {
+    if (bytes && draw(input, 4)) {
+        uint8_t *at = input->data + LEAD + draw(input, (uint32_t)bytes);
+        uint32_t shift = 2 * draw(input, 4);
+        *at = (uint8_t)((*at & ~(3U << shift)) | draw(input, 3) << shift);
+    } else if (gap(input, LEAD + bytes, 1)) {
+        put(input->data + 4, (uint32_t)bytes + 1, 2);
+    }
+}
+
+size_t LLVMFuzzerCustomMutator(uint8_t *data, size_t size, size_t max, unsigned seed) {
+    struct input input = {data, size, max, seed};
+    if (size < LEAD || draw(&input, 4) == 0) return LLVMFuzzerMutate(data, size, max);
+    size_t bytes = table_bytes(data, size), words = LEAD + bytes, count = (size - words) / 4;
+    enum call call = number_at(data, 2) % CALLS;
+    switch (draw(&input, 8)) {
+    case 0: change_call(&input, words, call); break;
+    case 1: put(data + 2, draw(&input, draw(&input, 2) ? 16 : 2000), 2); break;
+    case 2:
+    case 3: change_table(&input, bytes); break;
+    default:
+        if (count) change_word(&input, words + 4 * draw(&input, (uint32_t)count), reads_sheet(call));
+    }
+    return input.size;
+}

@@ -1,0 +1,77 @@
+// A file of stored answers: a line of text, then of each answer seven 16-bit numbers (call, room, table bytes, words, number, value, answer words), the
+// table, the words, and the words that stand first in the output afterwards; all most significant byte first.
+#ifndef STORED_H
+#define STORED_H
+
+#include <stdio.h>
+
+#include "calls.h"
+
+enum { HEAD = 14 };
+
+struct stored {
+    // The call to its last given word.
+    const uint8_t *at;
+    struct given given;
+    uint32_t number;
+    uint32_t value;
+    uint32_t *answer;
+    size_t answered;
+};
+
+struct file {
+    uint8_t *bytes;
+    size_t length;
+    size_t at;
+};
+
+static inline struct file stored_in(const char *name) {
+    FILE *from = fopen(name, "rb");
+    if (!from || fseek(from, 0, SEEK_END)) {
+        perror(name);
+        exit(2);
+    }
+    struct file file = {.length = (size_t)ftell(from)};
+    file.bytes = block(file.length);
+    rewind(from);
+    if (fread(file.bytes, 1, file.length, from) != file.length) {
+        perror(name);
+        exit(2);
+    }
+    fclose(from);
+    const uint8_t *line = memchr(file.bytes, '\n', file.length);
+    file.at = line ? (size_t)(line - file.bytes) + 1 : file.length;
+    return file;
+}
+
+// The next answer, in blocks of its own. There is none at the file's end; a file that ends within one is no such file.
+static inline int next_stored(struct file *file, struct stored *stored) {
+    size_t left = file->length - file->at;
+    if (left == 0) return 0;
+    const uint8_t *at = file->bytes + file->at;
+    uint32_t numbers[HEAD / 2] = {0};
+    for (size_t i = 0; i < HEAD / 2 && left >= HEAD; i++) numbers[i] = number_at(at + 2 * i, 2);
+    size_t table = HEAD, words = table + numbers[2], answer = words + 4 * numbers[3], end = answer + 4 * numbers[6];
+    if (left < end) {
+        fprintf(stderr, "stored answers that end within one\n");
+        exit(2);
+    }
+    *stored = (struct stored){
+        .at = at,
+        .given = {numbers[0], words_at(at + words, numbers[3]), numbers[3], copy(at + table, numbers[2]), numbers[2], numbers[1]},
+        .number = numbers[4],
+        .value = numbers[5],
+        .answer = words_at(at + answer, numbers[6]),
+        .answered = numbers[6],
+    };
+    file->at += end;
+    return 1;
+}
+
+static inline void drop_stored(struct stored *stored) {
+    free(stored->given.table);
+    free(stored->given.words);
+    free(stored->answer);
+}
+
+#endif

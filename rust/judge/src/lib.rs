@@ -1,0 +1,61 @@
+//! The original's answer to a call, for the fuzzer, which is a program in C.
+
+use std::slice;
+
+use compare::case::{Answer, Call, Case};
+use compare::reference::FactSet;
+
+/// Answers as the C interface does, and leaves in `out` what it leaves: a record's words, or a set's numbers, the lower half of each first.
+///
+/// # Safety
+///
+/// Behind each pointer there are as many elements as the number after it says, and nobody else writes `out`.
+#[unsafe(no_mangle)]
+pub unsafe extern "C" fn judge_answer(
+    call: usize,
+    words: *const u32,
+    count: usize,
+    table: *const u8,
+    bytes: usize,
+    out: *mut u32,
+    room: usize,
+) -> u64 {
+    // SAFETY: what the caller has to see to.
+    let (words, table, out) = unsafe {
+        (
+            slice::from_raw_parts(words, count),
+            slice::from_raw_parts(table, bytes),
+            slice::from_raw_parts_mut(out, room),
+        )
+    };
+    let call = Call::ALL[call];
+    let case = Case {
+        call,
+        table: table.to_vec(),
+        words: words.to_vec(),
+        room,
+    };
+    match case.answer() {
+        Ok(Answer::Record(record)) => {
+            out[..record.len()].copy_from_slice(&record);
+            record.len() as u64
+        }
+        Ok(Answer::Facts(set)) => {
+            put_set(&set, out);
+            u64::from(set.count())
+        }
+        Ok(Answer::Says(yes)) => u64::from(yes),
+        Err(refusal) => {
+            if matches!(call, Call::RequiredFacts | Call::RequiredResidualFacts) {
+                put_set(&FactSet::default(), out);
+            }
+            u64::from(refusal.number()) << 32
+        }
+    }
+}
+
+fn put_set(set: &FactSet, out: &mut [u32]) {
+    for (number, halves) in set.0.iter().zip(out.chunks_exact_mut(2)) {
+        halves.copy_from_slice(&[(number & 0xFFFF_FFFF) as u32, (number >> 32) as u32]);
+    }
+}

@@ -1,8 +1,9 @@
-//! The proved calls and the original's functions on one sheet.
+//! The proved calls and the original's functions on one sheet. Narrowing, which the original lacks, stands beside the comparison's own.
 
 use std::hint::black_box;
 
 use compare::case::{Call, Case};
+use compare::narrow::narrow;
 use compare::proved::{Writer, agrees};
 use compare::words::convert::{
     known_facts, partial_facts, to_policy, to_residual, to_residual_policy,
@@ -18,9 +19,10 @@ use crate::timing::{Timed, by_turns};
 pub type Timing = fn(&Sheet) -> Timed;
 
 /// Each call, by document 01's name.
-pub const CALLS: [(&str, Timing); 5] = [
+pub const CALLS: [(&str, Timing); 6] = [
     ("evaluate", evaluate),
     ("partial_evaluate", partial_evaluate),
+    ("narrow_residual", narrow_residual),
     ("complete_residual", complete_residual),
     ("required_facts", required_facts),
     ("required_residual_facts", required_residual_facts),
@@ -50,9 +52,26 @@ pub fn partial_evaluate(sheet: &Sheet) -> Timed {
     })
 }
 
+/// Of the record whose tree is the sheet, with the table of `partial_evaluate`.
+fn narrow_residual(sheet: &Sheet) -> Timed {
+    let words = &record(sheet);
+    let table = &sheet.partial();
+    let given = read::record(words).expect("a record");
+    let facts = Table::partial(table).expect("a partial table");
+    let call = vierskof::narrow_residual;
+    writes(Call::NarrowResidual, call, words, table, || {
+        black_box(narrow(black_box(&given), black_box(&facts)));
+    })
+}
+
+/// The record whose tree is the sheet.
+fn record(sheet: &Sheet) -> Vec<u32> {
+    [&[0xF000_0000], sheet.words.as_slice()].concat()
+}
+
 /// Of the record whose tree is the sheet.
 fn complete_residual(sheet: &Sheet) -> Timed {
-    let words = &[&[0xF000_0000], sheet.words.as_slice()].concat();
+    let words = &record(sheet);
     let table = &sheet.table;
     let residual = to_residual(&read::record(words).expect("a record"));
     let facts = known_facts(&Table::known(table).expect("a known table"));
@@ -101,7 +120,7 @@ fn required_facts(sheet: &Sheet) -> Timed {
 
 /// Of the record whose tree is the sheet.
 fn required_residual_facts(sheet: &Sheet) -> Timed {
-    let words = [&[0xF000_0000], sheet.words.as_slice()].concat();
+    let words = record(sheet);
     same_answers(Call::RequiredResidualFacts, &words, &[]);
     let Ok(Record::Pending { residual, .. }) = read::record(&words) else {
         unreachable!("a record with a tree");

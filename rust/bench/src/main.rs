@@ -2,7 +2,7 @@
 //!
 //! A proved call reads and checks words and bytes and writes words. The original's policy and facts
 //! are made beforehand, and its answer is dropped and not brought to words: its time is that of its
-//! function alone.
+//! function alone. `1,365 by 256` is an Any of 1,365 grants on fact 0 with a table of 256 bytes.
 
 mod calls;
 mod sheets;

@@ -41,7 +41,7 @@ impl Sheet {
 
 /// One of each kind.
 pub fn cases() -> Vec<Sheet> {
-    vec![
+    let mut cases = vec![
         Sheet {
             table: vec![0x00, 0x10],
             ..Sheet::new(&"D", vec![0x8800_0003, 0, 0x2000_0005])
@@ -50,7 +50,9 @@ pub fn cases() -> Vec<Sheet> {
         Sheet::new(&"4,096 words", mixed(SHEET_WORDS)),
         Sheet::new(&"32 levels", levels(LEVELS)),
         Sheet::new(&"All of 4,095", permits(LIST)),
-    ]
+    ];
+    cases.extend(tables());
+    cases
 }
 
 /// An Any of as many grants as fit, all on fact 0, which is Present; the table has a byte, and the most bytes.
@@ -60,7 +62,7 @@ pub fn tables() -> [Sheet; 2] {
         words.extend([0x8000_0001, 0, 0x2000_0000].repeat(1_365));
         Sheet {
             table: vec![HALF; bytes],
-            ..Sheet::new(&bytes, words)
+            ..Sheet::new(&format!("1,365 by {bytes}"), words)
         }
     })
 }

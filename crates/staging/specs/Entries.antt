@@ -22,11 +22,18 @@ named-small (e ∷ l) h = (h .0, named-small l (h .1))
 module _ (L : Outcomes) (T : Table) (G : L .O → Type 0) (B : Condition → Type 0) (t : Policy (L .O)) (form : FormOf G B t) (l : Consulted) (named : Named l) where
   pub read-fits : length (read L T t (once l)) ≤ min 1024 (length l + words t)
   read-fits =
-      omega (arith, once-length l, read-length L T t (once l),
-      log-length (read L T t (once l)) (good-read (λ f. f < 1024) L T t (once l) (small-T G B t form) (good-once (λ f. f < 1024) l (named-small l named))))
+      omega (
+        arith,
+        once-length l,
+        read-length L T t (once l),
+        log-length (read L T t (once l)) (good-read (λ f. f < 1024) L T t (once l) (small-T G B t form) (good-once (λ f. f < 1024) l (named-small l named))),
+      )
 
   pub walk-fits : length (walk L T t (once l)) ≤ min 1024 (length l + words t)
   walk-fits =
-      omega (arith, once-length l, walk-length L T t (once l),
-      log-length (walk L T t (once l)) (good-walk (λ f. f < 1024) L T t (once l) (small-T G B t form) (good-once (λ f. f < 1024) l (named-small l named))))
-
+      omega (
+        arith,
+        once-length l,
+        walk-length L T t (once l),
+        log-length (walk L T t (once l)) (good-walk (λ f. f < 1024) L T t (once l) (small-T G B t form) (good-once (λ f. f < 1024) l (named-small l named))),
+      )

@@ -8,7 +8,7 @@ ghost use Prim.Native.Nat.{_<_};
 ghost use Rattle.model.specs.Facts.{factCount, tableOf};
 ghost use Rattle.model.specs.Writing.{entryField};
 ghost use Rattle.facts.specs.Answers.{presenceOf};
-ghost use Rattle.condition.specs.Listing.{entryOf, lent, Room, Recorded};
+ghost use Rattle.condition.specs.Listing.{entryOf, lent, Recorded};
 ghost use Rattle.condition.specs.Spanning.{armsOfWord, Skipped};
 ghost use Rattle.condition.specs.Evaluating.{answerOf, EvaluatesC, EvaluatesHas, EvaluatesList, EvaluatesAll, EvaluatesAny};
 
@@ -48,7 +48,7 @@ fn entry(fact: u32, presence: Presence) -> u16
     presence_bits(presence) + fact as u16
 }
 
-// Lists the fact with its presence, unless it is listed already, and returns how many entries are in use then.
+// Lists the fact with its presence, unless it is listed already or the entries are full, and returns how many are in use then.
 pub fn record(
     entries: &mut [u16],
     seen: &mut [u8],
@@ -56,10 +56,16 @@ pub fn record(
     fact: u32,
     presence: Presence,
 ) -> usize
-    requires { ⌜ Room (lent count (now entries) (now seen)) × (fact < factCount) ⌝ }
+    requires { ⌜ fact < factCount ⌝ }
     ensures { λ r. ⌜ Recorded fact (presenceOf presence) (lent count (now (entries .entry)) (now (seen .entry))) (lent r (now (entries .exit)) (now (seen .exit))) ⌝ }
 {
     let at = fact as usize;
+    if seen.len() <= at {
+        return count;
+    }
+    if entries.len() <= count {
+        return count;
+    }
     // Of the list before, its length is all that is asked.
     let before = Consulted {
         last: 0,
@@ -115,7 +121,7 @@ fn eval_has(
     seen: &mut [u8],
     count: usize,
 ) -> ConditionEval
-    requires { ⌜ Room (lent count (now entries) (now seen)) × (fact < factCount) ⌝ }
+    requires { ⌜ fact < factCount ⌝ }
     ensures { λ r. ⌜ EvaluatesHas (tableOf (now (facts .entry))) fact next (lent count (now (entries .entry)) (now (seen .entry))) r (lent (r .count) (now (entries .exit)) (now (seen .exit))) ⌝ }
 {
     let satisfied = facts::present(facts, fact);
@@ -134,7 +140,6 @@ pub fn eval_condition(
     seen: &mut [u8],
     count: usize,
 ) -> ConditionEval
-    requires { ⌜ Room (lent count (now entries) (now seen)) ⌝ }
     ensures { λ r. ⌜ EvaluatesC (tableOf (now (facts .entry))) (now (words .entry)) at depth (lent count (now (entries .entry)) (now (seen .entry))) r (lent (r .count) (now (entries .exit)) (now (seen .exit))) ⌝ }
 {
     if words.len() <= at {
@@ -174,7 +179,6 @@ fn eval_arm(
     seen: &mut [u8],
     count: usize,
 ) -> ConditionEval
-    requires { ⌜ Room (lent count (now entries) (now seen)) ⌝ }
     ensures { λ r. ⌜ EvaluatesC (tableOf (now (facts .entry))) (now (words .entry)) at depth (lent count (now (entries .entry)) (now (seen .entry))) r (lent (r .count) (now (entries .exit)) (now (seen .exit))) ⌝ }
 {
     if words.len() <= at {
@@ -200,7 +204,6 @@ fn eval_arms(
     seen: &mut [u8],
     count: usize,
 ) -> ConditionEval
-    requires { ⌜ Room (lent count (now entries) (now seen)) ⌝ }
     ensures { λ r. ⌜ EvaluatesList stop (tableOf (now (facts .entry))) (now (words .entry)) at depth arms (lent count (now (entries .entry)) (now (seen .entry))) r (lent (r .count) (now (entries .exit)) (now (seen .exit))) ⌝ }
 {
     let mut next = at;
@@ -229,7 +232,6 @@ fn eval_condition_all(
     seen: &mut [u8],
     count: usize,
 ) -> ConditionEval
-    requires { ⌜ Room (lent count (now entries) (now seen)) ⌝ }
     ensures { λ r. ⌜ EvaluatesAll (tableOf (now (facts .entry))) (now (words .entry)) at depth arms (lent count (now (entries .entry)) (now (seen .entry))) r (lent (r .count) (now (entries .exit)) (now (seen .exit))) ⌝ }
 {
     if arms == 0 {
@@ -249,7 +251,6 @@ fn eval_condition_any(
     seen: &mut [u8],
     count: usize,
 ) -> ConditionEval
-    requires { ⌜ Room (lent count (now entries) (now seen)) ⌝ }
     ensures { λ r. ⌜ EvaluatesAny (tableOf (now (facts .entry))) (now (words .entry)) at depth arms (lent count (now (entries .entry)) (now (seen .entry))) r (lent (r .count) (now (entries .exit)) (now (seen .exit))) ⌝ }
 {
     eval_arms(words, at, depth, arms, true, facts, entries, seen, count)

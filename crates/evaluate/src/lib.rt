@@ -11,7 +11,7 @@ ghost use Prim.Native.Nat.{ℕ, _+_, _*_, _≤_, _<_};
 ghost use lib.ListN.{length, drop};
 ghost use Rattle.model.specs.Facts.{Table, tableOf};
 ghost use Rattle.policy_model.specs.declared.PolicyHead.the-variants.{Grant, All, Any, OrElse, PermitWithTrace, DenyWithTrace};
-ghost use Rattle.condition.specs.Listing.{lent, Room};
+ghost use Rattle.condition.specs.Listing.{lent};
 ghost use Rattle.decision.specs.Meaning.{deniedAt, permittedAt};
 ghost use Rattle.evaluate.specs.Folding.{joinNext};
 ghost use Rattle.evaluate.specs.Evaluating.{evalOf, EvaluatesP, EvaluatesBy, Met, Folds};
@@ -92,7 +92,7 @@ fn eval_grant(
     seen: &mut [u8],
     count: usize,
 ) -> PolicyEval
-    requires { ⌜ Room (lent count (now entries) (now seen)) × (at < length (now words)) × (depth < 32) ⌝ }
+    requires { ⌜ (at < length (now words)) × (depth < 32) ⌝ }
     ensures { λ r. ⌜ ((hidden : Bool) (obligations outcome : ℕ) (buf : List ℕ) → EvaluatesBy (Grant hidden obligations outcome) (tableOf (now (facts .entry))) (now (words .entry)) at depth (lent count (now (entries .entry)) (now (seen .entry))) r (lent (r .count) (now (entries .exit)) (now (seen .exit))) buf) ⌝ }
 {
     let none = words.len();
@@ -187,7 +187,7 @@ pub fn eval_policy(
     count: usize,
     buf: &mut [u8],
 ) -> PolicyEval
-    requires { ⌜ Room (lent count (now entries) (now seen)) × (depth ≤ 32) × (64 * (depth + 1) ≤ length (now buf)) × (length (now words) ≤ 16384) ⌝ }
+    requires { ⌜ (depth ≤ 32) × (64 * (depth + 1) ≤ length (now buf)) × (length (now words) ≤ 16384) ⌝ }
     ensures { λ r. ⌜ EvaluatesP (tableOf (now (facts .entry))) (now (words .entry)) at depth (lent count (now (entries .entry)) (now (seen .entry))) r (lent (r .count) (now (entries .exit)) (now (seen .exit))) (now (buf .exit)) ⌝ }
 {
     let none = words.len();
@@ -240,7 +240,7 @@ fn eval_all(
     count: usize,
     buf: &mut [u8],
 ) -> PolicyEval
-    requires { ⌜ Room (lent count (now entries) (now seen)) × (at < length (now words)) × (depth < 32) × (64 * (depth + 2) ≤ length (now buf)) × (length (now words) ≤ 16384) ⌝ }
+    requires { ⌜ (at < length (now words)) × (depth < 32) × (64 * (depth + 2) ≤ length (now buf)) × (length (now words) ≤ 16384) ⌝ }
     ensures { λ r. ⌜ EvaluatesBy (All arms) (tableOf (now (facts .entry))) (now (words .entry)) at depth (lent count (now (entries .entry)) (now (seen .entry))) r (lent (r .count) (now (entries .exit)) (now (seen .exit))) (now (buf .exit)) ⌝ }
 {
     let mut sofar = decision::denied(words.len());
@@ -291,7 +291,7 @@ fn eval_any(
     count: usize,
     buf: &mut [u8],
 ) -> PolicyEval
-    requires { ⌜ Room (lent count (now entries) (now seen)) × (at < length (now words)) × (depth < 32) × (64 * (depth + 2) ≤ length (now buf)) × (length (now words) ≤ 16384) ⌝ }
+    requires { ⌜ (at < length (now words)) × (depth < 32) × (64 * (depth + 2) ≤ length (now buf)) × (length (now words) ≤ 16384) ⌝ }
     ensures { λ r. ⌜ EvaluatesBy (Any arms) (tableOf (now (facts .entry))) (now (words .entry)) at depth (lent count (now (entries .entry)) (now (seen .entry))) r (lent (r .count) (now (entries .exit)) (now (seen .exit))) (now (buf .exit)) ⌝ }
 {
     let mut sofar = decision::denied(words.len());
@@ -335,7 +335,7 @@ fn eval_or_else(
     count: usize,
     buf: &mut [u8],
 ) -> PolicyEval
-    requires { ⌜ Room (lent count (now entries) (now seen)) × (at < length (now words)) × (depth < 32) × (64 * (depth + 1) ≤ length (now buf)) × (length (now words) ≤ 16384) ⌝ }
+    requires { ⌜ (at < length (now words)) × (depth < 32) × (64 * (depth + 1) ≤ length (now buf)) × (length (now words) ≤ 16384) ⌝ }
     ensures { λ r. ⌜ EvaluatesBy OrElse (tableOf (now (facts .entry))) (now (words .entry)) at depth (lent count (now (entries .entry)) (now (seen .entry))) r (lent (r .count) (now (entries .exit)) (now (seen .exit))) (now (buf .exit)) ⌝ }
 {
     let primary = eval_policy(words, at + 1, depth, facts, entries, seen, count, buf);

@@ -121,12 +121,11 @@ module _ (t : ℕ) where
   eval-all-loop-holds c =
       rw (c .denied .ensures)
       (record {
-        room = refl;
         entries-long = refl;
         seen-long = refl;
         buf-long = refl;
         few = omega arith;
-        goes = λ r t end e. all-node _ _ _ _ _ _ r t _ end _ refl (c .before .before .before .before .before .before .pre .1 .1) e;
+        goes = λ r t end e. all-node _ _ _ _ _ _ r t _ end _ refl (c .before .before .before .before .before .before .pre .1 .0) e;
       })
 
   eval-all-sub-eval-policy : eval-all-lts.Need-sub-eval-policy eval-all-calls eval-all-at eval-all.Post eval-all-Inv-loop eval-all-μ-loop
@@ -145,7 +144,7 @@ module _ (t : ℕ) where
   eval-all-sub-left c = search needs
 
   eval-all-skip-policies-requires : eval-all-lts.Need-skip-policies-requires eval-all-calls eval-all-at eval-all.Post eval-all-Inv-loop eval-all-μ-loop
-  eval-all-skip-policies-requires c κs = c .before .before .before .before .before .before .before .before .before .before .before .before .before .before .before .before .before .before .before .before .pre .1 .4
+  eval-all-skip-policies-requires c κs = c .before .before .before .before .before .before .before .before .before .before .before .before .before .before .before .before .before .before .before .before .pre .1 .3
 
   eval-all-same-length : eval-all-lts.Need-same-length eval-all-calls eval-all-at eval-all.Post eval-all-Inv-loop eval-all-μ-loop
   eval-all-same-length c = search needs
@@ -187,7 +186,6 @@ module _ (t : ℕ) where
       let loop = turn .before in
       let start = loop .before .before .before .before .before .before .before in
       record {
-        room = call .eval-policy .ensures .room ∙ loop .loop .inv .room;
         entries-long = omega (arith, back .before .before .before .before .entries .given, loop .loop .inv .entries-long);
         seen-long = omega (arith, back .before .before .seen .given, loop .loop .inv .seen-long);
         buf-long = omega (arith, c .before .buf2 .given, back .buf .given, loop .loop .inv .buf-long);
@@ -226,12 +224,11 @@ module _ (t : ℕ) where
   eval-any-loop-holds c =
       rw (c .denied .ensures)
       (record {
-        room = refl;
         entries-long = refl;
         seen-long = refl;
         buf-long = refl;
         few = omega arith;
-        goes = λ r t end e. any-node _ _ _ _ _ _ r t _ end _ refl (c .before .before .before .before .before .before .pre .1 .1) e;
+        goes = λ r t end e. any-node _ _ _ _ _ _ r t _ end _ refl (c .before .before .before .before .before .before .pre .1 .0) e;
       })
 
   eval-any-sub-eval-policy : eval-any-lts.Need-sub-eval-policy eval-any-calls eval-any-at eval-any.Post eval-any-Inv-loop eval-any-μ-loop
@@ -269,7 +266,6 @@ module _ (t : ℕ) where
       let loop = turn .before in
       let start = loop .before .before .before .before .before .before .before in
       record {
-        room = call .eval-policy .ensures .room ∙ loop .loop .inv .room;
         entries-long = omega (arith, back .before .before .before .before .entries .given, loop .loop .inv .entries-long);
         seen-long = omega (arith, back .before .before .seen .given, loop .loop .inv .seen-long);
         buf-long = omega (arith, c .before .buf2 .given, back .buf .given, loop .loop .inv .buf-long);
@@ -320,7 +316,7 @@ module _ (t : ℕ) where
   eval-or-else-returns c =
       let call = c .before .before .before .before .before .before .before .before .before in
       let start = call .before .before .before .before .before .before .before .before .before in
-      or-permits _ _ _ _ _ _ _ _ (start .pre .1 .1) (call .eval-policy .ensures) _ (c .before .if1 .taken) (c .skip-policies .ensures)
+      or-permits _ _ _ _ _ _ _ _ (start .pre .1 .0) (call .eval-policy .ensures) _ (c .before .if1 .taken) (c .skip-policies .ensures)
 
   eval-or-else-eval-policy-requires-2 : eval-or-else-lts.Need-eval-policy-requires-2 eval-or-else-calls eval-or-else-at eval-or-else.Post
   eval-or-else-eval-policy-requires-2 c κs = search needs
@@ -340,7 +336,7 @@ module _ (t : ℕ) where
       let deny = second .before .before .before .before in
       let call = deny .before .before .before .before .before .before .before .before in
       let start = call .before .before .before .before .before .before .before .before .before in
-      or-denies _ _ _ _ _ _ _ _ (start .pre .1 .1) (call .eval-policy .ensures) _ _ _ (deny .if1 .left) (second .eval-policy2 .ensures)
+      or-denies _ _ _ _ _ _ _ _ (start .pre .1 .0) (call .eval-policy .ensures) _ _ _ (deny .if1 .left) (second .eval-policy2 .ensures)
 
   -- what `eval-policy` calls
   abbrev eval-policy-calls : eval-policy-lts.Claims

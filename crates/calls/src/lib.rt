@@ -106,7 +106,15 @@ fn decide_small(sheet: &[u32], facts: &[u8], out: &mut [u32]) -> Answer
     let mut entries = [0u16; 64];
     let mut buf = [0u8; 2112];
     let mut named = [0u16; 128];
-    decide_with(sheet, facts, LEVELS, &mut entries, &mut buf, &mut named, out)
+    decide_with(
+        sheet,
+        facts,
+        LEVELS,
+        &mut entries,
+        &mut buf,
+        &mut named,
+        out,
+    )
 }
 
 // The same of any sheet.
@@ -123,7 +131,15 @@ fn decide(sheet: &[u32], facts: &[u8], out: &mut [u32]) -> Answer
     let mut entries = [0u16; 1024];
     let mut buf = [0u8; 2112];
     let mut named = [0u16; 4096];
-    decide_with(sheet, facts, LEVELS, &mut entries, &mut buf, &mut named, out)
+    decide_with(
+        sheet,
+        facts,
+        LEVELS,
+        &mut entries,
+        &mut buf,
+        &mut named,
+        out,
+    )
 }
 
 // Decides a sheet with a known table.

@@ -1,9 +1,11 @@
 -- A tree has no more levels than words, so one of few words reads within few levels. Assumes nothing.
-use mathlib.Core.Path.{_≡_, sym, _∙_, ap}
-use mathlib.Core.Bool.{Bool, false}
+use mathlib.Core.Path.{_≡_, refl, sym, _∙_, ap}
+use mathlib.Core.Bool.{Bool, true, false}
 use mathlib.Core.List.{List, [], _++_}
 use Prim.Native.Nat.{ℕ, _+_, _≤_, min}
 use native.Mathlib.Omega.{arith}
+use borrow.Author.Tests.{leb-true, leb-false}
+use lib.Dec.{leb}
 use lib.ListN.{length}
 use Rattle.model.specs.Outcome.{productSets}
 use Rattle.model.specs.Condition.{Condition, always, never, has, notC, allC, anyC, Conditions, cnil, ccons}
@@ -53,9 +55,8 @@ mutual
   deeps (pcons t ts) = let h = deep t in let k = deeps ts in omega (arith, h, k)
 
 module _ (W : List ℕ) (d : ℕ) (enough : min 32 (length W) ≤ d) where
-  -- A tree that reads within 32 levels, in a sheet or a residual, reads alike within `d`.
-  pub few-levels-of : (res : Bool) → length W ≤ 4096 → Holds (λ t rest. readPolicy (productSets .value) res d W ≡ got t rest) (readPolicy (productSets .value) res 32 W)
-  few-levels-of res few =
+  levels-within : (res : Bool) → length W ≤ 4096 → Holds (λ t rest. readPolicy (productSets .value) res d W ≡ got t rest) (readPolicy (productSets .value) res 32 W)
+  levels-within res few =
       within (readPolicy (productSets .value) res 32 W) (ok-T InRange (productSets .value) (writtenProducts .sound) res Few 4095 (λ c h. h) 32 W few) (same-T (productSets .number) (productSets .value) (writtenProducts .only) res 32 W)
     where
       within : (q : Parsed (Policy ℕ)) → Holds (λ t rest. Form InRange t × (depth t ≤ 32) × (words t + length rest ≡ length W) × SheetIf res t) q → Holds (λ t rest. encode (productSets .number) t ++ rest ≡ W) q →
@@ -67,10 +68,24 @@ module _ (W : List ℕ) (d : ℕ) (enough : min 32 (length W) ≤ d) where
           fine (ap (readPolicy (productSets .value) res d) (sym (e .it))
           ∙ back-T InRange (productSets .number) (productSets .value) (writtenProducts .small) (writtenProducts .again) t res d rest (omega (arith, few-words, ok .1, ok .2)) (ok .0) (ok .3))
 
+  levels-by : (res few : Bool) → leb (length W) 4096 ≡ few → d ≤ 32 → Holds (λ t rest. readPolicy (productSets .value) res d W ≡ got t rest) (readPolicy (productSets .value) res 32 W)
+  levels-by res true is most = levels-within res (leb-true (length W) 4096 is)
+  levels-by res false is most =
+      let all-levels : d ≡ 32 = omega (arith, leb-false (length W) 4096 is) in
+      itself (readPolicy (productSets .value) res 32 W) (ap (λ n. readPolicy (productSets .value) res n W) all-levels)
+    where
+      itself : {p : Parsed (Policy ℕ)} (q : Parsed (Policy ℕ)) → p ≡ q → Holds (λ t rest. p ≡ got t rest) q
+      itself (refuse n) e = nothing
+      itself (got t rest) e = fine e
+
+  -- A tree that reads within 32 levels, in a sheet or a residual, reads alike within `d`.
+  pub few-levels-in : (res : Bool) → d ≤ 32 → Holds (λ t rest. readPolicy (productSets .value) res d W ≡ got t rest) (readPolicy (productSets .value) res 32 W)
+  few-levels-in res most = levels-by res (leb (length W) 4096) refl most
+
   pub few-levels : Holds (λ t vs. readPolicy (productSets .value) false d W ≡ got t []) (readSheet (productSets .value) W)
   few-levels = within (readSheet (productSets .value) W) (ok-sheet InRange (productSets .value) (writtenProducts .sound) W) (sheet-tree W)
     where
       within : (q : Parsed (Policy ℕ)) → Holds (OkSheet InRange (productSets .value) (writtenProducts .sound) W) q → Holds (λ t vs. readPolicy (productSets .value) false 32 W ≡ got t []) q →
           Holds (λ t vs. readPolicy (productSets .value) false d W ≡ got t []) q
       within (refuse n) h e = nothing
-      within (got t vs) h e = let ok = h .it in fine (held-at (few-levels-of false (omega (arith, ok .2, ok .4))) (e .it))
+      within (got t vs) h e = let ok = h .it in fine (held-at (levels-within false (omega (arith, ok .2, ok .4))) (e .it))

@@ -10,16 +10,20 @@ ghost use Rattle.model.specs.Facts.{tableOf};
 ghost use Rattle.model.specs.Outcome.{productSets};
 ghost use Rattle.model.specs.Writing.{mostListed};
 ghost use Rattle.model.specs.Calls.{partialEvaluate, narrowResidual};
-ghost use Rattle.condition.specs.Listing.{lent, Room};
+ghost use Rattle.condition.specs.Listing.{lent};
 ghost use Rattle.sizes.specs.Laid.{mostWords, tooMany};
 ghost use Rattle.calls.specs.Answers.{Answered};
 ghost use Rattle.partial.specs.Answers.{PutPending, ReducesTo, ReducesFrom};
 
 // Writes the Pending record of the tree that is laid in the first `size` words of `tree`, and the consulted entries in use, if there is room for it.
+// No walk leaves more entries in use than it was lent.
 fn put_pending(entries: &[u16], count: usize, tree: &[u32], size: usize, out: &mut [u32]) -> Answer
-    requires { ⌜ (count ≤ length (now entries)) × (length (now entries) ≤ 1024) × (size ≤ tooMany) ⌝ }
+    requires { ⌜ (length (now entries) ≤ 1024) × (size ≤ tooMany) ⌝ }
     ensures { λ r. ⌜ PutPending (now (entries .entry)) count (now (tree .entry)) size (now (out .entry)) (now (out .exit)) r ⌝ }
 {
+    if entries.len() < count {
+        return Answer::Refused(11);
+    }
     let total = 1 + (count + 1) / 2 + size;
     if total > sizes::LIMIT {
         return Answer::Refused(11);
@@ -53,7 +57,7 @@ fn reduce_with(
     tree: &mut [u32],
     out: &mut [u32],
 ) -> Answer
-    requires { ⌜ Room (lent count (now entries) (now seen)) × (length (now entries) ≤ 1024) × (depth ≤ 32) × (min 32 (length (now words)) ≤ depth) × (64 * (depth + 1) ≤ length (now buf)) × (length (now words) ≤ 16384) × (length (now words) ≤ length (now named)) × (min (2 * length (now words)) mostListed ≤ length (now named)) × (min (3 * length (now words)) mostWords ≤ length (now front)) × (min (3 * length (now words)) mostWords ≤ length (now tree)) ⌝ }
+    requires { ⌜ (length (now entries) ≤ 1024) × (depth ≤ 32) × (min 32 (length (now words)) ≤ depth) × (64 * (depth + 1) ≤ length (now buf)) × (length (now words) ≤ 16384) × (length (now words) ≤ length (now named)) × (min (2 * length (now words)) mostListed ≤ length (now named)) × (min (3 * length (now words)) mostWords ≤ length (now front)) × (min (3 * length (now words)) mostWords ≤ length (now tree)) ⌝ }
     ensures { λ r. ⌜ ReducesTo (tableOf (now (facts .entry))) (now (words .entry)) at (lent count (now (entries .entry)) (now (seen .entry))) (now (out .entry)) (now (out .exit)) r ⌝ }
 {
     let reduced = partial_policy::reduce_policy(
@@ -84,31 +88,31 @@ fn reduce_with(
     )
 }
 
-// The same after the `consulted` entries of a record; a sheet has none.
+// The same after the `consulted` entries of a record; a sheet has none. `entries` is lent for them and for the facts of the tree, two for a word at most.
 fn reduce_from(
     words: &[u32],
     consulted: usize,
     at: usize,
     depth: usize,
     facts: &[u8],
+    entries: &mut [u16],
     buf: &mut [u8],
     named: &mut [u16],
     front: &mut [u32],
     tree: &mut [u32],
     out: &mut [u32],
 ) -> Answer
-    requires { ⌜ (depth ≤ 32) × (min 32 (length (now words)) ≤ depth) × (64 * (depth + 1) ≤ length (now buf)) × (length (now words) ≤ 16384) × (length (now words) ≤ length (now named)) × (min (2 * length (now words)) mostListed ≤ length (now named)) × (min (3 * length (now words)) mostWords ≤ length (now front)) × (min (3 * length (now words)) mostWords ≤ length (now tree)) ⌝ }
+    requires { ⌜ (min 1024 (2 * length (now words)) ≤ length (now entries)) × (length (now entries) ≤ 1024) × (depth ≤ 32) × (min 32 (length (now words)) ≤ depth) × (64 * (depth + 1) ≤ length (now buf)) × (length (now words) ≤ 16384) × (length (now words) ≤ length (now named)) × (min (2 * length (now words)) mostListed ≤ length (now named)) × (min (3 * length (now words)) mostWords ≤ length (now front)) × (min (3 * length (now words)) mostWords ≤ length (now tree)) ⌝ }
     ensures { λ r. ⌜ ReducesFrom (tableOf (now (facts .entry))) (now (words .entry)) consulted at (now (out .entry)) (now (out .exit)) r ⌝ }
 {
-    let mut entries = [0u16; 1024];
     let mut seen = [0u8; 1024];
-    let count = completion::load_consulted(words, consulted, &mut entries, &mut seen);
+    let count = completion::load_consulted(words, consulted, entries, &mut seen);
     reduce_with(
         words,
         at,
         depth,
         facts,
-        &mut entries,
+        entries,
         &mut seen,
         count,
         buf,
@@ -127,6 +131,7 @@ fn reduce_few(words: &[u32], consulted: usize, at: usize, facts: &[u8], out: &mu
     requires { ⌜ length (now words) ≤ 7 ⌝ }
     ensures { λ r. ⌜ ReducesFrom (tableOf (now (facts .entry))) (now (words .entry)) consulted at (now (out .entry)) (now (out .exit)) r ⌝ }
 {
+    let mut entries = [0u16; 16];
     let mut buf = [0u8; 512];
     let mut named = [0u16; 16];
     let mut front = [0u32; 24];
@@ -137,6 +142,7 @@ fn reduce_few(words: &[u32], consulted: usize, at: usize, facts: &[u8], out: &mu
         at,
         7,
         facts,
+        &mut entries,
         &mut buf,
         &mut named,
         &mut front,
@@ -150,6 +156,7 @@ fn reduce_small(words: &[u32], consulted: usize, at: usize, facts: &[u8], out: &
     requires { ⌜ length (now words) ≤ 64 ⌝ }
     ensures { λ r. ⌜ ReducesFrom (tableOf (now (facts .entry))) (now (words .entry)) consulted at (now (out .entry)) (now (out .exit)) r ⌝ }
 {
+    let mut entries = [0u16; 128];
     let mut buf = [0u8; 2112];
     let mut named = [0u16; 128];
     let mut front = [0u32; 192];
@@ -160,6 +167,7 @@ fn reduce_small(words: &[u32], consulted: usize, at: usize, facts: &[u8], out: &
         at,
         LEVELS,
         facts,
+        &mut entries,
         &mut buf,
         &mut named,
         &mut front,
@@ -179,6 +187,7 @@ fn reduce_middling(
     requires { ⌜ length (now words) ≤ 1024 ⌝ }
     ensures { λ r. ⌜ ReducesFrom (tableOf (now (facts .entry))) (now (words .entry)) consulted at (now (out .entry)) (now (out .exit)) r ⌝ }
 {
+    let mut entries = [0u16; 1024];
     let mut buf = [0u8; 2112];
     let mut named = [0u16; 2048];
     let mut front = [0u32; 3072];
@@ -189,6 +198,7 @@ fn reduce_middling(
         at,
         LEVELS,
         facts,
+        &mut entries,
         &mut buf,
         &mut named,
         &mut front,
@@ -202,6 +212,7 @@ fn reduce_large(words: &[u32], consulted: usize, at: usize, facts: &[u8], out: &
     requires { ⌜ length (now words) ≤ 16384 ⌝ }
     ensures { λ r. ⌜ ReducesFrom (tableOf (now (facts .entry))) (now (words .entry)) consulted at (now (out .entry)) (now (out .exit)) r ⌝ }
 {
+    let mut entries = [0u16; 1024];
     let mut buf = [0u8; 2112];
     let mut named = [0u16; 16384];
     let mut front = [0u32; 16384];
@@ -212,6 +223,7 @@ fn reduce_large(words: &[u32], consulted: usize, at: usize, facts: &[u8], out: &
         at,
         LEVELS,
         facts,
+        &mut entries,
         &mut buf,
         &mut named,
         &mut front,

@@ -12,7 +12,7 @@ put-pending-requires : tie.Need-put-pending-requires
 put-pending-requires c κs =
     let reduced = c .before .before .before .before .before .before .before .before .before .before .before .before .before .before .before .before in
     let first = reduced .before .before .before .before .before .before .before .before .before .before .before .before .before .before .before .before in
-    (omega (arith, reduced .reduce-policy .ensures .same, first .pre .0 .enough), omega (arith, first .pre .1, c .before .before .before .before .before .before .before .before .before .before .before .before .before .before .before .entries .given), reduced .reduce-policy .ensures .bound)
+    (omega (arith, first .pre .0, c .before .before .before .before .before .before .before .before .before .before .before .before .before .before .before .entries .given), reduced .reduce-policy .ensures .bound)
 
 same-length : tie.Need-same-length
 same-length c = search needs
@@ -39,14 +39,14 @@ returns : tie.Need-returns
 returns c =
     let reduced = c .before .before .before .before .before .before .before .before .before .before .before .before .before .before .before .before .before .before .before in
     let first = reduced .before .before .before .before .before .before .before .before .before .before .before .before .before .before .before .before in
-    reduces-pending (first .pre .2) (first .pre .3) (reduced .reduce-policy .ensures) (c .before .before .before .before .before .before .if1 .taken) (first .pre .8) (omega (arith, first .pre .9, c .before .before .before .before .before .before .before .before .tree .given)) (c .before .before .put-pending .ensures)
+    reduces-pending (first .pre .1) (first .pre .2) (reduced .reduce-policy .ensures) (c .before .before .before .before .before .before .if1 .taken) (first .pre .7) (omega (arith, first .pre .8, c .before .before .before .before .before .before .before .before .tree .given)) (c .before .before .put-pending .ensures)
 
 put-record-requires : tie.Need-put-record-requires
 put-record-requires c κs =
     let reduced = c .before .before .before .before .before .before .before .before .before .before .before .before .before .before .before .before .before in
     let first = reduced .before .before .before .before .before .before .before .before .before .before .before .before .before .before .before .before in
     let named = c .before .before .before .before .before .before .before .before .before .before in
-    (reduced .reduce-policy .ensures .few, omega (arith, first .pre .4, c .before .before .before .before .before .before .before .before .before .before .before .before .buf .given), omega (arith, first .pre .6, named .named .given), omega (arith, first .pre .7, named .named .given), omega (arith, reduced .reduce-policy .ensures .same, first .pre .0 .enough), omega (arith, first .pre .1, c .before .before .before .before .before .before .before .before .before .before .before .before .before .before .before .before .entries .given))
+    (reduced .reduce-policy .ensures .few, omega (arith, first .pre .3, c .before .before .before .before .before .before .before .before .before .before .before .before .buf .given), omega (arith, first .pre .5, named .named .given), omega (arith, first .pre .6, named .named .given), omega (arith, first .pre .0, c .before .before .before .before .before .before .before .before .before .before .before .before .before .before .before .before .entries .given))
 
 same-length-8 : tie.Need-same-length-8
 same-length-8 c = search needs
@@ -73,7 +73,7 @@ returns-2 : tie.Need-returns-2
 returns-2 c =
     let reduced = c .before .before .before .before .before .before .before .before .before .before .before .before .before .before .before .before .before .before .before .before .before .before .before .before in
     let first = reduced .before .before .before .before .before .before .before .before .before .before .before .before .before .before .before .before in
-    reduces-resolved (first .pre .2) (first .pre .3) (reduced .reduce-policy .ensures) (c .before .before .before .before .before .before .before .before .before .before .before .if1 .left) (c .before .before .before .before .before .before .put-record .ensures)
+    reduces-resolved (first .pre .1) (first .pre .2) (reduced .reduce-policy .ensures) (c .before .before .before .before .before .before .before .before .before .before .before .if1 .left) (c .before .before .before .before .before .before .put-record .ensures)
 
 pub reduce-with-spec : {M : Type 1} → statement M
 reduce-with-spec =

@@ -228,6 +228,31 @@ pub fn eval_policy(
     }
 }
 
+// The same of an arm of a list rule. A Permit, the commonest arm of a wide list, is seen here, so that the rule reads it with no call.
+fn eval_arm(
+    words: &[u32],
+    at: usize,
+    depth: usize,
+    facts: &[u8],
+    entries: &mut [u16],
+    seen: &mut [u8],
+    count: usize,
+    buf: &mut [u8],
+) -> PolicyEval
+    requires { ⌜ (depth ≤ 32) × (64 * (depth + 1) ≤ length (now buf)) × (length (now words) ≤ 16384) ⌝ }
+    ensures { λ r. ⌜ EvaluatesP (tableOf (now (facts .entry))) (now (words .entry)) at depth (lent count (now (entries .entry)) (now (seen .entry))) r (lent (r .count) (now (entries .exit)) (now (seen .exit))) (now (buf .exit)) ⌝ }
+{
+    let none = words.len();
+    if none <= at {
+        return denied(none, at, count);
+    }
+    let word = words[at];
+    if word / 65536 == 24576 {
+        return permitted((word % 65536) as u16, none, at + 1, count);
+    }
+    eval_policy(words, at, depth, facts, entries, seen, count, buf)
+}
+
 // The All at `at`, whose `arms` have at most `depth` levels: meets the permits, or denies with the first denying arm. Arms after that one aren't read.
 fn eval_all(
     words: &[u32],
@@ -248,7 +273,7 @@ fn eval_all(
     let mut listed = count;
     let mut left = arms;
     while left != 0 {
-        let arm = eval_policy(
+        let arm = eval_arm(
             words,
             next,
             depth,
@@ -300,7 +325,7 @@ fn eval_any(
     let mut listed = count;
     let mut left = arms;
     while left != 0 {
-        let arm = eval_policy(
+        let arm = eval_arm(
             words,
             next,
             depth,

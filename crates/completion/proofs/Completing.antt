@@ -5,7 +5,7 @@ use mathlib.Core.Option.{none}
 use mathlib.Core.List.{List, []}
 use Prim.Native.Nat.{ℕ, _+_, _*_, _≤_, min}
 use native.Mathlib.Omega.{arith}
-use lib.ListN.{length, drop}
+use lib.ListN.{length, drop, length-drop}
 use lib.Seq.{drop-drop}
 use Rattle.model.specs.Facts.{Table, tableOf, knownFacts, tableFault}
 use Rattle.model.specs.Outcome.{productSets}
@@ -53,7 +53,7 @@ module _ {W : List ℕ} {count at depth : ℕ} {T : Table} {s u : Lent} {r : Pol
       ap (readPolicy (productSets .value) true 32) (ap (λ n. drop n W) p ∙ sym (drop-drop (pairs log) 1 W)) ∙ held-at (record-parts W) q .0 .tree-read in
       let same = same-record (productSets .number) (productSets .value) (writtenProducts .only) W (record { body = pending t; log = log }) vs q in
       let ok = held-at (ok-record InRange (productSets .value) (writtenProducts .sound) W) q in
-      let there = few-levels-in (drop at W) (length W) depth t levels deep (ok .form) (ok .deep) (omega (arith, ok .long)) all-levels in
+      let there = held-at (few-levels-in (drop at W) depth (omega (arith, length-drop at W)) true deep) all-levels in
       let loaded = l .log log (encode (productSets .number) t) (ok .entries) c (ap (drop 1) same) in
       let fits = record-fits W T (length (s .entries)) t log ok enough in
       let answer = held-at (e .says true) there in

@@ -4,6 +4,8 @@ use mathlib.Core.Bool.{Bool, true, false}
 use mathlib.Core.List.{List, []}
 use Prim.Native.Nat.{ℕ, _+_, _*_, _≤_, min}
 use native.Mathlib.Omega.{arith}
+use borrow.Author.Tests.{leb-true, leb-false}
+use lib.Dec.{leb}
 use lib.ListN.{length, drop, length-drop}
 use Rattle.model.specs.Facts.{Table}
 use Rattle.model.specs.Outcome.{productSets}
@@ -24,6 +26,8 @@ use Rattle.residual.specs.Weight.{weight, weight-fits}
 use Rattle.partial_policy.specs.declared.ReducedPolicy.{ReducedPolicy}
 use Rattle.partial_policy.specs.Within.{LaidWithin}
 use Rattle.partial_policy.specs.Reducing.{Resolves, Pends, Result, ReducedTo, ReducesP}
+use Rattle.evaluate.proofs.Nodes.{held-at}
+use Rattle.calls.proofs.Shallow.{few-levels-of}
 use Rattle.calls.specs.declared.Answer.{Answer}
 use Rattle.calls.specs.Answers.{Answered, Put}
 use Rattle.partial.specs.Answers.{PutPending, ReducesTo}
@@ -54,6 +58,23 @@ both : {A : Type 0} {Q R S : A → List ℕ → Type 0} (q : Parsed A) → Holds
 both (refuse n) h k f = nothing
 both (got a ws) h k f = fine (f a ws (h .it) (k .it))
 
+-- Within as many levels as there are words, at most 32, it is as within 32.
+levels-by : {P : Table} {W : List ℕ} {at depth : ℕ} {s : Lent} {r : ReducedPolicy} {t : Lent} {buf : List ℕ} {room : ℕ} {out : List ℕ} (few : Bool) → leb (length W) 4096 ≡ few →
+    depth ≤ 32 → min 32 (length W) ≤ depth → ReducesP P W at depth s r t buf room out → ReducesP P W at 32 s r t buf room out
+levels-by {P} {W} {at} {depth} {s} {r} {t} {buf} {room} {out} true is most enough e =
+    let less = length-drop at W in
+    record {
+      same = e .same;
+      few = e .few;
+      bound = e .bound;
+      says = λ res.
+          weaker (readPolicy (productSets .value) res 32 (drop at W)) (λ p rest k. held-at (e .says res) k)
+          (few-levels-of (drop at W) depth (omega arith) res (omega (arith, leb-true (length W) 4096 is)));
+    }
+levels-by {P} {W} {at} {depth} {s} {r} {t} {buf} {room} {out} false is most enough e =
+    let all-levels : depth ≡ 32 = omega (arith, leb-false (length W) 4096 is) in
+    subst (λ d. ReducesP P W at d s r t buf room out) all-levels e
+
 module _ {P : Table} {W : List ℕ} {s : Lent} {r : ReducedPolicy} {t : Lent} {buf scratch before after : List ℕ} {room : ℕ} {a : Answer} where
   -- By what the tree reduces to.
   pending-by : (l : Consulted) (p : Policy ℕ) (end : ℕ) (x : model.ReducedPolicy ℕ) → Listed l s → words p ≤ length W → reducePolicy productSets P p ≡ x →
@@ -79,13 +100,13 @@ module _ {P : Table} {W : List ℕ} {s : Lent} {r : ReducedPolicy} {t : Lent} {b
       let y : _≡_ {A = ℕ} 0 1 = cc in
       absurd (omega arith)
 
-  module _ {at : ℕ} (e : ReducesP P W at 32 s r t buf room scratch) where
+  module _ {at depth : ℕ} (most : depth ≤ 32) (enough : min 32 (length W) ≤ depth) (e : ReducesP P W at depth s r t buf room scratch) where
     pub reduces-pending : r .pending ≡ true → min (3 * length W) mostWords ≤ room → min (3 * length W) mostWords ≤ length scratch →
         PutPending (t .entries) (t .count) scratch (r .size) before after a → ReducesTo P W at s before after a
     reduces-pending is wide long w =
         record {
           reduces = λ l listed res.
-              both (readPolicy (productSets .value) res 32 (drop at W)) (e .says res) (words-there res at W)
+              both (readPolicy (productSets .value) res 32 (drop at W)) (levels-by (leb (length W) 4096) refl most enough e .says res) (words-there res at W)
               (λ p rest k fits. pending-by l p (at + words p) (reducePolicy productSets P p) listed fits refl k is wide long w);
         }
 
@@ -93,5 +114,5 @@ module _ {P : Table} {W : List ℕ} {s : Lent} {r : ReducedPolicy} {t : Lent} {b
     reduces-resolved is w =
         record {
           reduces = λ l listed res.
-              weaker (readPolicy (productSets .value) res 32 (drop at W)) (λ p rest k. resolved-by l p (at + words p) (reducePolicy productSets P p) listed k is w) (e .says res);
+              weaker (readPolicy (productSets .value) res 32 (drop at W)) (λ p rest k. resolved-by l p (at + words p) (reducePolicy productSets P p) listed k is w) (levels-by (leb (length W) 4096) refl most enough e .says res);
         }

@@ -4,7 +4,7 @@ use calls::Answer;
 use facts::TableFault;
 use policy_model::RecordCheck;
 use policy_model::SheetCheck;
-ghost use Prim.Native.Nat.{_*_, _≤_, min};
+ghost use Prim.Native.Nat.{_+_, _*_, _≤_, min};
 ghost use lib.ListN.{length};
 ghost use Rattle.model.specs.Facts.{tableOf};
 ghost use Rattle.model.specs.Outcome.{productSets};
@@ -36,33 +36,35 @@ fn put_pending(entries: &[u16], count: usize, tree: &[u32], size: usize, out: &m
     Answer::Written(front + rest)
 }
 
-// Reduces the policy at `at`, after the `count` entries that are listed, and writes the record. Lent for the walk: `named`, for the facts of one clause,
-// and `front` and `tree`, for the nodes that lists keep and for what is left.
+// Reduces the policy at `at`, of at most `depth` levels, after the `count` entries that are listed, and writes the record: a tree of few words has no more
+// levels than words. Lent for the walk: `buf`, for united obligations, `named`, for the facts of one clause, and `front` and `tree`, for the nodes that
+// lists keep and for what is left.
 fn reduce_with(
     words: &[u32],
     at: usize,
+    depth: usize,
     facts: &[u8],
     entries: &mut [u16],
     seen: &mut [u8],
     count: usize,
+    buf: &mut [u8],
     named: &mut [u16],
     front: &mut [u32],
     tree: &mut [u32],
     out: &mut [u32],
 ) -> Answer
-    requires { ⌜ Room (lent count (now entries) (now seen)) × (length (now entries) ≤ 1024) × (length (now words) ≤ 16384) × (length (now words) ≤ length (now named)) × (min (2 * length (now words)) mostListed ≤ length (now named)) × (min (3 * length (now words)) mostWords ≤ length (now front)) × (min (3 * length (now words)) mostWords ≤ length (now tree)) ⌝ }
+    requires { ⌜ Room (lent count (now entries) (now seen)) × (length (now entries) ≤ 1024) × (depth ≤ 32) × (min 32 (length (now words)) ≤ depth) × (64 * (depth + 1) ≤ length (now buf)) × (length (now words) ≤ 16384) × (length (now words) ≤ length (now named)) × (min (2 * length (now words)) mostListed ≤ length (now named)) × (min (3 * length (now words)) mostWords ≤ length (now front)) × (min (3 * length (now words)) mostWords ≤ length (now tree)) ⌝ }
     ensures { λ r. ⌜ ReducesTo (tableOf (now (facts .entry))) (now (words .entry)) at (lent count (now (entries .entry)) (now (seen .entry))) (now (out .entry)) (now (out .exit)) r ⌝ }
 {
-    let mut buf = [0u8; 2112];
     let reduced = partial_policy::reduce_policy(
         words,
         at,
-        32,
+        depth,
         facts,
         entries,
         seen,
         count,
-        &mut buf,
+        buf,
         named,
         front,
         tree,
@@ -76,7 +78,7 @@ fn reduce_with(
         facts,
         entries,
         reduced.count,
-        &mut buf,
+        buf,
         named,
         out,
     )
@@ -87,13 +89,15 @@ fn reduce_from(
     words: &[u32],
     consulted: usize,
     at: usize,
+    depth: usize,
     facts: &[u8],
+    buf: &mut [u8],
     named: &mut [u16],
     front: &mut [u32],
     tree: &mut [u32],
     out: &mut [u32],
 ) -> Answer
-    requires { ⌜ (length (now words) ≤ 16384) × (length (now words) ≤ length (now named)) × (min (2 * length (now words)) mostListed ≤ length (now named)) × (min (3 * length (now words)) mostWords ≤ length (now front)) × (min (3 * length (now words)) mostWords ≤ length (now tree)) ⌝ }
+    requires { ⌜ (depth ≤ 32) × (min 32 (length (now words)) ≤ depth) × (64 * (depth + 1) ≤ length (now buf)) × (length (now words) ≤ 16384) × (length (now words) ≤ length (now named)) × (min (2 * length (now words)) mostListed ≤ length (now named)) × (min (3 * length (now words)) mostWords ≤ length (now front)) × (min (3 * length (now words)) mostWords ≤ length (now tree)) ⌝ }
     ensures { λ r. ⌜ ReducesFrom (tableOf (now (facts .entry))) (now (words .entry)) consulted at (now (out .entry)) (now (out .exit)) r ⌝ }
 {
     let mut entries = [0u16; 1024];
@@ -102,10 +106,12 @@ fn reduce_from(
     reduce_with(
         words,
         at,
+        depth,
         facts,
         &mut entries,
         &mut seen,
         count,
+        buf,
         named,
         front,
         tree,
@@ -113,11 +119,38 @@ fn reduce_from(
     )
 }
 
+// A tree has at most so many levels.
+const LEVELS: usize = 32;
+
 // The same of few words, with short lists: to clear long ones would take longer than to reduce. What is left takes at most three times the words.
+fn reduce_few(words: &[u32], consulted: usize, at: usize, facts: &[u8], out: &mut [u32]) -> Answer
+    requires { ⌜ length (now words) ≤ 7 ⌝ }
+    ensures { λ r. ⌜ ReducesFrom (tableOf (now (facts .entry))) (now (words .entry)) consulted at (now (out .entry)) (now (out .exit)) r ⌝ }
+{
+    let mut buf = [0u8; 512];
+    let mut named = [0u16; 16];
+    let mut front = [0u32; 24];
+    let mut tree = [0u32; 24];
+    reduce_from(
+        words,
+        consulted,
+        at,
+        7,
+        facts,
+        &mut buf,
+        &mut named,
+        &mut front,
+        &mut tree,
+        out,
+    )
+}
+
+// The same of up to 64 words.
 fn reduce_small(words: &[u32], consulted: usize, at: usize, facts: &[u8], out: &mut [u32]) -> Answer
     requires { ⌜ length (now words) ≤ 64 ⌝ }
     ensures { λ r. ⌜ ReducesFrom (tableOf (now (facts .entry))) (now (words .entry)) consulted at (now (out .entry)) (now (out .exit)) r ⌝ }
 {
+    let mut buf = [0u8; 2112];
     let mut named = [0u16; 128];
     let mut front = [0u32; 192];
     let mut tree = [0u32; 192];
@@ -125,7 +158,9 @@ fn reduce_small(words: &[u32], consulted: usize, at: usize, facts: &[u8], out: &
         words,
         consulted,
         at,
+        LEVELS,
         facts,
+        &mut buf,
         &mut named,
         &mut front,
         &mut tree,
@@ -144,6 +179,7 @@ fn reduce_middling(
     requires { ⌜ length (now words) ≤ 1024 ⌝ }
     ensures { λ r. ⌜ ReducesFrom (tableOf (now (facts .entry))) (now (words .entry)) consulted at (now (out .entry)) (now (out .exit)) r ⌝ }
 {
+    let mut buf = [0u8; 2112];
     let mut named = [0u16; 2048];
     let mut front = [0u32; 3072];
     let mut tree = [0u32; 3072];
@@ -151,7 +187,9 @@ fn reduce_middling(
         words,
         consulted,
         at,
+        LEVELS,
         facts,
+        &mut buf,
         &mut named,
         &mut front,
         &mut tree,
@@ -164,6 +202,7 @@ fn reduce_large(words: &[u32], consulted: usize, at: usize, facts: &[u8], out: &
     requires { ⌜ length (now words) ≤ 16384 ⌝ }
     ensures { λ r. ⌜ ReducesFrom (tableOf (now (facts .entry))) (now (words .entry)) consulted at (now (out .entry)) (now (out .exit)) r ⌝ }
 {
+    let mut buf = [0u8; 2112];
     let mut named = [0u16; 16384];
     let mut front = [0u32; 16384];
     let mut tree = [0u32; 16384];
@@ -171,7 +210,9 @@ fn reduce_large(words: &[u32], consulted: usize, at: usize, facts: &[u8], out: &
         words,
         consulted,
         at,
+        LEVELS,
         facts,
+        &mut buf,
         &mut named,
         &mut front,
         &mut tree,
@@ -184,6 +225,9 @@ fn reduce(words: &[u32], consulted: usize, at: usize, facts: &[u8], out: &mut [u
     requires { ⌜ length (now words) ≤ 16384 ⌝ }
     ensures { λ r. ⌜ ReducesFrom (tableOf (now (facts .entry))) (now (words .entry)) consulted at (now (out .entry)) (now (out .exit)) r ⌝ }
 {
+    if words.len() <= 7 {
+        return reduce_few(words, consulted, at, facts, out);
+    }
     if words.len() <= 64 {
         return reduce_small(words, consulted, at, facts, out);
     }

@@ -8,7 +8,7 @@ ghost use Prim.Native.Nat.{_+_, _≤_, _<_};
 ghost use lib.ListN.{set};
 ghost use Rattle.model.specs.Facts.{factCount, tableOf};
 ghost use Rattle.model.specs.Writing.{word};
-ghost use Rattle.condition.specs.Listing.{lent, Room};
+ghost use Rattle.condition.specs.Listing.{lent};
 ghost use Rattle.sizes.specs.Laid.{tooMany, capped};
 ghost use Rattle.partial_condition.specs.Reducing.{knownOf, leftOf, ReducesC, ReducesHas, ReducesList, ReducesAll, ReducesAny};
 ghost use Rattle.partial_condition.specs.Holding.{heldOf, listKind, MovedUp, Heeds, Negates, Ends};
@@ -86,7 +86,7 @@ fn reduce_has(
     count: usize,
     out: &mut [u32],
 ) -> ReducedCondition
-    requires { ⌜ Room (lent count (now entries) (now seen)) × (fact < factCount) ⌝ }
+    requires { ⌜ fact < factCount ⌝ }
     ensures { λ r. ⌜ ReducesHas (tableOf (now (facts .entry))) fact next (lent count (now (entries .entry)) (now (seen .entry))) r (lent (r .count) (now (entries .exit)) (now (seen .exit))) (now (out .exit)) ⌝ }
 {
     match Presence::of(facts, fact) {
@@ -128,7 +128,6 @@ pub fn reduce_condition(
     count: usize,
     out: &mut [u32],
 ) -> ReducedCondition
-    requires { ⌜ Room (lent count (now entries) (now seen)) ⌝ }
     ensures { λ r. ⌜ ReducesC (tableOf (now (facts .entry))) (now (words .entry)) at depth (lent count (now (entries .entry)) (now (seen .entry))) r (lent (r .count) (now (entries .exit)) (now (seen .exit))) (now (out .exit)) ⌝ }
 {
     if words.len() <= at {
@@ -179,7 +178,6 @@ fn reduce_arm(
     count: usize,
     out: &mut [u32],
 ) -> ReducedCondition
-    requires { ⌜ Room (lent count (now entries) (now seen)) ⌝ }
     ensures { λ r. ⌜ ReducesC (tableOf (now (facts .entry))) (now (words .entry)) at depth (lent count (now (entries .entry)) (now (seen .entry))) r (lent (r .count) (now (entries .exit)) (now (seen .exit))) (now (out .exit)) ⌝ }
 {
     if words.len() <= at {
@@ -275,7 +273,7 @@ fn reduce_arms(
     count: usize,
     out: &mut [u32],
 ) -> ReducedCondition
-    requires { ⌜ Room (lent count (now entries) (now seen)) × (arms < 4096) ⌝ }
+    requires { ⌜ arms < 4096 ⌝ }
     ensures { λ r. ⌜ ReducesList stop (tableOf (now (facts .entry))) (now (words .entry)) at depth arms (lent count (now (entries .entry)) (now (seen .entry))) r (lent (r .count) (now (entries .exit)) (now (seen .exit))) (now (out .exit)) ⌝ }
 {
     let mut held = Held {
@@ -321,7 +319,7 @@ fn reduce_condition_all(
     count: usize,
     out: &mut [u32],
 ) -> ReducedCondition
-    requires { ⌜ Room (lent count (now entries) (now seen)) × (arms < 4096) ⌝ }
+    requires { ⌜ arms < 4096 ⌝ }
     ensures { λ r. ⌜ ReducesAll (tableOf (now (facts .entry))) (now (words .entry)) at depth arms (lent count (now (entries .entry)) (now (seen .entry))) r (lent (r .count) (now (entries .exit)) (now (seen .exit))) (now (out .exit)) ⌝ }
 {
     if arms == 0 {
@@ -353,7 +351,7 @@ fn reduce_condition_any(
     count: usize,
     out: &mut [u32],
 ) -> ReducedCondition
-    requires { ⌜ Room (lent count (now entries) (now seen)) × (arms < 4096) ⌝ }
+    requires { ⌜ arms < 4096 ⌝ }
     ensures { λ r. ⌜ ReducesAny (tableOf (now (facts .entry))) (now (words .entry)) at depth arms (lent count (now (entries .entry)) (now (seen .entry))) r (lent (r .count) (now (entries .exit)) (now (seen .exit))) (now (out .exit)) ⌝ }
 {
     reduce_arms(

@@ -24,7 +24,10 @@ slice-aggregate-reduce-with-2 : tie.Need-slice-aggregate-reduce-with-2
 slice-aggregate-reduce-with-2 c = search needs
 
 reduce-with-requires : tie.Need-reduce-with-requires
-reduce-with-requires c κs = (room-after _ _ _ (omega (arith, slice-aggregate-reduce-with (c .before .before .before .before .before))) (omega (arith, slice-aggregate-reduce-with-2 (c .before .before .before .before))) (c .before .before .before .before .before .before .before .before .load-consulted .ensures .room), omega (arith, slice-aggregate-reduce-with (c .before .before .before .before .before)), search needs, search needs, search needs, search needs, search needs)
+reduce-with-requires c κs =
+    let entries = slice-aggregate-reduce-with (c .before .before .before .before .before .before) in
+    let seen = slice-aggregate-reduce-with-2 (c .before .before .before .before .before) in
+    (room-after _ _ _ (omega (arith, entries)) (omega (arith, seen)) (c .before .before .before .before .before .before .before .before .before .load-consulted .ensures .room), omega (arith, entries), search needs, search needs, search needs, search needs, search needs, search needs, search needs, search needs)
 
 same-length : tie.Need-same-length
 same-length c = search needs
@@ -38,8 +41,11 @@ same-length-3 c = search needs
 same-length-4 : tie.Need-same-length-4
 same-length-4 c = search needs
 
+same-length-5 : tie.Need-same-length-5
+same-length-5 c = search needs
+
 returns : tie.Need-returns
-returns c = reduces-from (c .before .before .before .before .before .before .before .before .before .before .before .before .before .before .before .before .before .before .before .load-consulted .ensures) (no-facts _) (c .before .before .before .before .before .before .before .before .before .before .reduce-with .ensures)
+returns c = reduces-from (c .before .before .before .before .before .before .before .before .before .before .before .before .before .before .before .before .before .before .before .before .before .before .load-consulted .ensures) (no-facts _) (c .before .before .before .before .before .before .before .before .before .before .before .before .reduce-with .ensures)
 
 pub reduce-from-spec : {M : Type 1} → statement M
 reduce-from-spec =
@@ -55,4 +61,5 @@ reduce-from-spec =
     same-length-2
     same-length-3
     same-length-4
+    same-length-5
     returns)

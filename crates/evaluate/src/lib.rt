@@ -1,5 +1,5 @@
 // Evaluation of policies, after gatekeep's evaluate.rs. A policy hands its arms to the list rule, and the list rule hands each arm back.
-// Lent down the walk: the consulted list (`entries`, of which the first `count` are in use, and `seen`, a flag for each fact), and `buf`,
+// Lent down the walk: the consulted list (`entries`, of which the first `count` are in use, and `seen`, the set of the facts in them), and `buf`,
 // 64 bytes for each level that is left and 64 more, where a list rule keeps united obligations at the front and lends the tail to its arms.
 // A sheet is read as a residual is: where nodes 12 and 13 don't stand, it makes no difference that they may.
 use decision::Decision;
@@ -89,7 +89,7 @@ fn eval_grant(
     depth: usize,
     facts: &[u8],
     entries: &mut [u16],
-    seen: &mut [u8],
+    seen: &mut [u64],
     count: usize,
 ) -> PolicyEval
     requires { ⌜ (at < length (now words)) × (depth < 32) ⌝ }
@@ -183,7 +183,7 @@ pub fn eval_policy(
     depth: usize,
     facts: &[u8],
     entries: &mut [u16],
-    seen: &mut [u8],
+    seen: &mut [u64],
     count: usize,
     buf: &mut [u8],
 ) -> PolicyEval
@@ -235,7 +235,7 @@ fn eval_arm(
     depth: usize,
     facts: &[u8],
     entries: &mut [u16],
-    seen: &mut [u8],
+    seen: &mut [u64],
     count: usize,
     buf: &mut [u8],
 ) -> PolicyEval
@@ -261,7 +261,7 @@ fn eval_all(
     arms: u32,
     facts: &[u8],
     entries: &mut [u16],
-    seen: &mut [u8],
+    seen: &mut [u64],
     count: usize,
     buf: &mut [u8],
 ) -> PolicyEval
@@ -312,7 +312,7 @@ fn eval_any(
     arms: u32,
     facts: &[u8],
     entries: &mut [u16],
-    seen: &mut [u8],
+    seen: &mut [u64],
     count: usize,
     buf: &mut [u8],
 ) -> PolicyEval
@@ -356,7 +356,7 @@ fn eval_or_else(
     depth: usize,
     facts: &[u8],
     entries: &mut [u16],
-    seen: &mut [u8],
+    seen: &mut [u64],
     count: usize,
     buf: &mut [u8],
 ) -> PolicyEval

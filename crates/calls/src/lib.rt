@@ -73,7 +73,7 @@ fn decide_with(
     requires { ⌜ (length (now sheet) ≤ 4096) × (depth ≤ 32) × (min 32 (length (now sheet)) ≤ depth) × (64 * (depth + 1) ≤ length (now buf)) × (length (now sheet) ≤ length (now named)) × (min (2 * length (now sheet)) mostListed ≤ length (now named)) × (min 1024 (length (now sheet)) ≤ length (now entries)) × (length (now entries) ≤ 1024) ⌝ }
     ensures { λ r. ⌜ Decides (now (sheet .entry)) (tableOf (now (facts .entry))) (now (out .entry)) (now (out .exit)) r ⌝ }
 {
-    let mut seen = [0u8; 1024];
+    let mut seen = [0u64; 16];
     let eval = evaluate::eval_policy(sheet, 0, depth, facts, entries, &mut seen, 0, buf);
     put_record(
         sheet,

@@ -31,7 +31,7 @@ pub fn load_consulted(
     words: &[u32],
     consulted: usize,
     entries: &mut [u16],
-    seen: &mut [u8],
+    seen: &mut [u64],
 ) -> usize
     ensures { λ r. ⌜ LoadsConsulted (now (words .entry)) consulted (lent 0 (now (entries .entry)) (now (seen .entry))) (lent r (now (entries .exit)) (now (seen .exit))) ⌝ }
 {
@@ -83,7 +83,7 @@ fn complete_with(
     requires { ⌜ (length (now words) ≤ 16384) × (depth ≤ 32) × (min 32 (length (now words)) ≤ depth) × (64 * (depth + 1) ≤ length (now buf)) × (length (now words) ≤ length (now named)) × (min (2 * length (now words)) mostListed ≤ length (now named)) × (min 1024 (2 * length (now words)) ≤ length (now entries)) × (length (now entries) ≤ 1024) ⌝ }
     ensures { λ r. ⌜ Completes (now (words .entry)) consulted tree (tableOf (now (facts .entry))) (now (out .entry)) (now (out .exit)) r ⌝ }
 {
-    let mut seen = [0u8; 1024];
+    let mut seen = [0u64; 16];
     let count = load_consulted(words, consulted, entries, &mut seen);
     let eval = evaluate::eval_policy(words, tree, depth, facts, entries, &mut seen, count, buf);
     calls::put_record(

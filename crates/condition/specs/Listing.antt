@@ -1,18 +1,18 @@
 -- The consulted list as it is lent down a walk.
 use mathlib.Core.Path.{_≡_}
 use mathlib.Core.List.{List, map}
-use Prim.Native.Nat.{ℕ, _≤_, _<_}
-use lib.ListN.{length, take, getD}
-use Rattle.model.specs.Facts.{Presence, factCount}
+use Prim.Native.Nat.{ℕ, _≤_}
+use lib.ListN.{length, take}
+use Rattle.model.specs.Facts.{Presence}
 use Rattle.model.specs.Consulted.{Entry, Consulted, isConsulted, consult}
 use Rattle.model.specs.Writing.{entryField}
-use Rattle.model.specs.Required.{oneBit}
+use Rattle.model.specs.Required.{factSet}
 
 -- A fact as it was read.
 abbrev pub entryOf : ℕ → Presence → Entry
 entryOf f p = record { fact = f; seen = p }
 
--- What is lent: how many entries are in use, the entries, and a flag for each fact.
+-- What is lent: how many entries are in use, the entries, and the set of the facts that are listed.
 pub record Lent : Type 0 where
   pub count : ℕ
   pub entries : List ℕ
@@ -21,12 +21,11 @@ pub record Lent : Type 0 where
 abbrev pub lent : ℕ → List ℕ → List ℕ → Lent
 lent count entries seen = record { count = count; entries = entries; seen = seen }
 
--- What is lent holds the list l: its entries in order, and a flag for each fact, 1 where it is listed.
+-- What is lent holds the list l: its entries in order, and the set of its facts.
 pub record Listed (l : Consulted) (s : Lent) : Type 0 where
-  pub flags : length (s .seen) ≡ factCount
   pub long : s .count ≡ length l
   pub in-order : take (s .count) (s .entries) ≡ map entryField l
-  pub flagged : (f : ℕ) → f < factCount → getD (s .seen) f 0 ≡ oneBit (isConsulted f l)
+  pub facts-are : s .seen ≡ factSet (λ f. isConsulted f l)
 
 -- Whatever list s held, t holds what `read` makes of it, if that fits in as many entries.
 pub record Consults (read : Consulted → Consulted) (s t : Lent) : Type 0 where

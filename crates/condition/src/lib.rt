@@ -1,5 +1,5 @@
 // Conditions, after gatekeep's evaluate.rs: whether a condition is satisfied, with the facts that were consulted listed on the way.
-// The list is lent: `entries`, of which the first `count` are in use, and `seen`, a flag for each fact, 1 where it is listed.
+// The list is lent: `entries`, of which the first `count` are in use, and `seen`, the set of the facts that are listed.
 use consulted::Consulted;
 use facts::Presence;
 use policy_model::ConditionHead;
@@ -7,6 +7,7 @@ ghost use mathlib.Core.Path.{_≡_};
 ghost use Prim.Native.Nat.{_<_};
 ghost use Rattle.model.specs.Facts.{factCount, tableOf};
 ghost use Rattle.model.specs.Writing.{entryField};
+ghost use Rattle.model.specs.Required.{oneBit};
 ghost use Rattle.facts.specs.Answers.{presenceOf};
 ghost use Rattle.condition.specs.Listing.{entryOf, lent, Recorded};
 ghost use Rattle.condition.specs.Spanning.{armsOfWord, Skipped};
@@ -48,10 +49,16 @@ fn entry(fact: u32, presence: Presence) -> u16
     presence_bits(presence) + fact as u16
 }
 
+fn flag(listed: bool) -> u8
+    ensures { λ r. ⌜ r ≡ oneBit listed ⌝ }
+{
+    if listed { 1 } else { 0 }
+}
+
 // Lists the fact with its presence, unless it is listed already or the entries are full, and returns how many are in use then.
 pub fn record(
     entries: &mut [u16],
-    seen: &mut [u8],
+    seen: &mut [u64],
     count: usize,
     fact: u32,
     presence: Presence,
@@ -59,10 +66,6 @@ pub fn record(
     requires { ⌜ fact < factCount ⌝ }
     ensures { λ r. ⌜ Recorded fact (presenceOf presence) (lent count (now (entries .entry)) (now (seen .entry))) (lent r (now (entries .exit)) (now (seen .exit))) ⌝ }
 {
-    let at = fact as usize;
-    if seen.len() <= at {
-        return count;
-    }
     if entries.len() <= count {
         return count;
     }
@@ -71,11 +74,15 @@ pub fn record(
         last: 0,
         length: count,
     };
-    let list = consulted::noted(before, seen[at], entry(fact, presence));
+    let list = consulted::noted(
+        before,
+        flag(fact_set::contains(seen, fact)),
+        entry(fact, presence),
+    );
     if list.length == count {
         return count;
     }
-    seen[at] = 1;
+    fact_set::insert(seen, fact);
     entries[count] = list.last;
     list.length
 }
@@ -118,7 +125,7 @@ fn eval_has(
     next: usize,
     facts: &[u8],
     entries: &mut [u16],
-    seen: &mut [u8],
+    seen: &mut [u64],
     count: usize,
 ) -> ConditionEval
     requires { ⌜ fact < factCount ⌝ }
@@ -137,7 +144,7 @@ pub fn eval_condition(
     depth: usize,
     facts: &[u8],
     entries: &mut [u16],
-    seen: &mut [u8],
+    seen: &mut [u64],
     count: usize,
 ) -> ConditionEval
     ensures { λ r. ⌜ EvaluatesC (tableOf (now (facts .entry))) (now (words .entry)) at depth (lent count (now (entries .entry)) (now (seen .entry))) r (lent (r .count) (now (entries .exit)) (now (seen .exit))) ⌝ }
@@ -176,7 +183,7 @@ fn eval_arm(
     depth: usize,
     facts: &[u8],
     entries: &mut [u16],
-    seen: &mut [u8],
+    seen: &mut [u64],
     count: usize,
 ) -> ConditionEval
     ensures { λ r. ⌜ EvaluatesC (tableOf (now (facts .entry))) (now (words .entry)) at depth (lent count (now (entries .entry)) (now (seen .entry))) r (lent (r .count) (now (entries .exit)) (now (seen .exit))) ⌝ }
@@ -201,7 +208,7 @@ fn eval_arms(
     stop: bool,
     facts: &[u8],
     entries: &mut [u16],
-    seen: &mut [u8],
+    seen: &mut [u64],
     count: usize,
 ) -> ConditionEval
     ensures { λ r. ⌜ EvaluatesList stop (tableOf (now (facts .entry))) (now (words .entry)) at depth arms (lent count (now (entries .entry)) (now (seen .entry))) r (lent (r .count) (now (entries .exit)) (now (seen .exit))) ⌝ }
@@ -229,7 +236,7 @@ fn eval_condition_all(
     arms: u32,
     facts: &[u8],
     entries: &mut [u16],
-    seen: &mut [u8],
+    seen: &mut [u64],
     count: usize,
 ) -> ConditionEval
     ensures { λ r. ⌜ EvaluatesAll (tableOf (now (facts .entry))) (now (words .entry)) at depth arms (lent count (now (entries .entry)) (now (seen .entry))) r (lent (r .count) (now (entries .exit)) (now (seen .exit))) ⌝ }
@@ -248,7 +255,7 @@ fn eval_condition_any(
     arms: u32,
     facts: &[u8],
     entries: &mut [u16],
-    seen: &mut [u8],
+    seen: &mut [u64],
     count: usize,
 ) -> ConditionEval
     ensures { λ r. ⌜ EvaluatesAny (tableOf (now (facts .entry))) (now (words .entry)) at depth arms (lent count (now (entries .entry)) (now (seen .entry))) r (lent (r .count) (now (entries .exit)) (now (seen .exit))) ⌝ }

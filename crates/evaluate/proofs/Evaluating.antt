@@ -21,7 +21,7 @@ use Rattle.laws.specs.Size.{wordsC, words}
 use Rattle.policy_model.specs.declared.PolicyHead.{PolicyHead}
 use Rattle.policy_model.specs.declared.PolicyHead.the-variants.{Permit, Deny, Grant, PermitWithTrace, DenyWithTrace, BadKind, BadField}
 use Rattle.policy_model.specs.Heads.{policyHead, policyNode}
-use Rattle.policy_model.specs.HeadLaws.{policy-deep}
+use Rattle.policy_model.specs.HeadLaws.{policy-deep, permit-word}
 use Rattle.policy_model.proofs.Checking.{no-word}
 use Rattle.condition.specs.declared.ConditionEval.{ConditionEval}
 use Rattle.condition.specs.Listing.{Lent, lent}
@@ -108,6 +108,14 @@ module _ (T : Table) (W : List ℕ) (at depth : ℕ) (next count : ℕ) (entries
         log = consults-as (λ l. refl) consults-none;
       }));
     }
+
+-- A word that one division shows to be a Permit.
+pub eval-permit-word : (T : Table) (W : List ℕ) (at depth count : ℕ) (entries seen buf : List ℕ) → at < length W → getD W at 0 / 65536 ≡ 24576 →
+    EvaluatesP T W at depth (lent count entries seen) (evalOf (permittedAt (getD W at 0 % 65536) (length W) (length W) 0) (at + 1) count) (lent count entries seen) buf
+eval-permit-word T W at zero count entries seen buf lt e = record { few = omega arith; says = λ res. no-levels res (drop at W) }
+eval-permit-word T W at (suc depth) count entries seen buf lt e =
+    by-head T W at (suc depth) _ _ _ buf (Permit (getD W at 0 % 65536)) (λ z. omega arith) (permit-word (getD W at 0) true e)
+    (eval-permit T W at (suc depth - 1) (at + 1) count entries seen buf lt (getD W at 0 % 65536) refl)
 
 -- ---- a grant
 module _ (T : Table) (W : List ℕ) (at depth : ℕ) (hidden : Bool) (n o : ℕ) (lt : at < length W) (deep : depth < 32) where

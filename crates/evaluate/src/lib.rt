@@ -1,5 +1,5 @@
 // Evaluation of policies, after gatekeep's evaluate.rs. A policy hands its arms to the list rule, and the list rule hands each arm back.
-// Lent down the walk: the consulted list (`entries`, of which the first `count` are in use, and `seen`, a flag for each fact), and `buf`,
+// Lent down the walk: the consulted list (`entries`, of which the first `count` are in use, and `seen`, the set of the facts in them), and `buf`,
 // 64 bytes for each level that is left and 64 more, where a list rule keeps united obligations at the front and lends the tail to its arms.
 // A sheet is read as a residual is: where nodes 12 and 13 don't stand, it makes no difference that they may.
 use decision::Decision;
@@ -89,7 +89,7 @@ fn eval_grant(
     depth: usize,
     facts: &[u8],
     entries: &mut [u16],
-    seen: &mut [u8],
+    seen: &mut [u64],
     count: usize,
 ) -> PolicyEval
     requires { ⌜ (at < length (now words)) × (depth < 32) ⌝ }
@@ -183,7 +183,7 @@ pub fn eval_policy(
     depth: usize,
     facts: &[u8],
     entries: &mut [u16],
-    seen: &mut [u8],
+    seen: &mut [u64],
     count: usize,
     buf: &mut [u8],
 ) -> PolicyEval
@@ -228,6 +228,31 @@ pub fn eval_policy(
     }
 }
 
+// The same of an arm of a list rule. A Permit, the commonest arm of a wide list, is seen here, so that the rule reads it with no call.
+fn eval_arm(
+    words: &[u32],
+    at: usize,
+    depth: usize,
+    facts: &[u8],
+    entries: &mut [u16],
+    seen: &mut [u64],
+    count: usize,
+    buf: &mut [u8],
+) -> PolicyEval
+    requires { ⌜ (depth ≤ 32) × (64 * (depth + 1) ≤ length (now buf)) × (length (now words) ≤ 16384) ⌝ }
+    ensures { λ r. ⌜ EvaluatesP (tableOf (now (facts .entry))) (now (words .entry)) at depth (lent count (now (entries .entry)) (now (seen .entry))) r (lent (r .count) (now (entries .exit)) (now (seen .exit))) (now (buf .exit)) ⌝ }
+{
+    let none = words.len();
+    if none <= at {
+        return denied(none, at, count);
+    }
+    let word = words[at];
+    if word / 65536 == 24576 {
+        return permitted((word % 65536) as u16, none, at + 1, count);
+    }
+    eval_policy(words, at, depth, facts, entries, seen, count, buf)
+}
+
 // The All at `at`, whose `arms` have at most `depth` levels: meets the permits, or denies with the first denying arm. Arms after that one aren't read.
 fn eval_all(
     words: &[u32],
@@ -236,7 +261,7 @@ fn eval_all(
     arms: u32,
     facts: &[u8],
     entries: &mut [u16],
-    seen: &mut [u8],
+    seen: &mut [u64],
     count: usize,
     buf: &mut [u8],
 ) -> PolicyEval
@@ -248,7 +273,7 @@ fn eval_all(
     let mut listed = count;
     let mut left = arms;
     while left != 0 {
-        let arm = eval_policy(
+        let arm = eval_arm(
             words,
             next,
             depth,
@@ -287,7 +312,7 @@ fn eval_any(
     arms: u32,
     facts: &[u8],
     entries: &mut [u16],
-    seen: &mut [u8],
+    seen: &mut [u64],
     count: usize,
     buf: &mut [u8],
 ) -> PolicyEval
@@ -300,7 +325,7 @@ fn eval_any(
     let mut listed = count;
     let mut left = arms;
     while left != 0 {
-        let arm = eval_policy(
+        let arm = eval_arm(
             words,
             next,
             depth,
@@ -331,7 +356,7 @@ fn eval_or_else(
     depth: usize,
     facts: &[u8],
     entries: &mut [u16],
-    seen: &mut [u8],
+    seen: &mut [u64],
     count: usize,
     buf: &mut [u8],
 ) -> PolicyEval

@@ -49,7 +49,7 @@ fn reduce_with(
     depth: usize,
     facts: &[u8],
     entries: &mut [u16],
-    seen: &mut [u8],
+    seen: &mut [u64],
     count: usize,
     buf: &mut [u8],
     named: &mut [u16],
@@ -105,7 +105,7 @@ fn reduce_from(
     requires { ⌜ (min 1024 (2 * length (now words)) ≤ length (now entries)) × (length (now entries) ≤ 1024) × (depth ≤ 32) × (min 32 (length (now words)) ≤ depth) × (64 * (depth + 1) ≤ length (now buf)) × (length (now words) ≤ 16384) × (length (now words) ≤ length (now named)) × (min (2 * length (now words)) mostListed ≤ length (now named)) × (min (3 * length (now words)) mostWords ≤ length (now front)) × (min (3 * length (now words)) mostWords ≤ length (now tree)) ⌝ }
     ensures { λ r. ⌜ ReducesFrom (tableOf (now (facts .entry))) (now (words .entry)) consulted at (now (out .entry)) (now (out .exit)) r ⌝ }
 {
-    let mut seen = [0u8; 1024];
+    let mut seen = [0u64; 16];
     let count = completion::load_consulted(words, consulted, entries, &mut seen);
     reduce_with(
         words,

@@ -82,7 +82,7 @@ fn reduce_has(
     next: usize,
     facts: &[u8],
     entries: &mut [u16],
-    seen: &mut [u8],
+    seen: &mut [u64],
     count: usize,
     out: &mut [u32],
 ) -> ReducedCondition
@@ -124,7 +124,7 @@ pub fn reduce_condition(
     depth: usize,
     facts: &[u8],
     entries: &mut [u16],
-    seen: &mut [u8],
+    seen: &mut [u64],
     count: usize,
     out: &mut [u32],
 ) -> ReducedCondition
@@ -174,7 +174,7 @@ fn reduce_arm(
     depth: usize,
     facts: &[u8],
     entries: &mut [u16],
-    seen: &mut [u8],
+    seen: &mut [u64],
     count: usize,
     out: &mut [u32],
 ) -> ReducedCondition
@@ -269,7 +269,7 @@ fn reduce_arms(
     stop: bool,
     facts: &[u8],
     entries: &mut [u16],
-    seen: &mut [u8],
+    seen: &mut [u64],
     count: usize,
     out: &mut [u32],
 ) -> ReducedCondition
@@ -315,7 +315,7 @@ fn reduce_condition_all(
     arms: u32,
     facts: &[u8],
     entries: &mut [u16],
-    seen: &mut [u8],
+    seen: &mut [u64],
     count: usize,
     out: &mut [u32],
 ) -> ReducedCondition
@@ -347,7 +347,7 @@ fn reduce_condition_any(
     arms: u32,
     facts: &[u8],
     entries: &mut [u16],
-    seen: &mut [u8],
+    seen: &mut [u64],
     count: usize,
     out: &mut [u32],
 ) -> ReducedCondition

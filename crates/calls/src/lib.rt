@@ -17,7 +17,6 @@ pub enum Answer {
 }
 
 // Writes the Resolved record of a decision and the consulted entries in use, if there is room for it. Its length is known before a word changes.
-// No walk leaves more entries in use than it was lent.
 pub fn put_record(
     words: &[u32],
     decision: Decision,
@@ -31,6 +30,7 @@ pub fn put_record(
     requires { ⌜ (decision .count ≤ 64) × (64 ≤ length (now buf)) × (length (now words) ≤ length (now named)) × (min (2 * length (now words)) mostListed ≤ length (now named)) × (length (now entries) ≤ 1024) ⌝ }
     ensures { λ r. ⌜ Put (now (words .entry)) (tableOf (now (facts .entry))) (now (buf .entry)) decision (now (entries .entry)) count (now (out .entry)) (now (out .exit)) r ⌝ }
 {
+    // No walk leaves more in use than it was lent, but of words that don't read none says so.
     if entries.len() < count {
         return Answer::Refused(11);
     }

@@ -49,6 +49,7 @@ fn entry(fact: u32, presence: Presence) -> u16
     presence_bits(presence) + fact as u16
 }
 
+// The flag of a fact, as the consulted list takes it.
 fn flag(listed: bool) -> u8
     ensures { λ r. ⌜ r ≡ oneBit listed ⌝ }
 {

@@ -151,7 +151,7 @@ fn reduce_few(words: &[u32], consulted: usize, at: usize, facts: &[u8], out: &mu
     )
 }
 
-// The same of up to 64 words.
+// The same of a few more.
 fn reduce_small(words: &[u32], consulted: usize, at: usize, facts: &[u8], out: &mut [u32]) -> Answer
     requires { ⌜ length (now words) ≤ 64 ⌝ }
     ensures { λ r. ⌜ ReducesFrom (tableOf (now (facts .entry))) (now (words .entry)) consulted at (now (out .entry)) (now (out .exit)) r ⌝ }
@@ -174,6 +174,17 @@ fn reduce_small(words: &[u32], consulted: usize, at: usize, facts: &[u8], out: &
         &mut tree,
         out,
     )
+}
+
+// The same of up to 64 words.
+fn reduce_short(words: &[u32], consulted: usize, at: usize, facts: &[u8], out: &mut [u32]) -> Answer
+    requires { ⌜ length (now words) ≤ 64 ⌝ }
+    ensures { λ r. ⌜ ReducesFrom (tableOf (now (facts .entry))) (now (words .entry)) consulted at (now (out .entry)) (now (out .exit)) r ⌝ }
+{
+    if words.len() <= 7 {
+        return reduce_few(words, consulted, at, facts, out);
+    }
+    reduce_small(words, consulted, at, facts, out)
 }
 
 // The same of up to 1,024 words.
@@ -232,17 +243,11 @@ fn reduce_large(words: &[u32], consulted: usize, at: usize, facts: &[u8], out: &
     )
 }
 
-// The same of any that were checked.
-fn reduce(words: &[u32], consulted: usize, at: usize, facts: &[u8], out: &mut [u32]) -> Answer
+// The same of any that were checked. Its lists take 160 KiB of stack, so the calls see to short words apart from it.
+fn reduce_long(words: &[u32], consulted: usize, at: usize, facts: &[u8], out: &mut [u32]) -> Answer
     requires { ⌜ length (now words) ≤ 16384 ⌝ }
     ensures { λ r. ⌜ ReducesFrom (tableOf (now (facts .entry))) (now (words .entry)) consulted at (now (out .entry)) (now (out .exit)) r ⌝ }
 {
-    if words.len() <= 7 {
-        return reduce_few(words, consulted, at, facts, out);
-    }
-    if words.len() <= 64 {
-        return reduce_small(words, consulted, at, facts, out);
-    }
     if words.len() <= 1024 {
         return reduce_middling(words, consulted, at, facts, out);
     }
@@ -263,7 +268,12 @@ pub fn partial_evaluate(sheet: &[u32], facts: &[u8], out: &mut [u32]) -> Answer
         TableFault::Refused(number) => Answer::Refused(number),
         TableFault::Faultless => match policy_model::check_sheet(sheet) {
             SheetCheck::Refused(number) => Answer::Refused(number),
-            SheetCheck::Accepted => reduce(sheet, 0, 0, facts, out),
+            SheetCheck::Accepted => {
+                if sheet.len() <= 64 {
+                    return reduce_short(sheet, 0, 0, facts, out);
+                }
+                reduce_long(sheet, 0, 0, facts, out)
+            }
         },
     }
 }
@@ -286,13 +296,12 @@ pub fn narrow_residual(words: &[u32], facts: &[u8], out: &mut [u32]) -> Answer
                 consulted: _,
                 tree: _,
             } => completion::copy_record(words, out),
-            RecordCheck::Pending { consulted, tree } => reduce(
-                words,
-                consulted as usize,
-                tree,
-                facts,
-                out,
-            ),
+            RecordCheck::Pending { consulted, tree } => {
+                if words.len() <= 64 {
+                    return reduce_short(words, consulted as usize, tree, facts, out);
+                }
+                reduce_long(words, consulted as usize, tree, facts, out)
+            }
         },
     }
 }

@@ -6,7 +6,7 @@ use Prim.Native.Nat.{ℕ, _+_, _-_, _/_, _≤_, _<_}
 use native.Mathlib.Omega.{arith}
 use borrow.Author.Tests.{le-leb, lt-leb}
 use lib.Dec.{leb}
-use lib.ListN.{length, take, drop, length-map, length-append}
+use lib.ListN.{length, take, drop, length-map, length-append, length-take}
 use Rattle.model.specs.Facts.{Table}
 use Rattle.model.specs.Outcome.{productSets}
 use Rattle.model.specs.Decision.{Decision as Decided}
@@ -94,7 +94,12 @@ pub size-small : (permit : Bool) (held named : ℕ) → held ≤ 64 → named �
 size-small true held named h k = omega arith
 size-small false held named h k = omega arith
 
--- ---- the three answers of `put_record`
+-- ---- the answers of `put_record`
+-- No list has more entries than there are.
+pub put-nothing : {W : List ℕ} {T : Table} {buf : List ℕ} {d : Decision} {entries : List ℕ} {count : ℕ} {out : List ℕ} → length entries < count → Put W T buf d entries count out out (Refused 11)
+put-nothing {entries = entries} {count} h =
+    record { put = λ l s e q. let z : ⊥ = omega (arith, h, e, ap length q, length-map l entryField, length-take count entries) in absurd z }
+
 module _ {W : List ℕ} {T : Table} {buf : List ℕ} {d : Decision} {os : List ℕ} {held : ℕ} {fs : List ℕ} {named : ℕ} {entries : List ℕ} {count : ℕ} {out : List ℕ}
     (h : Held W d buf os held) (wide : 64 ≤ length os) (f : ClauseFacts W T (d .clause) fs named) where
   pub put-long : 4095 < named → Put W T buf d entries count out out (Refused 11)

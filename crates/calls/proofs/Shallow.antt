@@ -1,22 +1,27 @@
--- A sheet has no more levels than words, so a sheet of few words reads within few levels. Assumes nothing.
-use mathlib.Core.Path.{_≡_, refl, sym, _∙_, ap, subst}
-use mathlib.Core.Bool.{false}
-use mathlib.Core.List.{List, [], _++_, append-nil}
-use Prim.Native.Nat.{ℕ, _≤_, min}
+-- A tree has no more levels than words, so one of few words reads within few levels. Assumes nothing.
+use mathlib.Core.Path.{_≡_, refl, sym, _∙_, ap}
+use mathlib.Core.Bool.{Bool, true, false}
+use mathlib.Core.List.{List, [], _++_}
+use Prim.Native.Nat.{ℕ, _+_, _≤_, min}
 use native.Mathlib.Omega.{arith}
+use borrow.Author.Tests.{leb-true, leb-false}
+use lib.Dec.{leb}
 use lib.ListN.{length}
 use Rattle.model.specs.Outcome.{productSets}
 use Rattle.model.specs.Condition.{Condition, always, never, has, notC, allC, anyC, Conditions, cnil, ccons}
+use Rattle.model.specs.Decision.{Decision, permits, denies}
 use Rattle.model.specs.Policy.{Policy, permit, deny, grant, all, any, orElse, stored, Policies, pnil, pcons}
 use Rattle.model.specs.Writing.{encode}
 use Rattle.model.specs.Reading.{Parsed, refuse, got, readPolicy, readSheet}
 use Rattle.laws.specs.FieldLaws.{Holds, nothing, fine}
-use Rattle.laws.specs.Size.{wordsC, wordsCs, words, wordss, IsSheet, AreSheets}
-use Rattle.laws.specs.Form.{depthC, depthCs, depth, depths}
-use Rattle.laws.specs.ReadForm.{OkSheet, ok-sheet}
+use Rattle.laws.specs.Size.{wordsC, wordsCs, wordsD, words, wordss, SheetIf}
+use Rattle.laws.specs.Form.{Few, Form, depthC, depthCs, depth, depths}
+use Rattle.laws.specs.ReadForm.{OkSheet, ok-T, ok-sheet}
 use Rattle.laws.specs.ReadBack.{back-T}
-use Rattle.laws.specs.Canon.{same-sheet}
+use Rattle.laws.specs.Canon.{same-T}
 use Rattle.laws.specs.Products.{InRange, writtenProducts}
+use Rattle.policy_model.proofs.Records.{sheet-tree}
+use Rattle.evaluate.proofs.Nodes.{held-at}
 
 mutual
   deep-C : (c : Condition) → depthC c ≤ wordsC c
@@ -31,30 +36,56 @@ mutual
   deep-Cs cnil = omega arith
   deep-Cs (ccons c cs) = let h = deep-C c in let k = deep-Cs cs in omega (arith, h, k)
 
-mutual
-  deep : (t : Policy ℕ) → IsSheet t → depth t ≤ words t
-  deep (permit o) s = omega arith
-  deep deny s = omega arith
-  deep (grant g c) s = let h = deep-C c in omega (arith, h)
-  deep (all ts) s = let h = deeps ts s in omega (arith, h)
-  deep (any ts) s = let h = deeps ts s in omega (arith, h)
-  deep (orElse a b) s = let h = deep a (s .0) in let k = deep b (s .1) in omega (arith, h, k)
-  deep (stored d) s = absurd s
+deep-D : (d : Decision ℕ) → 1 ≤ wordsD d
+deep-D (permits p) = omega arith
+deep-D (denies n) = omega arith
 
-  deeps : (ts : Policies ℕ) → AreSheets ts → depths ts ≤ wordss ts
-  deeps pnil s = omega arith
-  deeps (pcons t ts) s = let h = deep t (s .0) in let k = deeps ts (s .1) in omega (arith, h, k)
+mutual
+  deep : (t : Policy ℕ) → depth t ≤ words t
+  deep (permit o) = omega arith
+  deep deny = omega arith
+  deep (grant g c) = let h = deep-C c in omega (arith, h)
+  deep (all ts) = let h = deeps ts in omega (arith, h)
+  deep (any ts) = let h = deeps ts in omega (arith, h)
+  deep (orElse a b) = let h = deep a in let k = deep b in omega (arith, h, k)
+  deep (stored d) = deep-D d
+
+  deeps : (ts : Policies ℕ) → depths ts ≤ wordss ts
+  deeps pnil = omega arith
+  deeps (pcons t ts) = let h = deep t in let k = deeps ts in omega (arith, h, k)
 
 module _ (W : List ℕ) (d : ℕ) (enough : min 32 (length W) ≤ d) where
-  read-within : (t : Policy ℕ) (vs : List ℕ) → readSheet (productSets .value) W ≡ got t vs → OkSheet InRange (productSets .value) (writtenProducts .sound) W t vs → readPolicy (productSets .value) false d W ≡ got t []
-  read-within t vs e ok =
-      let h = deep t (ok .3) in
-      ap (readPolicy (productSets .value) false d) (sym (append-nil (encode (productSets .number) t) ∙ same-sheet (productSets .number) (productSets .value) (writtenProducts .only) W t vs e))
-      ∙ back-T InRange (productSets .number) (productSets .value) (writtenProducts .small) (writtenProducts .again) t false d [] (omega (arith, h, ok .1, ok .2)) (ok .0) (ok .3)
+  levels-within : (res : Bool) → length W ≤ 4096 → Holds (λ t rest. readPolicy (productSets .value) res d W ≡ got t rest) (readPolicy (productSets .value) res 32 W)
+  levels-within res few =
+      within (readPolicy (productSets .value) res 32 W) (ok-T InRange (productSets .value) (writtenProducts .sound) res Few 4095 (λ c h. h) 32 W few) (same-T (productSets .number) (productSets .value) (writtenProducts .only) res 32 W)
+    where
+      within : (q : Parsed (Policy ℕ)) → Holds (λ t rest. Form InRange t × (depth t ≤ 32) × (words t + length rest ≡ length W) × SheetIf res t) q → Holds (λ t rest. encode (productSets .number) t ++ rest ≡ W) q →
+          Holds (λ t rest. readPolicy (productSets .value) res d W ≡ got t rest) q
+      within (refuse n) h e = nothing
+      within (got t rest) h e =
+          let ok = h .it in
+          let few-words = deep t in
+          fine (ap (readPolicy (productSets .value) res d) (sym (e .it))
+          ∙ back-T InRange (productSets .number) (productSets .value) (writtenProducts .small) (writtenProducts .again) t res d rest (omega (arith, few-words, ok .1, ok .2)) (ok .0) (ok .3))
+
+  levels-by : (res few : Bool) → leb (length W) 4096 ≡ few → d ≤ 32 → Holds (λ t rest. readPolicy (productSets .value) res d W ≡ got t rest) (readPolicy (productSets .value) res 32 W)
+  levels-by res true is most = levels-within res (leb-true (length W) 4096 is)
+  levels-by res false is most =
+      let all-levels : d ≡ 32 = omega (arith, leb-false (length W) 4096 is) in
+      itself (readPolicy (productSets .value) res 32 W) (ap (λ n. readPolicy (productSets .value) res n W) all-levels)
+    where
+      itself : {p : Parsed (Policy ℕ)} (q : Parsed (Policy ℕ)) → p ≡ q → Holds (λ t rest. p ≡ got t rest) q
+      itself (refuse n) e = nothing
+      itself (got t rest) e = fine e
+
+  -- A tree that reads within 32 levels, in a sheet or a residual, reads alike within `d`.
+  pub few-levels-in : (res : Bool) → d ≤ 32 → Holds (λ t rest. readPolicy (productSets .value) res d W ≡ got t rest) (readPolicy (productSets .value) res 32 W)
+  few-levels-in res most = levels-by res (leb (length W) 4096) refl most
 
   pub few-levels : Holds (λ t vs. readPolicy (productSets .value) false d W ≡ got t []) (readSheet (productSets .value) W)
-  few-levels = within (readSheet (productSets .value) W) refl (ok-sheet InRange (productSets .value) (writtenProducts .sound) W)
+  few-levels = within (readSheet (productSets .value) W) (ok-sheet InRange (productSets .value) (writtenProducts .sound) W) (sheet-tree W)
     where
-      within : (q : Parsed (Policy ℕ)) → readSheet (productSets .value) W ≡ q → Holds (OkSheet InRange (productSets .value) (writtenProducts .sound) W) q → Holds (λ t vs. readPolicy (productSets .value) false d W ≡ got t []) q
-      within (refuse n) e h = nothing
-      within (got t vs) e h = fine (read-within t vs e (h .it))
+      within : (q : Parsed (Policy ℕ)) → Holds (OkSheet InRange (productSets .value) (writtenProducts .sound) W) q → Holds (λ t vs. readPolicy (productSets .value) false 32 W ≡ got t []) q →
+          Holds (λ t vs. readPolicy (productSets .value) false d W ≡ got t []) q
+      within (refuse n) h e = nothing
+      within (got t vs) h e = let ok = h .it in fine (held-at (levels-within false (omega (arith, ok .2, ok .4))) (e .it))

@@ -27,9 +27,13 @@ pub fn put_record(
     named: &mut [u16],
     out: &mut [u32],
 ) -> Answer
-    requires { ⌜ (decision .count ≤ 64) × (64 ≤ length (now buf)) × (length (now words) ≤ length (now named)) × (min (2 * length (now words)) mostListed ≤ length (now named)) × (count ≤ length (now entries)) × (length (now entries) ≤ 1024) ⌝ }
+    requires { ⌜ (decision .count ≤ 64) × (64 ≤ length (now buf)) × (length (now words) ≤ length (now named)) × (min (2 * length (now words)) mostListed ≤ length (now named)) × (length (now entries) ≤ 1024) ⌝ }
     ensures { λ r. ⌜ Put (now (words .entry)) (tableOf (now (facts .entry))) (now (buf .entry)) decision (now (entries .entry)) count (now (out .entry)) (now (out .exit)) r ⌝ }
 {
+    // No walk leaves more in use than it was lent, but of words that don't read none says so.
+    if entries.len() < count {
+        return Answer::Refused(11);
+    }
     let held = decision::obligations(words, decision, buf);
     let facts_named = clause::clause_facts(words, decision.clause, facts, named);
     if facts_named > 4095 {
@@ -55,27 +59,27 @@ pub fn put_record(
 // A sheet has at most so many levels.
 const LEVELS: usize = 32;
 
-// Decides a sheet that was checked, of at most `depth` levels: a sheet of few words has no more levels than words. `buf` is lent for united
-// obligations, and `named` for the facts of the clause that decides.
+// Decides a sheet that was checked, of at most `depth` levels: a sheet of few words has no more levels than words, and names no more facts. Lent are
+// `entries` for the facts that are consulted, `buf` for united obligations, and `named` for the facts of the clause that decides.
 fn decide_with(
     sheet: &[u32],
     facts: &[u8],
     depth: usize,
+    entries: &mut [u16],
     buf: &mut [u8],
     named: &mut [u16],
     out: &mut [u32],
 ) -> Answer
-    requires { ⌜ (length (now sheet) ≤ 4096) × (depth ≤ 32) × (min 32 (length (now sheet)) ≤ depth) × (64 * (depth + 1) ≤ length (now buf)) × (length (now sheet) ≤ length (now named)) × (min (2 * length (now sheet)) mostListed ≤ length (now named)) ⌝ }
+    requires { ⌜ (length (now sheet) ≤ 4096) × (depth ≤ 32) × (min 32 (length (now sheet)) ≤ depth) × (64 * (depth + 1) ≤ length (now buf)) × (length (now sheet) ≤ length (now named)) × (min (2 * length (now sheet)) mostListed ≤ length (now named)) × (min 1024 (length (now sheet)) ≤ length (now entries)) × (length (now entries) ≤ 1024) ⌝ }
     ensures { λ r. ⌜ Decides (now (sheet .entry)) (tableOf (now (facts .entry))) (now (out .entry)) (now (out .exit)) r ⌝ }
 {
-    let mut entries = [0u16; 1024];
-    let mut seen = [0u8; 1024];
-    let eval = evaluate::eval_policy(sheet, 0, depth, facts, &mut entries, &mut seen, 0, buf);
+    let mut seen = [0u64; 16];
+    let eval = evaluate::eval_policy(sheet, 0, depth, facts, entries, &mut seen, 0, buf);
     put_record(
         sheet,
         eval.decision,
         facts,
-        &entries,
+        entries,
         eval.count,
         buf,
         named,
@@ -88,9 +92,10 @@ fn decide_few(sheet: &[u32], facts: &[u8], out: &mut [u32]) -> Answer
     requires { ⌜ length (now sheet) ≤ 7 ⌝ }
     ensures { λ r. ⌜ Decides (now (sheet .entry)) (tableOf (now (facts .entry))) (now (out .entry)) (now (out .exit)) r ⌝ }
 {
+    let mut entries = [0u16; 8];
     let mut buf = [0u8; 512];
     let mut named = [0u16; 16];
-    decide_with(sheet, facts, 7, &mut buf, &mut named, out)
+    decide_with(sheet, facts, 7, &mut entries, &mut buf, &mut named, out)
 }
 
 // The same of a small sheet.
@@ -98,9 +103,18 @@ fn decide_small(sheet: &[u32], facts: &[u8], out: &mut [u32]) -> Answer
     requires { ⌜ length (now sheet) ≤ 64 ⌝ }
     ensures { λ r. ⌜ Decides (now (sheet .entry)) (tableOf (now (facts .entry))) (now (out .entry)) (now (out .exit)) r ⌝ }
 {
+    let mut entries = [0u16; 64];
     let mut buf = [0u8; 2112];
     let mut named = [0u16; 128];
-    decide_with(sheet, facts, LEVELS, &mut buf, &mut named, out)
+    decide_with(
+        sheet,
+        facts,
+        LEVELS,
+        &mut entries,
+        &mut buf,
+        &mut named,
+        out,
+    )
 }
 
 // The same of any sheet.
@@ -114,9 +128,18 @@ fn decide(sheet: &[u32], facts: &[u8], out: &mut [u32]) -> Answer
     if sheet.len() <= 64 {
         return decide_small(sheet, facts, out);
     }
+    let mut entries = [0u16; 1024];
     let mut buf = [0u8; 2112];
     let mut named = [0u16; 4096];
-    decide_with(sheet, facts, LEVELS, &mut buf, &mut named, out)
+    decide_with(
+        sheet,
+        facts,
+        LEVELS,
+        &mut entries,
+        &mut buf,
+        &mut named,
+        out,
+    )
 }
 
 // Decides a sheet with a known table.

@@ -3,51 +3,61 @@ use mathlib.Core.Path.{_≡_, refl, sym, _∙_, ap}
 use mathlib.Core.Bool.{true}
 use mathlib.Core.Option.{none}
 use mathlib.Core.List.{List, []}
-use Prim.Native.Nat.{ℕ, _+_, _≤_}
+use Prim.Native.Nat.{ℕ, _+_, _*_, _≤_, min}
 use native.Mathlib.Omega.{arith}
-use lib.ListN.{length, drop, replicate}
+use lib.ListN.{length, drop, length-drop}
 use lib.Seq.{drop-drop}
-use Rattle.model.specs.Facts.{Table, factCount, tableOf, knownFacts, tableFault}
+use Rattle.model.specs.Facts.{Table, tableOf, knownFacts, tableFault}
 use Rattle.model.specs.Outcome.{productSets}
 use Rattle.model.specs.Decision.{Decision}
+use Rattle.model.specs.Policy.{Policy}
 use Rattle.model.specs.Partial.{ReducedPolicy, resolved, pending}
-use Rattle.model.specs.Consulted.{Consulted, once}
+use Rattle.model.specs.Consulted.{Consulted, once, read}
 use Rattle.model.specs.Record.{Record, completedFrom}
 use Rattle.model.specs.Writing.{encode, leadKind}
 use Rattle.model.specs.Reading.{got, readPolicy, readRecord}
 use Rattle.model.specs.Calls as model
 use Rattle.laws.specs.Size.{pairs, words}
+use Rattle.laws.specs.Form.{Free}
 use Rattle.laws.specs.Products.{InRange, writtenProducts}
-use Rattle.laws.specs.ReadForm.{ok-record}
+use Rattle.laws.specs.ReadForm.{OkRecord, ok-record}
 use Rattle.laws.specs.Canon.{same-record}
 use Rattle.policy_model.specs.Answers.{leadOf, recordLead}
 use Rattle.policy_model.specs.declared.RecordCheck.the-variants.{Pending}
 use Rattle.policy_model.proofs.Records.{record-parts, lead-is}
-use Rattle.condition.specs.Listing.{Lent, lent, unseen, Room, Listed}
-use Rattle.condition.proofs.Listing.{unseen-none}
+use Rattle.staging.specs.Entries.{read-fits}
+use Rattle.condition.specs.Listing.{Lent, Listed}
 use Rattle.evaluate.specs.declared.PolicyEval.{PolicyEval}
 use Rattle.evaluate.specs.Evaluating.{EvaluatesP}
 use Rattle.evaluate.proofs.Nodes.{held-at}
 use Rattle.calls.specs.declared.Answer.{Answer}
 use Rattle.calls.specs.Answers.{Answered, Put}
 use Rattle.calls.proofs.Deciding.{decided-after}
+use Rattle.calls.proofs.Shallow.{few-levels-in}
 use Rattle.completion.specs.Answers.{LoadsConsulted, Completes}
 use Rattle.completion.proofs.Records.{on-read, pending-answered}
 
-pub room-after : (count : ℕ) (entries seen : List ℕ) → length entries ≡ 1024 → length seen ≡ 1024 → count + unseen seen ≡ 0 + unseen (replicate factCount 0) → Room (lent count entries seen)
-room-after count entries seen e f k = record { flags = f; enough = omega (arith, unseen-none factCount) }
+-- The entries of a record and the facts that its tree reads are no more than two for each of its words, nor more than 1,024.
+record-fits : (W : List ℕ) (T : Table) (room : ℕ) (t : Policy ℕ) (log : Consulted) → OkRecord InRange (productSets .value) (writtenProducts .sound) (length W) (record { body = pending t; log = log }) →
+    min 1024 (2 * length W) ≤ room → length (read productSets T t (once log)) ≤ room
+record-fits W T room t log ok h = omega (arith, read-fits productSets T InRange Free t (ok .form) log (ok .entries), ok .long)
 
-module _ {W : List ℕ} {count at : ℕ} {T : Table} {s u : Lent} {r : PolicyEval} {t : Lent} {buf before after : List ℕ} {a : Answer}
-    (l : LoadsConsulted W count s u) (none-listed : Listed [] s) (e : EvaluatesP T W at 32 u r t buf) (w : Put W T buf (r .decision) (t .entries) (t .count) before after a) where
+module _ {W : List ℕ} {count at depth : ℕ} {T : Table} {s u : Lent} {r : PolicyEval} {t : Lent} {buf before after : List ℕ} {a : Answer}
+    (l : LoadsConsulted W count s u) (none-listed : Listed [] s) (deep : depth ≤ 32) (levels : min 32 (length W) ≤ depth) (enough : min 1024 (2 * length W) ≤ length (s .entries))
+    (e : EvaluatesP T W at depth u r t buf) (w : Put W T buf (r .decision) (t .entries) (t .count) before after a) where
   tree-decided : (body : ReducedPolicy ℕ) (log : Consulted) (vs : List ℕ) → readRecord (productSets .value) W ≡ got (record { body = body; log = log }) vs →
       15 ≡ leadKind (productSets .number) body → count ≡ length log → at ≡ 1 + pairs log → Answered (model.write productSets (length before) (completedFrom productSets T body log)) before after a
   tree-decided (resolved d) log vs q k c p = let z : ⊥ = omega arith in absurd z
   tree-decided (pending t) log vs q k c p =
-      let there : readPolicy (productSets .value) true 32 (drop at W) ≡ got t [] =
+      let all-levels : readPolicy (productSets .value) true 32 (drop at W) ≡ got t [] =
       ap (readPolicy (productSets .value) true 32) (ap (λ n. drop n W) p ∙ sym (drop-drop (pairs log) 1 W)) ∙ held-at (record-parts W) q .0 .tree-read in
       let same = same-record (productSets .number) (productSets .value) (writtenProducts .only) W (record { body = pending t; log = log }) vs q in
       let ok = held-at (ok-record InRange (productSets .value) (writtenProducts .sound) W) q in
-      decided-after t (at + words t) (once log) (held-at (e .says true) there) (l .log log (encode (productSets .number) t) (ok .entries) c (ap (drop 1) same) .lists [] none-listed) w
+      let there = held-at (few-levels-in (drop at W) depth (omega (arith, length-drop at W)) true deep) all-levels in
+      let loaded = l .log log (encode (productSets .number) t) (ok .entries) c (ap (drop 1) same) in
+      let fits = record-fits W T (length (s .entries)) t log ok enough in
+      let answer = held-at (e .says true) there in
+      decided-after t (at + words t) (once log) answer (loaded .lists [] none-listed (omega (arith, answer .log .grows (once log), fits))) (omega (arith, loaded .same-room, fits)) w
 
   pub completes : Completes W count at T before after a
   completes =

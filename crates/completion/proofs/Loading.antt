@@ -13,7 +13,7 @@ use Rattle.model.specs.Writing.{entryBits, entryField}
 use Rattle.laws.specs.Lengths.{length-pack}
 use Rattle.laws.specs.ReadForm.{Named}
 use Rattle.packing.specs.FieldAt.{fieldAt, entry-field}
-use Rattle.condition.specs.Listing.{entryOf, Lent, most, Consults, Recorded}
+use Rattle.condition.specs.Listing.{entryOf, Lent, Consults, Recorded}
 use Rattle.condition.proofs.Listing.{consults-none, consults-then, consults-as}
 use Rattle.completion.specs.Answers.{LoadsConsulted}
 
@@ -49,14 +49,13 @@ once-end l (x ∷ es) e = once-end (consult l (x .fact) (x .seen)) es e
 -- The first i entries are listed.
 pub record Loading (words : List ℕ) (count : ℕ) (s t : Lent) (i : ℕ) : Type 0 where
   pub within : i ≤ count
-  pub room : most t ≡ most s
   pub entries-long : length (t .entries) ≡ length (s .entries)
   pub seen-long : length (t .seen) ≡ length (s .seen)
   pub log : (es : Consulted) (rest : List ℕ) → Named es → count ≡ length es → pack entryBits (map entryField es) ++ rest ≡ drop 1 words → Consults (λ l. onceFrom l (take i es)) s t
 
 module _ (words : List ℕ) (count : ℕ) (s : Lent) where
   pub load-none : Loading words count s s 0
-  load-none = record { within = omega arith; room = refl; entries-long = refl; seen-long = refl; log = λ es rest n e were. consults-none }
+  load-none = record { within = omega arith; entries-long = refl; seen-long = refl; log = λ es rest n e were. consults-none }
 
   entry-listed : (t u : Lent) (i b f : ℕ) (p : Presence) (es : Consulted) → Named es → i < length es → b ≡ getD (map entryField es) i 0 → f ≡ b % 1024 → p ≡ presence (b / 16384) →
       Recorded f p t u → Consults (λ l. onceFrom l (take i es)) s t → Consults (λ l. onceFrom l (take (i + 1) es)) s u
@@ -76,7 +75,6 @@ module _ (words : List ℕ) (count : ℕ) (s : Lent) where
   load-more t u i b f p h k eb ef ep r le ls =
       record {
         within = omega arith;
-        room = r .room ∙ k .room;
         entries-long = le ∙ k .entries-long;
         seen-long = ls ∙ k .seen-long;
         log = λ es rest n c were.
@@ -87,7 +85,6 @@ module _ (words : List ℕ) (count : ℕ) (s : Lent) where
   pub load-all : (t : Lent) (i : ℕ) → count ≤ i → Loading words count s t i → LoadsConsulted words count s t
   load-all t i h k =
       record {
-        room = k .room;
         log = λ es rest n c were. consults-as (λ l. ap (onceFrom l) (sym (take-all i es (omega arith)))) (k .log es rest n c were);
       }
 
@@ -95,7 +92,6 @@ module _ (words : List ℕ) (count : ℕ) (s : Lent) where
   pub load-cut : (t : Lent) (i : ℕ) → i < count → length words ≤ 1 + i / 2 → Loading words count s t i → LoadsConsulted words count s t
   load-cut t i h short k =
       record {
-        room = k .room;
         log = λ es rest n c were.
             let long : length (pack entryBits (map entryField es)) ≡ (length es + 1) / 2 = length-pack entryBits (map entryField es) ∙ ap (λ m. (m + 1) / 2) (length-map es entryField) in
             let z : ⊥ = omega (arith, long, ap length were, length-append (pack entryBits (map entryField es)) rest, length-drop 1 words) in

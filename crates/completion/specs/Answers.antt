@@ -16,13 +16,12 @@ use Rattle.model.specs.Calls as model
 use Rattle.laws.specs.ReadForm.{Named}
 use Rattle.policy_model.specs.Answers.{recordLead, leadOf}
 use Rattle.policy_model.specs.declared.RecordCheck.the-variants.{Pending}
-use Rattle.condition.specs.Listing.{Lent, most, Consults}
+use Rattle.condition.specs.Listing.{Lent, Consults}
 use Rattle.calls.specs.declared.Answer.{Answer}
 use Rattle.calls.specs.Answers.{Answered}
 
 -- Where `count` entries stand after the first word, they were listed, once each, the first one kept.
 pub record LoadsConsulted (words : List ℕ) (count : ℕ) (s t : Lent) : Type 0 where
-  pub room : most t ≡ most s
   pub log : (es : Consulted) (rest : List ℕ) → Named es → count ≡ length es → pack entryBits (map entryField es) ++ rest ≡ drop 1 words → Consults (λ l. onceFrom l es) s t
 
 -- The words as they stand; 11 when the output is shorter.

@@ -4,14 +4,14 @@ use facts::Presence;
 use facts::TableFault;
 use policy_model::RecordCheck;
 ghost use mathlib.Core.Path.{_≡_};
-ghost use Prim.Native.Nat.{_*_, _/_, _≤_, min};
+ghost use Prim.Native.Nat.{_+_, _*_, _/_, _≤_, min};
 ghost use lib.ListN.{length};
 ghost use Rattle.model.specs.Facts.{presence, tableOf};
 ghost use Rattle.model.specs.Outcome.{productSets};
 ghost use Rattle.model.specs.Writing.{mostListed};
 ghost use Rattle.model.specs.Calls.{completeResidual};
 ghost use Rattle.facts.specs.Answers.{presenceOf};
-ghost use Rattle.condition.specs.Listing.{lent, Room};
+ghost use Rattle.condition.specs.Listing.{lent};
 ghost use Rattle.calls.specs.Answers.{Answered};
 ghost use Rattle.completion.specs.Answers.{LoadsConsulted, copied, Completes};
 
@@ -31,9 +31,8 @@ pub fn load_consulted(
     words: &[u32],
     consulted: usize,
     entries: &mut [u16],
-    seen: &mut [u8],
+    seen: &mut [u64],
 ) -> usize
-    requires { ⌜ Room (lent 0 (now entries) (now seen)) ⌝ }
     ensures { λ r. ⌜ LoadsConsulted (now (words .entry)) consulted (lent 0 (now (entries .entry)) (now (seen .entry))) (lent r (now (entries .exit)) (now (seen .exit))) ⌝ }
 {
     let mut count = 0;
@@ -65,46 +64,68 @@ pub fn copy_record(words: &[u32], out: &mut [u32]) -> Answer
     Answer::Written(packing::copy_words(words, 0, words.len(), out))
 }
 
-// Completes a Pending record that was checked: its entries come first, and then its tree is decided. `named` is lent for the facts of the clause that
-// decides.
+// A tree has at most so many levels.
+const LEVELS: usize = 32;
+
+// Completes a Pending record that was checked, of at most `depth` levels: its entries come first, and then its tree is decided. Lent are `entries` for the
+// facts that are consulted, two for a word at most, `buf` for united obligations, and `named` for the facts of the clause that decides.
 fn complete_with(
     words: &[u32],
     consulted: usize,
     tree: usize,
     facts: &[u8],
+    depth: usize,
+    entries: &mut [u16],
+    buf: &mut [u8],
     named: &mut [u16],
     out: &mut [u32],
 ) -> Answer
-    requires { ⌜ (length (now words) ≤ 16384) × (length (now words) ≤ length (now named)) × (min (2 * length (now words)) mostListed ≤ length (now named)) ⌝ }
+    requires { ⌜ (length (now words) ≤ 16384) × (depth ≤ 32) × (min 32 (length (now words)) ≤ depth) × (64 * (depth + 1) ≤ length (now buf)) × (length (now words) ≤ length (now named)) × (min (2 * length (now words)) mostListed ≤ length (now named)) × (min 1024 (2 * length (now words)) ≤ length (now entries)) × (length (now entries) ≤ 1024) ⌝ }
     ensures { λ r. ⌜ Completes (now (words .entry)) consulted tree (tableOf (now (facts .entry))) (now (out .entry)) (now (out .exit)) r ⌝ }
 {
-    let mut entries = [0u16; 1024];
-    let mut seen = [0u8; 1024];
-    let mut buf = [0u8; 2112];
-    let count = load_consulted(words, consulted, &mut entries, &mut seen);
-    let eval = evaluate::eval_policy(
-        words,
-        tree,
-        32,
-        facts,
-        &mut entries,
-        &mut seen,
-        count,
-        &mut buf,
-    );
+    let mut seen = [0u64; 16];
+    let count = load_consulted(words, consulted, entries, &mut seen);
+    let eval = evaluate::eval_policy(words, tree, depth, facts, entries, &mut seen, count, buf);
     calls::put_record(
         words,
         eval.decision,
         facts,
-        &entries,
+        entries,
         eval.count,
-        &mut buf,
+        buf,
         named,
         out,
     )
 }
 
-// The same of a small record, with a short list: to clear a long one would take longer than to decide.
+// The same of a record of few words, with short lists: to clear long ones would take longer than to decide.
+fn complete_few(
+    words: &[u32],
+    consulted: usize,
+    tree: usize,
+    facts: &[u8],
+    out: &mut [u32],
+) -> Answer
+    requires { ⌜ length (now words) ≤ 7 ⌝ }
+    ensures { λ r. ⌜ Completes (now (words .entry)) consulted tree (tableOf (now (facts .entry))) (now (out .entry)) (now (out .exit)) r ⌝ }
+{
+    let mut entries = [0u16; 16];
+    let mut buf = [0u8; 512];
+    let mut named = [0u16; 16];
+    complete_with(
+        words,
+        consulted,
+        tree,
+        facts,
+        7,
+        &mut entries,
+        &mut buf,
+        &mut named,
+        out,
+    )
+}
+
+// The same of a small record.
 fn complete_small(
     words: &[u32],
     consulted: usize,
@@ -115,8 +136,20 @@ fn complete_small(
     requires { ⌜ length (now words) ≤ 64 ⌝ }
     ensures { λ r. ⌜ Completes (now (words .entry)) consulted tree (tableOf (now (facts .entry))) (now (out .entry)) (now (out .exit)) r ⌝ }
 {
+    let mut entries = [0u16; 128];
+    let mut buf = [0u8; 2112];
     let mut named = [0u16; 128];
-    complete_with(words, consulted, tree, facts, &mut named, out)
+    complete_with(
+        words,
+        consulted,
+        tree,
+        facts,
+        LEVELS,
+        &mut entries,
+        &mut buf,
+        &mut named,
+        out,
+    )
 }
 
 // The same of a middling one.
@@ -130,8 +163,20 @@ fn complete_middling(
     requires { ⌜ length (now words) ≤ 1024 ⌝ }
     ensures { λ r. ⌜ Completes (now (words .entry)) consulted tree (tableOf (now (facts .entry))) (now (out .entry)) (now (out .exit)) r ⌝ }
 {
+    let mut entries = [0u16; 1024];
+    let mut buf = [0u8; 2112];
     let mut named = [0u16; 2048];
-    complete_with(words, consulted, tree, facts, &mut named, out)
+    complete_with(
+        words,
+        consulted,
+        tree,
+        facts,
+        LEVELS,
+        &mut entries,
+        &mut buf,
+        &mut named,
+        out,
+    )
 }
 
 // The same of any.
@@ -145,14 +190,29 @@ fn complete_pending(
     requires { ⌜ length (now words) ≤ 16384 ⌝ }
     ensures { λ r. ⌜ Completes (now (words .entry)) consulted tree (tableOf (now (facts .entry))) (now (out .entry)) (now (out .exit)) r ⌝ }
 {
+    if words.len() <= 7 {
+        return complete_few(words, consulted, tree, facts, out);
+    }
     if words.len() <= 64 {
         return complete_small(words, consulted, tree, facts, out);
     }
     if words.len() <= 1024 {
         return complete_middling(words, consulted, tree, facts, out);
     }
+    let mut entries = [0u16; 1024];
+    let mut buf = [0u8; 2112];
     let mut named = [0u16; 16384];
-    complete_with(words, consulted, tree, facts, &mut named, out)
+    complete_with(
+        words,
+        consulted,
+        tree,
+        facts,
+        LEVELS,
+        &mut entries,
+        &mut buf,
+        &mut named,
+        out,
+    )
 }
 
 // Completes a record with a known table. A Resolved one comes back as it stands.

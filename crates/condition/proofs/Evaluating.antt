@@ -25,7 +25,7 @@ use Rattle.policy_model.specs.declared.ConditionHead.the-variants.{Always, Neve
 use Rattle.policy_model.specs.Heads.{conditionHeads, conditionHead, conditionNode}
 use Rattle.policy_model.specs.HeadLaws.{condition-node, condition-deep}
 use Rattle.condition.specs.declared.ConditionEval.{ConditionEval}
-use Rattle.condition.specs.Listing.{Lent, most, Recorded}
+use Rattle.condition.specs.Listing.{Lent, Recorded}
 use Rattle.condition.specs.Spanning.{Skipped}
 use Rattle.condition.proofs.Listing.{consults-as, consults-none, consults-then}
 use Rattle.condition.specs.Evaluating.{isSatisfied, Evaluated, EvaluatesC, EvaluatesHas, EvaluatesArms, listValue, listRead, EvaluatesList, EvaluatesAll, EvaluatesAny}
@@ -71,31 +71,29 @@ flip-value (unsatisfied fs) = refl
 -- ---- a condition that reads no fact
 module _ (T : Table) (words : List ℕ) (at depth : ℕ) (s : Lent) (r : ConditionEval) where
   pub eval-end : length words ≤ at → EvaluatesC T words at depth s r s
-  eval-end h = record { room = refl; says = no-words words at depth h }
+  eval-end h = record { says = no-words words at depth h }
 
   pub eval-limit : depth ≡ 0 → EvaluatesC T words at depth s r s
-  eval-limit z = record { room = refl; says = rw z (no-levels (drop at words)) }
+  eval-limit z = record { says = rw z (no-levels (drop at words)) }
 
   module _ (lt : at < length words) (deep : depth ≡ 0 → ⊥) where
     pub eval-bad-kind : BadKind ≡ conditionHead (getD words at 0) → EvaluatesC T words at depth s r s
     unfolding conditionNode
-    eval-bad-kind e = record { room = refl; says = by-head words at depth BadKind lt deep e nothing }
+    eval-bad-kind e = record { says = by-head words at depth BadKind lt deep e nothing }
 
     pub eval-bad-field : BadField ≡ conditionHead (getD words at 0) → EvaluatesC T words at depth s r s
     unfolding conditionNode
-    eval-bad-field e = record { room = refl; says = by-head words at depth BadField lt deep e nothing }
+    eval-bad-field e = record { says = by-head words at depth BadField lt deep e nothing }
 
     pub eval-always : Always ≡ conditionHead (getD words at 0) → r .satisfied ≡ true → r .next ≡ at + 1 → EvaluatesC T words at depth s r s
     unfolding conditionNode
     eval-always e v n = record {
-      room = refl;
       says = by-head words at depth Always lt deep e (fine (record { satisfied-is = v; next-is = n; log = consults-as (λ l. refl) consults-none }));
     }
 
     pub eval-never : Never ≡ conditionHead (getD words at 0) → r .satisfied ≡ false → r .next ≡ at + 1 → EvaluatesC T words at depth s r s
     unfolding conditionNode
     eval-never e v n = record {
-      room = refl;
       says = by-head words at depth Never lt deep e (fine (record { satisfied-is = v; next-is = n; log = consults-as (λ l. refl) consults-none }));
     }
 
@@ -103,13 +101,12 @@ module _ (T : Table) (words : List ℕ) (at depth : ℕ) (s : Lent) (r : Conditi
 module _ (T : Table) (words : List ℕ) (at depth : ℕ) (s : Lent) (r : ConditionEval) (t : Lent) (lt : at < length words) (deep : depth ≡ 0 → ⊥) where
   pub eval-has : (f : ℕ) → Has f ≡ conditionHead (getD words at 0) → EvaluatesHas T f (at + 1) s r t → EvaluatesC T words at depth s r t
   unfolding conditionNode
-  eval-has f e a = record { room = a .room; says = by-head words at depth (Has f) lt deep e (fine (a .says)) }
+  eval-has f e a = record { says = by-head words at depth (Has f) lt deep e (fine (a .says)) }
 
   pub eval-not : (a : ConditionEval) → Not ≡ conditionHead (getD words at 0) → r .satisfied ≡ not (a .satisfied) → r .next ≡ a .next →
       EvaluatesC T words (at + 1) (depth - 1) s a t → EvaluatesC T words at depth s r t
   unfolding conditionNode
   eval-not a e v n inner = record {
-    room = inner .room;
     says = by-head words at depth Not lt deep e
         (then-holds (readCondition (depth - 1) (drop (at + 1) words)) (λ c vs. got (notC c) vs) (inner .says) (λ c vs i. fine (record {
           satisfied-is = v ∙ ap not (i .satisfied-is) ∙ flip-value (evalCondition T c);
@@ -121,7 +118,6 @@ module _ (T : Table) (words : List ℕ) (at depth : ℕ) (s : Lent) (r : Conditi
   pub eval-all : (n : ℕ) → All n ≡ conditionHead (getD words at 0) → EvaluatesAll T words (at + 1) (depth - 1) n s r t → EvaluatesC T words at depth s r t
   unfolding conditionNode
   eval-all n e a = record {
-    room = a .room;
     says = by-head words at depth (All n) lt deep e
         (then-holds (many cnil ccons (readCondition (depth - 1)) n (drop (at + 1) words)) (λ cs vs. got (allC cs) vs) (a .says) (λ cs vs i.
         fine (record { satisfied-is = i .satisfied-is; next-is = omega (arith, i .next-is); log = i .log })));
@@ -130,7 +126,6 @@ module _ (T : Table) (words : List ℕ) (at depth : ℕ) (s : Lent) (r : Conditi
   pub eval-any : (n : ℕ) → Any n ≡ conditionHead (getD words at 0) → EvaluatesAny T words (at + 1) (depth - 1) n s r t → EvaluatesC T words at depth s r t
   unfolding conditionNode
   eval-any n e a = record {
-    room = a .room;
     says = by-head words at depth (Any n) lt deep e
         (then-holds (many cnil ccons (readCondition (depth - 1)) n (drop (at + 1) words)) (λ cs vs. got (anyC cs) vs) (a .says) (λ cs vs i.
         fine (record { satisfied-is = i .satisfied-is; next-is = omega (arith, i .next-is); log = i .log })));
@@ -141,7 +136,7 @@ pub has-answer : (T : Table) (f end : ℕ) (p : Presence) (s : Lent) (r : Condit
     r .satisfied ≡ isPresent (T f) → r .next ≡ end → p ≡ T f → Recorded f p s t → EvaluatesHas T f end s r t
 has-answer T f end p s r t v n e a =
     let read : Recorded f (T f) s t = subst (λ q. Recorded f q s t) e a in
-    record { room = a .room; says = record { satisfied-is = v ∙ has-value f (T f); next-is = n; log = consults-as (λ l. refl) (read .log) } }
+    record { says = record { satisfied-is = v ∙ has-value f (T f); next-is = n; log = consults-as (λ l. refl) (read .log) } }
 
 -- The fact of a Has is below 1,024.
 abbrev Below : ConditionHead → Type 0
@@ -182,7 +177,7 @@ has-word w e =
 
 pub eval-has-word : (T : Table) (words : List ℕ) (at depth : ℕ) (s : Lent) (r : ConditionEval) (t : Lent) → at < length words → getD words at 0 / 1024 ≡ 524288 →
     EvaluatesHas T (getD words at 0 % 1024) (at + 1) s r t → EvaluatesC T words at depth s r t
-eval-has-word T words at zero s r t lt e a = record { room = a .room; says = no-levels (drop at words) }
+eval-has-word T words at zero s r t lt e a = record { says = no-levels (drop at words) }
 eval-has-word T words at (suc depth) s r t lt e a = eval-has T words at (suc depth) s r t lt (λ z. omega arith) (getD words at 0 % 1024) (has-word (getD words at 0) e) a
 
 -- ---- arms
@@ -211,7 +206,6 @@ module _ (T : Table) (value others : Conditions → Bool) (read readOn : Conditi
       ((c : Condition) (cs : Conditions) → a .satisfied ≡ isSatisfied (evalCondition T c) → LeavesTo T value others read readOn c cs) →
       EvaluatesArms others readOn words (a .next) depth (arms - 1) m r t → EvaluatesArms value read words at depth arms s r t
   arm-first at arms f first v rest = record {
-    room = rest .room ∙ first .room;
     says = rw (arms-more (readCondition depth) arms (drop at words) f)
         (then-holds (readCondition depth (drop at words)) (λ c vs. next (many cnil ccons (readCondition depth) (arms - 1) vs) (λ cs us. got (ccons c cs) us))
         (both-hold (readCondition depth (drop at words)) (first .says) (leaves depth (drop at words))) (λ c vs h.
@@ -225,14 +219,12 @@ module _ (T : Table) (value others : Conditions → Bool) (read readOn : Conditi
 pub arms-none : (value : Conditions → Bool) (read : Conditions → Consulted → Consulted) (words : List ℕ) (at depth arms : ℕ) (s : Lent) (r : ConditionEval) →
     arms ≡ 0 → r .satisfied ≡ value cnil → r .next ≡ at → ((l : Consulted) → read cnil l ≡ l) → EvaluatesArms value read words at depth arms s r s
 arms-none value read words at depth arms s r z v n e = record {
-  room = refl;
   says = rw z (fine (record { satisfied-is = v; next-is = omega arith; log = consults-as e consults-none }));
 }
 
 -- Arms that are passed over.
 pub arms-skipped : (words : List ℕ) (at depth arms : ℕ) (s : Lent) (r : ConditionEval) → Skipped words at arms (r .next) → EvaluatesArms (λ _. r .satisfied) (λ _ l. l) words at depth arms s r s
 arms-skipped words at depth arms s r k = record {
-  room = refl;
   says = weaker (many cnil ccons (readCondition depth) arms (drop at words)) (λ cs rest e.
       record { satisfied-is = refl; next-is = e; log = consults-none }) (k .ends depth);
 }
@@ -268,7 +260,6 @@ some-arms p arms ws f = rw (arms-more p arms ws f)
 pub all-with-arms : (T : Table) (words : List ℕ) (at depth arms : ℕ) (s : Lent) (r : ConditionEval) (t : Lent) → (arms ≡ 0 → ⊥) →
     EvaluatesList false T words at depth arms s r t → EvaluatesAll T words at depth arms s r t
 all-with-arms T words at depth arms s r t f a = record {
-  room = a .room;
   says = weaker (many cnil ccons (readCondition depth) arms (drop at words))
       (λ cs rest h. record { satisfied-is = h .0 .satisfied-is ∙ sym (ap isSatisfied (h .1 (unsatisfied []) (evalConditionAll T cs))); next-is = h .0 .next-is; log = consults-as (λ l. refl) (h .0 .log) })
       (both-hold (many cnil ccons (readCondition depth) arms (drop at words)) (a .says) (some-arms (readCondition depth) arms (drop at words) f));
@@ -328,7 +319,6 @@ module _ (T : Table) where
   pub any-arms : (words : List ℕ) (at depth arms : ℕ) (s : Lent) (r : ConditionEval) (t : Lent) →
       EvaluatesList true T words at depth arms s r t → EvaluatesAny T words at depth arms s r t
   any-arms words at depth arms s r t a = record {
-    room = a .room;
     says = weaker (many cnil ccons (readCondition depth) arms (drop at words))
         (λ cs rest h. record { satisfied-is = h .satisfied-is; next-is = h .next-is; log = consults-as (λ l. refl) (h .log) }) (a .says);
   }
@@ -341,7 +331,6 @@ list-end true T words at depth arms s r z v n = arms-none (listValue true T) (li
 
 -- ---- a loop over arms: what was lent is s, and is u now; what answers for the arms that are left answers for all
 pub record Going (Left Whole : ConditionEval → Lent → Type 0) (s u : Lent) : Type 0 where
-  pub room : most u ≡ most s
   pub entries-long : length (u .entries) ≡ length (s .entries)
   pub seen-long : length (u .seen) ≡ length (s .seen)
   pub goes : (r : ConditionEval) (t : Lent) → Left r t → Whole r t

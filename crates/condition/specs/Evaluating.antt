@@ -12,7 +12,7 @@ use Rattle.model.specs.Reading.{many, readCondition}
 use Rattle.laws.specs.FieldLaws.{Holds}
 use Rattle.laws.specs.Size.{wordsC, wordsCs}
 use Rattle.condition.specs.declared.ConditionEval.{ConditionEval}
-use Rattle.condition.specs.Listing.{Lent, most, Consults}
+use Rattle.condition.specs.Listing.{Lent, Consults}
 
 abbrev pub isSatisfied : model.ConditionEval → Bool
 isSatisfied (model.satisfied fs) = true
@@ -27,19 +27,16 @@ pub record Evaluated (value : Bool) (end : ℕ) (read : Consulted → Consulted)
   pub next-is : r .next ≡ end
   pub log : Consults read s t
 
--- The answer to a condition at `at`, of at most `depth` levels. Of words that don't read only the room is said.
+-- The answer to a condition at `at`, of at most `depth` levels. Of words that don't read nothing is said.
 pub record EvaluatesC (T : Table) (words : List ℕ) (at depth : ℕ) (s : Lent) (r : ConditionEval) (t : Lent) : Type 0 where
-  pub room : most t ≡ most s
   pub says : Holds (λ c rest. Evaluated (isSatisfied (evalCondition T c)) (at + wordsC c) (readC T c) s r t) (readCondition depth (drop at words))
 
 -- The same of a Has that ends at `end`.
 pub record EvaluatesHas (T : Table) (f end : ℕ) (s : Lent) (r : ConditionEval) (t : Lent) : Type 0 where
-  pub room : most t ≡ most s
   pub says : Evaluated (isSatisfied (evalCondition T (has f))) end (readC T (has f)) s r t
 
 -- The same of arms, for a list rule: the value that it has of them, and what it consults.
 pub record EvaluatesArms (value : Conditions → Bool) (read : Conditions → Consulted → Consulted) (words : List ℕ) (at depth arms : ℕ) (s : Lent) (r : ConditionEval) (t : Lent) : Type 0 where
-  pub room : most t ≡ most s
   pub says : Holds (λ cs rest. Evaluated (value cs) (at + wordsCs cs) (read cs) s r t) (many cnil ccons (readCondition depth) arms (drop at words))
 
 -- A list rule by the value that decides it, false for All and true for Any. It leaves the empty All to its caller.

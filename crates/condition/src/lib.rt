@@ -1,5 +1,5 @@
 // Conditions, after gatekeep's evaluate.rs: whether a condition is satisfied, with the facts that were consulted listed on the way.
-// The list is lent: `entries`, of which the first `count` are in use, and `seen`, a flag for each fact, 1 where it is listed.
+// The list is lent: `entries`, of which the first `count` are in use, and `seen`, the set of the facts that are listed.
 use consulted::Consulted;
 use facts::Presence;
 use policy_model::ConditionHead;
@@ -7,8 +7,9 @@ ghost use mathlib.Core.Path.{_≡_};
 ghost use Prim.Native.Nat.{_<_};
 ghost use Rattle.model.specs.Facts.{factCount, tableOf};
 ghost use Rattle.model.specs.Writing.{entryField};
+ghost use Rattle.model.specs.Required.{oneBit};
 ghost use Rattle.facts.specs.Answers.{presenceOf};
-ghost use Rattle.condition.specs.Listing.{entryOf, lent, Room, Recorded};
+ghost use Rattle.condition.specs.Listing.{entryOf, lent, Recorded};
 ghost use Rattle.condition.specs.Spanning.{armsOfWord, Skipped};
 ghost use Rattle.condition.specs.Evaluating.{answerOf, EvaluatesC, EvaluatesHas, EvaluatesList, EvaluatesAll, EvaluatesAny};
 
@@ -48,28 +49,41 @@ fn entry(fact: u32, presence: Presence) -> u16
     presence_bits(presence) + fact as u16
 }
 
-// Lists the fact with its presence, unless it is listed already, and returns how many entries are in use then.
+// The flag of a fact, as the consulted list takes it.
+fn flag(listed: bool) -> u8
+    ensures { λ r. ⌜ r ≡ oneBit listed ⌝ }
+{
+    if listed { 1 } else { 0 }
+}
+
+// Lists the fact with its presence, unless it is listed already or the entries are full, and returns how many are in use then.
 pub fn record(
     entries: &mut [u16],
-    seen: &mut [u8],
+    seen: &mut [u64],
     count: usize,
     fact: u32,
     presence: Presence,
 ) -> usize
-    requires { ⌜ Room (lent count (now entries) (now seen)) × (fact < factCount) ⌝ }
+    requires { ⌜ fact < factCount ⌝ }
     ensures { λ r. ⌜ Recorded fact (presenceOf presence) (lent count (now (entries .entry)) (now (seen .entry))) (lent r (now (entries .exit)) (now (seen .exit))) ⌝ }
 {
-    let at = fact as usize;
+    if entries.len() <= count {
+        return count;
+    }
     // Of the list before, its length is all that is asked.
     let before = Consulted {
         last: 0,
         length: count,
     };
-    let list = consulted::noted(before, seen[at], entry(fact, presence));
+    let list = consulted::noted(
+        before,
+        flag(fact_set::contains(seen, fact)),
+        entry(fact, presence),
+    );
     if list.length == count {
         return count;
     }
-    seen[at] = 1;
+    fact_set::insert(seen, fact);
     entries[count] = list.last;
     list.length
 }
@@ -112,10 +126,10 @@ fn eval_has(
     next: usize,
     facts: &[u8],
     entries: &mut [u16],
-    seen: &mut [u8],
+    seen: &mut [u64],
     count: usize,
 ) -> ConditionEval
-    requires { ⌜ Room (lent count (now entries) (now seen)) × (fact < factCount) ⌝ }
+    requires { ⌜ fact < factCount ⌝ }
     ensures { λ r. ⌜ EvaluatesHas (tableOf (now (facts .entry))) fact next (lent count (now (entries .entry)) (now (seen .entry))) r (lent (r .count) (now (entries .exit)) (now (seen .exit))) ⌝ }
 {
     let satisfied = facts::present(facts, fact);
@@ -131,10 +145,9 @@ pub fn eval_condition(
     depth: usize,
     facts: &[u8],
     entries: &mut [u16],
-    seen: &mut [u8],
+    seen: &mut [u64],
     count: usize,
 ) -> ConditionEval
-    requires { ⌜ Room (lent count (now entries) (now seen)) ⌝ }
     ensures { λ r. ⌜ EvaluatesC (tableOf (now (facts .entry))) (now (words .entry)) at depth (lent count (now (entries .entry)) (now (seen .entry))) r (lent (r .count) (now (entries .exit)) (now (seen .exit))) ⌝ }
 {
     if words.len() <= at {
@@ -171,10 +184,9 @@ fn eval_arm(
     depth: usize,
     facts: &[u8],
     entries: &mut [u16],
-    seen: &mut [u8],
+    seen: &mut [u64],
     count: usize,
 ) -> ConditionEval
-    requires { ⌜ Room (lent count (now entries) (now seen)) ⌝ }
     ensures { λ r. ⌜ EvaluatesC (tableOf (now (facts .entry))) (now (words .entry)) at depth (lent count (now (entries .entry)) (now (seen .entry))) r (lent (r .count) (now (entries .exit)) (now (seen .exit))) ⌝ }
 {
     if words.len() <= at {
@@ -197,10 +209,9 @@ fn eval_arms(
     stop: bool,
     facts: &[u8],
     entries: &mut [u16],
-    seen: &mut [u8],
+    seen: &mut [u64],
     count: usize,
 ) -> ConditionEval
-    requires { ⌜ Room (lent count (now entries) (now seen)) ⌝ }
     ensures { λ r. ⌜ EvaluatesList stop (tableOf (now (facts .entry))) (now (words .entry)) at depth arms (lent count (now (entries .entry)) (now (seen .entry))) r (lent (r .count) (now (entries .exit)) (now (seen .exit))) ⌝ }
 {
     let mut next = at;
@@ -226,10 +237,9 @@ fn eval_condition_all(
     arms: u32,
     facts: &[u8],
     entries: &mut [u16],
-    seen: &mut [u8],
+    seen: &mut [u64],
     count: usize,
 ) -> ConditionEval
-    requires { ⌜ Room (lent count (now entries) (now seen)) ⌝ }
     ensures { λ r. ⌜ EvaluatesAll (tableOf (now (facts .entry))) (now (words .entry)) at depth arms (lent count (now (entries .entry)) (now (seen .entry))) r (lent (r .count) (now (entries .exit)) (now (seen .exit))) ⌝ }
 {
     if arms == 0 {
@@ -246,10 +256,9 @@ fn eval_condition_any(
     arms: u32,
     facts: &[u8],
     entries: &mut [u16],
-    seen: &mut [u8],
+    seen: &mut [u64],
     count: usize,
 ) -> ConditionEval
-    requires { ⌜ Room (lent count (now entries) (now seen)) ⌝ }
     ensures { λ r. ⌜ EvaluatesAny (tableOf (now (facts .entry))) (now (words .entry)) at depth arms (lent count (now (entries .entry)) (now (seen .entry))) r (lent (r .count) (now (entries .exit)) (now (seen .exit))) ⌝ }
 {
     eval_arms(words, at, depth, arms, true, facts, entries, seen, count)

@@ -21,7 +21,7 @@ use Rattle.policy_model.specs.declared.PolicyHead.the-variants.{All, Any, OrEls
 use Rattle.policy_model.specs.Heads.{policyNode}
 use Rattle.policy_model.specs.Span.{Skipped}
 use Rattle.policy_model.proofs.Policies.{policy-leaves}
-use Rattle.condition.specs.Listing.{Lent, lent, most}
+use Rattle.condition.specs.Listing.{Lent}
 use Rattle.condition.proofs.Listing.{consults-none, consults-then, consults-as}
 use Rattle.decision.specs.declared.Decision.{Decision}
 use Rattle.decision.specs.Nodes.{clauseAt}
@@ -47,9 +47,8 @@ unfolding decisionOf
 decides-as W T buf d = decides-at (d .permit) W T buf d
 
 -- ---- arms
--- The answer for the arms that are left, given the decision so far and its buffer. Of arms that don't read only the room is said.
+-- The answer for the arms that are left, given the decision so far and its buffer. Of arms that don't read nothing is said.
 pub record ArmsLeft (value : Policies ℕ → Decided ℕ) (reads : Policies ℕ → Consulted → Consulted) (T : Table) (W : List ℕ) (sofar : Decision) (before : List ℕ) (at depth : ℕ) (arms : ℕ) (s : Lent) (r : PolicyEval) (t : Lent) (buf : List ℕ) : Type 0 where
-  pub room : most t ≡ most s
   pub few : r .decision .count ≤ 64
   pub says : Sound W before sofar →
       Holds (λ ps rest. Answers T W (value ps) (at + wordss ps) (reads ps) s r t buf) (many pnil pcons (readPolicy (productSets .value) true depth) arms (drop at W))
@@ -85,7 +84,6 @@ module _ (T : Table) (value others : Policies ℕ → Decided ℕ) (reads readOn
   arm-first at arms f first sound v rest =
       let one = readPolicy (productSets .value) true depth in
       record {
-        room = rest .room ∙ first .room;
         few = rest .few;
         says = λ z. rw (arms-more one arms (drop at W) f)
             (then-holds (one (drop at W)) (λ p vs. next (many pnil pcons one (arms - 1) vs) (λ ps us. got (pcons p ps) us))
@@ -101,7 +99,6 @@ pub arms-none : (T : Table) (value : Policies ℕ → Decided ℕ) (reads : Poli
     arms ≡ 0 → sofar .count ≤ 64 → decisionOf W T before sofar ≡ value pnil → ((l : Consulted) → reads pnil l ≡ l) →
     ArmsLeft value reads T W sofar before at depth arms s (evalOf sofar at count) s before
 arms-none T value reads W sofar before at depth arms count s z few v e = record {
-  room = refl;
   few = few;
   says = λ sound. rw z (fine (record { decision-is = v; sound = sound; next-is = omega arith; log = consults-as e consults-none }));
 }
@@ -116,7 +113,6 @@ pub arms-passed : (T : Table) (W : List ℕ) (d : Decision) (buf : List ℕ) (at
     ((depth : ℕ) (res : Bool) → Skipped wordss at (many pnil pcons (readPolicy (productSets .value) res depth) arms (drop at W)) next) →
     ArmsLeft (λ _. decisionOf W T buf d) (λ _ l. l) T W d buf at depth arms s (evalOf d next count) s buf
 arms-passed T W d buf at depth arms next count s few k = record {
-  room = refl;
   few = few;
   says = λ sound. weaker (many pnil pcons (readPolicy (productSets .value) true depth) arms (drop at W))
       (λ ps rest e. record { decision-is = refl; sound = sound; next-is = e; log = consults-none })
@@ -204,7 +200,6 @@ module _ (T : Table) (W : List ℕ) (at depth : ℕ) (n : ℕ) (s : Lent) (r : P
   pub all-node : ArmsLeft (allLeft T W (deniedAt none none) before) (readAll productSets T) T W (deniedAt none none) before (at + 1) depth n s r t buf → EvaluatesBy (All n) T W at depth s r t buf
   unfolding policyNode
   all-node a = record {
-    room = a .room;
     few = a .few;
     says = λ e. node-holds W at depth (All n) lt e
         (then-holds (many pnil pcons (readPolicy (productSets .value) true depth) n (drop (at + 1) W)) (λ ts vs. got (all ts) vs) (a .says no-arms) (λ ps rest h. fine (record {
@@ -218,7 +213,6 @@ module _ (T : Table) (W : List ℕ) (at depth : ℕ) (n : ℕ) (s : Lent) (r : P
   pub any-node : ArmsLeft (anyLeft T W false (deniedAt none none) before) (readAny productSets T) T W (deniedAt none none) before (at + 1) depth n s r t buf → EvaluatesBy (Any n) T W at depth s r t buf
   unfolding policyNode
   any-node a = record {
-    room = a .room;
     few = a .few;
     says = λ e. node-holds W at depth (Any n) lt e
         (then-holds (many pnil pcons (readPolicy (productSets .value) true depth) n (drop (at + 1) W)) (λ ts vs. got (any ts) vs) (a .says no-arms) (λ ps rest h. fine (record {
@@ -260,7 +254,6 @@ module _ (T : Table) (W : List ℕ) (at depth : ℕ) (s m : Lent) (a : PolicyEva
       ((depth : ℕ) (res : Bool) → Skipped wordss (a .next) (many pnil pcons (readPolicy (productSets .value) res depth) 1 (drop (a .next) W)) next) → EvaluatesBy OrElse T W at depth s (evalOf (a .decision) next (a .count)) m mid
   unfolding policyNode
   or-permits end q k = record {
-    room = first .room;
     few = first .few;
     says = λ e. node-holds W at depth OrElse lt e
         (then-holds (one (drop (at + 1) W)) (λ x vs. next (one vs) (λ y us. got (orElse x y) us))
@@ -279,7 +272,6 @@ module _ (T : Table) (W : List ℕ) (at depth : ℕ) (s m : Lent) (a : PolicyEva
   pub or-denies : (t : Lent) (b : PolicyEval) (buf : List ℕ) → a .decision .permit ≡ false → EvaluatesP T W (a .next) depth m b t buf → EvaluatesBy OrElse T W at depth s b t buf
   unfolding policyNode
   or-denies t b buf q second = record {
-    room = second .room ∙ first .room;
     few = second .few;
     says = λ e. node-holds W at depth OrElse lt e
         (then-holds (one (drop (at + 1) W)) (λ x vs. next (one vs) (λ y us. got (orElse x y) us))
@@ -297,7 +289,6 @@ module _ (T : Table) (W : List ℕ) (at depth : ℕ) (s m : Lent) (a : PolicyEva
 
 -- ---- a loop over arms: what was lent is s and buf₀, and is u and buf now; what answers for the arms that are left answers for all
 pub record Going (Left Whole : PolicyEval → Lent → List ℕ → Type 0) (s u : Lent) (sofar : Decision) (buf₀ buf : List ℕ) : Type 0 where
-  pub room : most u ≡ most s
   pub entries-long : length (u .entries) ≡ length (s .entries)
   pub seen-long : length (u .seen) ≡ length (s .seen)
   pub buf-long : length buf ≡ length buf₀

@@ -21,7 +21,7 @@ use Rattle.laws.specs.Size.{wordsC, words}
 use Rattle.policy_model.specs.declared.PolicyHead.{PolicyHead}
 use Rattle.policy_model.specs.declared.PolicyHead.the-variants.{Permit, Deny, Grant, PermitWithTrace, DenyWithTrace, BadKind, BadField}
 use Rattle.policy_model.specs.Heads.{policyHead, policyNode}
-use Rattle.policy_model.specs.HeadLaws.{policy-deep}
+use Rattle.policy_model.specs.HeadLaws.{policy-deep, permit-word}
 use Rattle.policy_model.proofs.Checking.{no-word}
 use Rattle.condition.specs.declared.ConditionEval.{ConditionEval}
 use Rattle.condition.specs.Listing.{Lent, lent}
@@ -54,7 +54,7 @@ one-level (suc depth) ws f h = rw sub-one at h
 -- ---- a policy by its head
 module _ (T : Table) (W : List ℕ) (at depth : ℕ) (s : Lent) (r : PolicyEval) (t : Lent) (buf : List ℕ) where
   pub by-head : (h : PolicyHead) → (depth ≡ 0 → ⊥) → h ≡ policyHead (getD W at 0) true → EvaluatesBy h T W at (depth - 1) s r t buf → EvaluatesP T W at depth s r t buf
-  by-head h f e a = record { room = a .room; few = a .few; says = in-sheet depth (drop at W) (one-level depth (drop at W) f (a .says e)) }
+  by-head h f e a = record { few = a .few; says = in-sheet depth (drop at W) (one-level depth (drop at W) f (a .says e)) }
 
 -- ---- words that don't read, and nodes without parts
 module _ (T : Table) (W : List ℕ) (at depth : ℕ) (next count : ℕ) (entries seen buf : List ℕ) where
@@ -69,27 +69,25 @@ module _ (T : Table) (W : List ℕ) (at depth : ℕ) (next count : ℕ) (entries
 
   pub eval-end : length W ≤ at → EvaluatesP T W at depth s stop s buf
   eval-end h = record {
-    room = refl;
     few = omega arith;
     says = λ res. rw (no-word W at h, nothing-there res depth) nothing;
   }
 
   pub eval-limit : depth ≡ 0 → EvaluatesP T W at depth s stop s buf
-  eval-limit z = record { room = refl; few = omega arith; says = λ res. rw z (no-levels res (drop at W)) }
+  eval-limit z = record { few = omega arith; says = λ res. rw z (no-levels res (drop at W)) }
 
   module _ (lt : at < length W) where
     pub eval-bad-kind : EvaluatesBy BadKind T W at depth s stop s buf
     unfolding policyNode
-    eval-bad-kind = record { room = refl; few = omega arith; says = λ e. node-holds W at depth BadKind lt e nothing }
+    eval-bad-kind = record { few = omega arith; says = λ e. node-holds W at depth BadKind lt e nothing }
 
     pub eval-bad-field : EvaluatesBy BadField T W at depth s stop s buf
     unfolding policyNode
-    eval-bad-field = record { room = refl; few = omega arith; says = λ e. node-holds W at depth BadField lt e nothing }
+    eval-bad-field = record { few = omega arith; says = λ e. node-holds W at depth BadField lt e nothing }
 
     pub eval-permit : (o : ℕ) → next ≡ at + 1 → EvaluatesBy (Permit o) T W at depth s (evalOf (permittedAt o none none 0) next count) s buf
     unfolding policyNode
     eval-permit o n = record {
-      room = refl;
       few = omega arith;
       says = λ e. node-holds W at depth (Permit o) lt e (fine (record {
         decision-is = as-permit W T buf (permittedAt o none none 0) refl ∙ ap permits (permitted-is W T buf o none (omega arith));
@@ -102,7 +100,6 @@ module _ (T : Table) (W : List ℕ) (at depth : ℕ) (next count : ℕ) (entries
     pub eval-deny : next ≡ at + 1 → EvaluatesBy Deny T W at depth s stop s buf
     unfolding policyNode
     eval-deny n = record {
-      room = refl;
       few = omega arith;
       says = λ e. node-holds W at depth Deny lt e (fine (record {
         decision-is = denied-is W T buf none (omega arith);
@@ -112,13 +109,20 @@ module _ (T : Table) (W : List ℕ) (at depth : ℕ) (next count : ℕ) (entries
       }));
     }
 
+-- A word that one division shows to be a Permit.
+pub eval-permit-word : (T : Table) (W : List ℕ) (at depth count : ℕ) (entries seen buf : List ℕ) → at < length W → getD W at 0 / 65536 ≡ 24576 →
+    EvaluatesP T W at depth (lent count entries seen) (evalOf (permittedAt (getD W at 0 % 65536) (length W) (length W) 0) (at + 1) count) (lent count entries seen) buf
+eval-permit-word T W at zero count entries seen buf lt e = record { few = omega arith; says = λ res. no-levels res (drop at W) }
+eval-permit-word T W at (suc depth) count entries seen buf lt e =
+    by-head T W at (suc depth) _ _ _ buf (Permit (getD W at 0 % 65536)) (λ z. omega arith) (permit-word (getD W at 0) true e)
+    (eval-permit T W at (suc depth - 1) (at + 1) count entries seen buf lt (getD W at 0 % 65536) refl)
+
 -- ---- a grant
 module _ (T : Table) (W : List ℕ) (at depth : ℕ) (hidden : Bool) (n o : ℕ) (lt : at < length W) (deep : depth < 32) where
   -- A grant that ends early.
   pub grant-short : (s : Lent) (r : PolicyEval) (buf : List ℕ) → r .decision .count ≤ 64 → length W - at < 2 + (n + 3) / 4 → EvaluatesBy (Grant hidden n o) T W at depth s r s buf
   unfolding policyNode
   grant-short s r buf few h = record {
-    room = refl;
     few = few;
     says = λ e. node-holds W at depth (Grant hidden n o) lt e
         (weaker _ (λ p rest g. absurd (omega (arith, g .fits, length-drop (at + 1) W))) (grant-reads depth hidden n o (drop (at + 1) W)));
@@ -166,7 +170,6 @@ module _ (T : Table) (W : List ℕ) (at depth : ℕ) (hidden : Bool) (n o : ℕ)
   module _ (a : ConditionEval) (s t : Lent) (buf : List ℕ) (c : EvaluatesC T W (at + (2 + (n + 3) / 4)) depth s a t) where
     pub grant-permits : a .satisfied ≡ true → EvaluatesBy (Grant hidden n o) T W at depth s (evalOf (permittedAt o at at 0) (a .next) (a .count)) t buf
     grant-permits v = record {
-      room = c .room;
       few = omega arith;
       says = λ e. weaker (readPolicy (productSets .value) true (suc depth) (drop at W)) (λ p rest g.
           let x = evalCondition T (g .inner) in
@@ -180,7 +183,6 @@ module _ (T : Table) (W : List ℕ) (at depth : ℕ) (hidden : Bool) (n o : ℕ)
 
     pub grant-denies : a .satisfied ≡ false → EvaluatesBy (Grant hidden n o) T W at depth s (evalOf (deniedAt at (length W)) (a .next) (a .count)) t buf
     grant-denies v = record {
-      room = c .room;
       few = omega arith;
       says = λ e. weaker (readPolicy (productSets .value) true (suc depth) (drop at W)) (λ p rest g.
           let x = evalCondition T (g .inner) in
@@ -203,7 +205,6 @@ module _ (T : Table) (W : List ℕ) (at depth : ℕ) (lt : at < length W) (deep 
         EvaluatesBy (PermitWithTrace n o) T W at depth s r s buf
     unfolding policyNode
     permit-short r few h = record {
-      room = refl;
       few = few;
       says = λ e. node-holds W at depth (PermitWithTrace n o) lt e
           (weaker _ (λ p rest g.
@@ -215,7 +216,6 @@ module _ (T : Table) (W : List ℕ) (at depth : ℕ) (lt : at < length W) (deep 
         EvaluatesBy (PermitWithTrace n o) T W at depth s (evalOf (permittedAt o at at 0) next count) s buf
     unfolding policyNode
     permit-stored next count i = record {
-      room = refl;
       few = omega arith;
       says = λ e. weaker (readPolicy (productSets .value) true (suc depth) (drop at W)) (λ p rest h.
           let g = h .1 in
@@ -234,7 +234,6 @@ module _ (T : Table) (W : List ℕ) (at depth : ℕ) (lt : at < length W) (deep 
     pub deny-short : (r : PolicyEval) → r .decision .count ≤ 64 → length W - at < 3 + (getD W (at + 2) 0 % 4096 + 1) / 2 → EvaluatesBy (DenyWithTrace hidden denied o) T W at depth s r s buf
     unfolding policyNode
     deny-short r few h = record {
-      room = refl;
       few = few;
       says = λ e. node-holds W at depth (DenyWithTrace hidden denied o) lt e
           (weaker _ (λ p rest g.
@@ -246,7 +245,6 @@ module _ (T : Table) (W : List ℕ) (at depth : ℕ) (lt : at < length W) (deep 
         EvaluatesBy (DenyWithTrace hidden denied o) T W at depth s (evalOf (deniedAt at (length W)) next count) s buf
     unfolding policyNode
     deny-stored next count i = record {
-      room = refl;
       few = omega arith;
       says = λ e. weaker (readPolicy (productSets .value) true (suc depth) (drop at W)) (λ p rest h.
           let g = h .1 in

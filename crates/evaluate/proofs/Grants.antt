@@ -81,7 +81,6 @@ grant-fields w hidden n o e = subst (Says w) (sym e) (head-says w)
 pub grant-by-word : {T : Table} {W : List ℕ} {at depth : ℕ} {s : Lent} {r : PolicyEval} {t : Lent} {buf : List ℕ} (hidden : Bool) (n o : ℕ) →
     EvaluatesBy (Grant hidden (obligationsAt W at) (outcomeAt W at)) T W at depth s r t buf → EvaluatesBy (Grant hidden n o) T W at depth s r t buf
 grant-by-word {W = W} {at} hidden n o a = record {
-  room = a .room;
   few = a .few;
   says = λ e. let f = grant-fields (getD W at 0) hidden n o e in a .says (sym (ap₂ (λ i j. Grant hidden i j) (f .0) (f .1)) ∙ e);
 }

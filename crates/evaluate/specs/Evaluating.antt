@@ -14,7 +14,7 @@ use Rattle.laws.specs.FieldLaws.{Holds}
 use Rattle.laws.specs.Size.{words}
 use Rattle.policy_model.specs.declared.PolicyHead.{PolicyHead}
 use Rattle.policy_model.specs.Heads.{policyHead}
-use Rattle.condition.specs.Listing.{Lent, most, Consults}
+use Rattle.condition.specs.Listing.{Lent, Consults}
 use Rattle.decision.specs.declared.Decision.{Decision}
 use Rattle.decision.specs.Meaning.{decisionOf, Sound}
 use Rattle.evaluate.specs.declared.PolicyEval.{PolicyEval}
@@ -30,15 +30,13 @@ pub record Answers (T : Table) (W : List ℕ) (D : Decided ℕ) (end : ℕ) (rea
   pub next-is : r .next ≡ end
   pub log : Consults reads s t
 
--- The answer to a policy at `at`, of at most `depth` levels, in a sheet or a residual. Of words that don't read only the room is said.
+-- The answer to a policy at `at`, of at most `depth` levels, in a sheet or a residual. Of words that don't read nothing is said.
 pub record EvaluatesP (T : Table) (W : List ℕ) (at depth : ℕ) (s : Lent) (r : PolicyEval) (t : Lent) (buf : List ℕ) : Type 0 where
-  pub room : most t ≡ most s
   pub few : r .decision .count ≤ 64
   pub says : (res : Bool) → Holds (λ p rest. Answers T W (evalPolicy productSets T p) (at + words p) (read productSets T p) s r t buf) (readPolicy (productSets .value) res depth (drop at W))
 
 -- The same where its first word has this head and `depth` levels are left for what stands below.
 pub record EvaluatesBy (h : PolicyHead) (T : Table) (W : List ℕ) (at depth : ℕ) (s : Lent) (r : PolicyEval) (t : Lent) (buf : List ℕ) : Type 0 where
-  pub room : most t ≡ most s
   pub few : r .decision .count ≤ 64
   pub says : h ≡ policyHead (getD W at 0) true →
       Holds (λ p rest. Answers T W (evalPolicy productSets T p) (at + words p) (read productSets T p) s r t buf) (readPolicy (productSets .value) true (suc depth) (drop at W))

@@ -1,5 +1,5 @@
 // Evaluation of policies, after gatekeep's evaluate.rs. A policy hands its arms to the list rule, and the list rule hands each arm back.
-// Lent down the walk: the consulted list (`entries`, of which the first `count` are in use, and `seen`, a flag for each fact), and `buf`,
+// Lent down the walk: the consulted list (`entries`, of which the first `count` are in use, and `seen`, the set of the facts in them), and `buf`,
 // 64 bytes for each level that is left and 64 more, where a list rule keeps united obligations at the front and lends the tail to its arms.
 // A sheet is read as a residual is: where nodes 12 and 13 don't stand, it makes no difference that they may.
 use decision::Decision;
@@ -11,7 +11,7 @@ ghost use Prim.Native.Nat.{ℕ, _+_, _*_, _≤_, _<_};
 ghost use lib.ListN.{length, drop};
 ghost use Rattle.model.specs.Facts.{Table, tableOf};
 ghost use Rattle.policy_model.specs.declared.PolicyHead.the-variants.{Grant, All, Any, OrElse, PermitWithTrace, DenyWithTrace};
-ghost use Rattle.condition.specs.Listing.{lent, Room};
+ghost use Rattle.condition.specs.Listing.{lent};
 ghost use Rattle.decision.specs.Meaning.{deniedAt, permittedAt};
 ghost use Rattle.evaluate.specs.Folding.{joinNext};
 ghost use Rattle.evaluate.specs.Evaluating.{evalOf, EvaluatesP, EvaluatesBy, Met, Folds};
@@ -89,10 +89,10 @@ fn eval_grant(
     depth: usize,
     facts: &[u8],
     entries: &mut [u16],
-    seen: &mut [u8],
+    seen: &mut [u64],
     count: usize,
 ) -> PolicyEval
-    requires { ⌜ Room (lent count (now entries) (now seen)) × (at < length (now words)) × (depth < 32) ⌝ }
+    requires { ⌜ (at < length (now words)) × (depth < 32) ⌝ }
     ensures { λ r. ⌜ ((hidden : Bool) (obligations outcome : ℕ) (buf : List ℕ) → EvaluatesBy (Grant hidden obligations outcome) (tableOf (now (facts .entry))) (now (words .entry)) at depth (lent count (now (entries .entry)) (now (seen .entry))) r (lent (r .count) (now (entries .exit)) (now (seen .exit))) buf) ⌝ }
 {
     let none = words.len();
@@ -183,11 +183,11 @@ pub fn eval_policy(
     depth: usize,
     facts: &[u8],
     entries: &mut [u16],
-    seen: &mut [u8],
+    seen: &mut [u64],
     count: usize,
     buf: &mut [u8],
 ) -> PolicyEval
-    requires { ⌜ Room (lent count (now entries) (now seen)) × (depth ≤ 32) × (64 * (depth + 1) ≤ length (now buf)) × (length (now words) ≤ 16384) ⌝ }
+    requires { ⌜ (depth ≤ 32) × (64 * (depth + 1) ≤ length (now buf)) × (length (now words) ≤ 16384) ⌝ }
     ensures { λ r. ⌜ EvaluatesP (tableOf (now (facts .entry))) (now (words .entry)) at depth (lent count (now (entries .entry)) (now (seen .entry))) r (lent (r .count) (now (entries .exit)) (now (seen .exit))) (now (buf .exit)) ⌝ }
 {
     let none = words.len();
@@ -228,6 +228,31 @@ pub fn eval_policy(
     }
 }
 
+// The same of an arm of a list rule. A Permit, the commonest arm of a wide list, is seen here, so that the rule reads it with no call.
+fn eval_arm(
+    words: &[u32],
+    at: usize,
+    depth: usize,
+    facts: &[u8],
+    entries: &mut [u16],
+    seen: &mut [u64],
+    count: usize,
+    buf: &mut [u8],
+) -> PolicyEval
+    requires { ⌜ (depth ≤ 32) × (64 * (depth + 1) ≤ length (now buf)) × (length (now words) ≤ 16384) ⌝ }
+    ensures { λ r. ⌜ EvaluatesP (tableOf (now (facts .entry))) (now (words .entry)) at depth (lent count (now (entries .entry)) (now (seen .entry))) r (lent (r .count) (now (entries .exit)) (now (seen .exit))) (now (buf .exit)) ⌝ }
+{
+    let none = words.len();
+    if none <= at {
+        return denied(none, at, count);
+    }
+    let word = words[at];
+    if word / 65536 == 24576 {
+        return permitted((word % 65536) as u16, none, at + 1, count);
+    }
+    eval_policy(words, at, depth, facts, entries, seen, count, buf)
+}
+
 // The All at `at`, whose `arms` have at most `depth` levels: meets the permits, or denies with the first denying arm. Arms after that one aren't read.
 fn eval_all(
     words: &[u32],
@@ -236,11 +261,11 @@ fn eval_all(
     arms: u32,
     facts: &[u8],
     entries: &mut [u16],
-    seen: &mut [u8],
+    seen: &mut [u64],
     count: usize,
     buf: &mut [u8],
 ) -> PolicyEval
-    requires { ⌜ Room (lent count (now entries) (now seen)) × (at < length (now words)) × (depth < 32) × (64 * (depth + 2) ≤ length (now buf)) × (length (now words) ≤ 16384) ⌝ }
+    requires { ⌜ (at < length (now words)) × (depth < 32) × (64 * (depth + 2) ≤ length (now buf)) × (length (now words) ≤ 16384) ⌝ }
     ensures { λ r. ⌜ EvaluatesBy (All arms) (tableOf (now (facts .entry))) (now (words .entry)) at depth (lent count (now (entries .entry)) (now (seen .entry))) r (lent (r .count) (now (entries .exit)) (now (seen .exit))) (now (buf .exit)) ⌝ }
 {
     let mut sofar = decision::denied(words.len());
@@ -248,7 +273,7 @@ fn eval_all(
     let mut listed = count;
     let mut left = arms;
     while left != 0 {
-        let arm = eval_policy(
+        let arm = eval_arm(
             words,
             next,
             depth,
@@ -287,11 +312,11 @@ fn eval_any(
     arms: u32,
     facts: &[u8],
     entries: &mut [u16],
-    seen: &mut [u8],
+    seen: &mut [u64],
     count: usize,
     buf: &mut [u8],
 ) -> PolicyEval
-    requires { ⌜ Room (lent count (now entries) (now seen)) × (at < length (now words)) × (depth < 32) × (64 * (depth + 2) ≤ length (now buf)) × (length (now words) ≤ 16384) ⌝ }
+    requires { ⌜ (at < length (now words)) × (depth < 32) × (64 * (depth + 2) ≤ length (now buf)) × (length (now words) ≤ 16384) ⌝ }
     ensures { λ r. ⌜ EvaluatesBy (Any arms) (tableOf (now (facts .entry))) (now (words .entry)) at depth (lent count (now (entries .entry)) (now (seen .entry))) r (lent (r .count) (now (entries .exit)) (now (seen .exit))) (now (buf .exit)) ⌝ }
 {
     let mut sofar = decision::denied(words.len());
@@ -300,7 +325,7 @@ fn eval_any(
     let mut listed = count;
     let mut left = arms;
     while left != 0 {
-        let arm = eval_policy(
+        let arm = eval_arm(
             words,
             next,
             depth,
@@ -331,11 +356,11 @@ fn eval_or_else(
     depth: usize,
     facts: &[u8],
     entries: &mut [u16],
-    seen: &mut [u8],
+    seen: &mut [u64],
     count: usize,
     buf: &mut [u8],
 ) -> PolicyEval
-    requires { ⌜ Room (lent count (now entries) (now seen)) × (at < length (now words)) × (depth < 32) × (64 * (depth + 1) ≤ length (now buf)) × (length (now words) ≤ 16384) ⌝ }
+    requires { ⌜ (at < length (now words)) × (depth < 32) × (64 * (depth + 1) ≤ length (now buf)) × (length (now words) ≤ 16384) ⌝ }
     ensures { λ r. ⌜ EvaluatesBy OrElse (tableOf (now (facts .entry))) (now (words .entry)) at depth (lent count (now (entries .entry)) (now (seen .entry))) r (lent (r .count) (now (entries .exit)) (now (seen .exit))) (now (buf .exit)) ⌝ }
 {
     let primary = eval_policy(words, at + 1, depth, facts, entries, seen, count, buf);

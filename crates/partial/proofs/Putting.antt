@@ -6,7 +6,7 @@ use Prim.Native.Nat.{ℕ, _+_, _-_, _/_, _≤_, _<_}
 use native.Mathlib.Omega.{arith}
 use borrow.Author.Tests.{le-leb, lt-leb, leb-true, leb-false}
 use lib.Dec.{leb}
-use lib.ListN.{length, take, drop, length-map, length-append}
+use lib.ListN.{length, take, drop, length-map, length-append, length-take}
 use Rattle.model.specs.Outcome.{productSets}
 use Rattle.model.specs.Policy.{Policy}
 use Rattle.model.specs.Partial.{pending}
@@ -78,8 +78,12 @@ module _ (q : Policy ℕ) (l : Consulted) (room : ℕ) where
       by-weight true k = let few : weight q ≤ 16384 = leb-true (weight q) 16384 k in long-record (omega (arith, length-record q l, weight-fits q few .0))
       by-weight false k = heavy (short q) refl (leb-false (weight q) 16384 k)
 
--- ---- the four answers of `put_pending`
+-- ---- the answers of `put_pending`
 module _ {entries scratch out : List ℕ} {count size : ℕ} where
+  -- No list has more entries than there are.
+  pub put-nothing : length entries < count → PutPending entries count scratch size out out (Refused 11)
+  put-nothing h = record { put = λ q l laid there e m. let z : ⊥ = omega (arith, ap length m, length-map l entryField, length-take count entries) in absurd z }
+
   pub put-too-long : 16384 < 1 + (count + 1) / 2 + size → PutPending entries count scratch size out out (Refused 11)
   put-too-long h = record { put = λ q l laid there e m. refused-by (length out) (recordOf q l) out (too-long q l (length out) size (laid .size-is) (omega arith)) }
 

@@ -2,7 +2,7 @@
 use mathlib.Core.Path.{_≡_}
 use mathlib.Core.Bool.{Bool}
 use mathlib.Core.List.{List, _++_, map}
-use Prim.Native.Nat.{ℕ, _≤_}
+use Prim.Native.Nat.{ℕ, _*_, _≤_}
 use lib.ListN.{length, take, drop}
 use Rattle.model.specs.Outcome.{productSets}
 use Rattle.model.specs.Policy.{Policy}
@@ -27,14 +27,15 @@ pub record PutPending (entries : List ℕ) (count : ℕ) (scratch : List ℕ) (s
       count ≡ length l → take count entries ≡ map entryField l →
       Answered (model.write productSets (length before) (record { body = pending q; log = l })) before after r
 
--- The policy at `at` was reduced, after the consulted facts that were listed, and the record of both was written or refused.
+-- The policy at `at` was reduced, after the consulted facts that were listed, and the record of both was written or refused, where the entries have room for all.
 pub record ReducesTo (P : Table) (W : List ℕ) (at : ℕ) (s : Lent) (before after : List ℕ) (r : Answer) : Type 0 where
-  pub reduces : (l : Consulted) → Listed l s → (res : Bool) →
-      Holds (λ p rest. Answered (model.write productSets (length before) (record { body = reducePolicy productSets P p; log = walk productSets P p l })) before after r)
+  pub reduces : (l : Consulted) → (length l ≤ length (s .entries) → Listed l s) → (res : Bool) →
+      Holds (λ p rest. length (walk productSets P p l) ≤ length (s .entries) →
+      Answered (model.write productSets (length before) (record { body = reducePolicy productSets P p; log = walk productSets P p l })) before after r)
       (readPolicy (productSets .value) res 32 (drop at W))
 
--- The same after the `count` entries that stand after the first word, once each, the first one kept.
+-- The same after the `count` entries that stand after the first word, before the policy, once each, the first one kept.
 pub record ReducesFrom (P : Table) (W : List ℕ) (count at : ℕ) (before after : List ℕ) (r : Answer) : Type 0 where
-  pub reduces : (es : Consulted) (others : List ℕ) → Named es → count ≡ length es → pack entryBits (map entryField es) ++ others ≡ drop 1 W → (res : Bool) →
+  pub reduces : (es : Consulted) (others : List ℕ) → Named es → count ≡ length es → at ≤ length W → length es ≤ 2 * at → pack entryBits (map entryField es) ++ others ≡ drop 1 W → (res : Bool) →
       Holds (λ p rest. Answered (model.write productSets (length before) (record { body = reducePolicy productSets P p; log = walk productSets P p (once es) })) before after r)
       (readPolicy (productSets .value) res 32 (drop at W))

@@ -4,22 +4,26 @@ use calls::Answer;
 use facts::TableFault;
 use policy_model::RecordCheck;
 use policy_model::SheetCheck;
-ghost use Prim.Native.Nat.{_*_, _≤_, min};
+ghost use Prim.Native.Nat.{_+_, _*_, _≤_, min};
 ghost use lib.ListN.{length};
 ghost use Rattle.model.specs.Facts.{tableOf};
 ghost use Rattle.model.specs.Outcome.{productSets};
 ghost use Rattle.model.specs.Writing.{mostListed};
 ghost use Rattle.model.specs.Calls.{partialEvaluate, narrowResidual};
-ghost use Rattle.condition.specs.Listing.{lent, Room};
+ghost use Rattle.condition.specs.Listing.{lent};
 ghost use Rattle.sizes.specs.Laid.{mostWords, tooMany};
 ghost use Rattle.calls.specs.Answers.{Answered};
 ghost use Rattle.partial.specs.Answers.{PutPending, ReducesTo, ReducesFrom};
 
 // Writes the Pending record of the tree that is laid in the first `size` words of `tree`, and the consulted entries in use, if there is room for it.
+// No walk leaves more entries in use than it was lent.
 fn put_pending(entries: &[u16], count: usize, tree: &[u32], size: usize, out: &mut [u32]) -> Answer
-    requires { ⌜ (count ≤ length (now entries)) × (length (now entries) ≤ 1024) × (size ≤ tooMany) ⌝ }
+    requires { ⌜ (length (now entries) ≤ 1024) × (size ≤ tooMany) ⌝ }
     ensures { λ r. ⌜ PutPending (now (entries .entry)) count (now (tree .entry)) size (now (out .entry)) (now (out .exit)) r ⌝ }
 {
+    if entries.len() < count {
+        return Answer::Refused(11);
+    }
     let total = 1 + (count + 1) / 2 + size;
     if total > sizes::LIMIT {
         return Answer::Refused(11);
@@ -36,33 +40,35 @@ fn put_pending(entries: &[u16], count: usize, tree: &[u32], size: usize, out: &m
     Answer::Written(front + rest)
 }
 
-// Reduces the policy at `at`, after the `count` entries that are listed, and writes the record. Lent for the walk: `named`, for the facts of one clause,
-// and `front` and `tree`, for the nodes that lists keep and for what is left.
+// Reduces the policy at `at`, of at most `depth` levels, after the `count` entries that are listed, and writes the record: a tree of few words has no more
+// levels than words. Lent for the walk: `buf`, for united obligations, `named`, for the facts of one clause, and `front` and `tree`, for the nodes that
+// lists keep and for what is left.
 fn reduce_with(
     words: &[u32],
     at: usize,
+    depth: usize,
     facts: &[u8],
     entries: &mut [u16],
-    seen: &mut [u8],
+    seen: &mut [u64],
     count: usize,
+    buf: &mut [u8],
     named: &mut [u16],
     front: &mut [u32],
     tree: &mut [u32],
     out: &mut [u32],
 ) -> Answer
-    requires { ⌜ Room (lent count (now entries) (now seen)) × (length (now entries) ≤ 1024) × (length (now words) ≤ 16384) × (length (now words) ≤ length (now named)) × (min (2 * length (now words)) mostListed ≤ length (now named)) × (min (3 * length (now words)) mostWords ≤ length (now front)) × (min (3 * length (now words)) mostWords ≤ length (now tree)) ⌝ }
+    requires { ⌜ (length (now entries) ≤ 1024) × (depth ≤ 32) × (min 32 (length (now words)) ≤ depth) × (64 * (depth + 1) ≤ length (now buf)) × (length (now words) ≤ 16384) × (length (now words) ≤ length (now named)) × (min (2 * length (now words)) mostListed ≤ length (now named)) × (min (3 * length (now words)) mostWords ≤ length (now front)) × (min (3 * length (now words)) mostWords ≤ length (now tree)) ⌝ }
     ensures { λ r. ⌜ ReducesTo (tableOf (now (facts .entry))) (now (words .entry)) at (lent count (now (entries .entry)) (now (seen .entry))) (now (out .entry)) (now (out .exit)) r ⌝ }
 {
-    let mut buf = [0u8; 2112];
     let reduced = partial_policy::reduce_policy(
         words,
         at,
-        32,
+        depth,
         facts,
         entries,
         seen,
         count,
-        &mut buf,
+        buf,
         named,
         front,
         tree,
@@ -76,36 +82,40 @@ fn reduce_with(
         facts,
         entries,
         reduced.count,
-        &mut buf,
+        buf,
         named,
         out,
     )
 }
 
-// The same after the `consulted` entries of a record; a sheet has none.
+// The same after the `consulted` entries of a record; a sheet has none. `entries` is lent for them and for the facts of the tree, two for a word at most.
 fn reduce_from(
     words: &[u32],
     consulted: usize,
     at: usize,
+    depth: usize,
     facts: &[u8],
+    entries: &mut [u16],
+    buf: &mut [u8],
     named: &mut [u16],
     front: &mut [u32],
     tree: &mut [u32],
     out: &mut [u32],
 ) -> Answer
-    requires { ⌜ (length (now words) ≤ 16384) × (length (now words) ≤ length (now named)) × (min (2 * length (now words)) mostListed ≤ length (now named)) × (min (3 * length (now words)) mostWords ≤ length (now front)) × (min (3 * length (now words)) mostWords ≤ length (now tree)) ⌝ }
+    requires { ⌜ (min 1024 (2 * length (now words)) ≤ length (now entries)) × (length (now entries) ≤ 1024) × (depth ≤ 32) × (min 32 (length (now words)) ≤ depth) × (64 * (depth + 1) ≤ length (now buf)) × (length (now words) ≤ 16384) × (length (now words) ≤ length (now named)) × (min (2 * length (now words)) mostListed ≤ length (now named)) × (min (3 * length (now words)) mostWords ≤ length (now front)) × (min (3 * length (now words)) mostWords ≤ length (now tree)) ⌝ }
     ensures { λ r. ⌜ ReducesFrom (tableOf (now (facts .entry))) (now (words .entry)) consulted at (now (out .entry)) (now (out .exit)) r ⌝ }
 {
-    let mut entries = [0u16; 1024];
-    let mut seen = [0u8; 1024];
-    let count = completion::load_consulted(words, consulted, &mut entries, &mut seen);
+    let mut seen = [0u64; 16];
+    let count = completion::load_consulted(words, consulted, entries, &mut seen);
     reduce_with(
         words,
         at,
+        depth,
         facts,
-        &mut entries,
+        entries,
         &mut seen,
         count,
+        buf,
         named,
         front,
         tree,
@@ -113,11 +123,41 @@ fn reduce_from(
     )
 }
 
+// A tree has at most so many levels.
+const LEVELS: usize = 32;
+
 // The same of few words, with short lists: to clear long ones would take longer than to reduce. What is left takes at most three times the words.
+fn reduce_few(words: &[u32], consulted: usize, at: usize, facts: &[u8], out: &mut [u32]) -> Answer
+    requires { ⌜ length (now words) ≤ 7 ⌝ }
+    ensures { λ r. ⌜ ReducesFrom (tableOf (now (facts .entry))) (now (words .entry)) consulted at (now (out .entry)) (now (out .exit)) r ⌝ }
+{
+    let mut entries = [0u16; 16];
+    let mut buf = [0u8; 512];
+    let mut named = [0u16; 16];
+    let mut front = [0u32; 24];
+    let mut tree = [0u32; 24];
+    reduce_from(
+        words,
+        consulted,
+        at,
+        7,
+        facts,
+        &mut entries,
+        &mut buf,
+        &mut named,
+        &mut front,
+        &mut tree,
+        out,
+    )
+}
+
+// The same of a few more.
 fn reduce_small(words: &[u32], consulted: usize, at: usize, facts: &[u8], out: &mut [u32]) -> Answer
     requires { ⌜ length (now words) ≤ 64 ⌝ }
     ensures { λ r. ⌜ ReducesFrom (tableOf (now (facts .entry))) (now (words .entry)) consulted at (now (out .entry)) (now (out .exit)) r ⌝ }
 {
+    let mut entries = [0u16; 128];
+    let mut buf = [0u8; 2112];
     let mut named = [0u16; 128];
     let mut front = [0u32; 192];
     let mut tree = [0u32; 192];
@@ -125,12 +165,26 @@ fn reduce_small(words: &[u32], consulted: usize, at: usize, facts: &[u8], out: &
         words,
         consulted,
         at,
+        LEVELS,
         facts,
+        &mut entries,
+        &mut buf,
         &mut named,
         &mut front,
         &mut tree,
         out,
     )
+}
+
+// The same of up to 64 words.
+fn reduce_short(words: &[u32], consulted: usize, at: usize, facts: &[u8], out: &mut [u32]) -> Answer
+    requires { ⌜ length (now words) ≤ 64 ⌝ }
+    ensures { λ r. ⌜ ReducesFrom (tableOf (now (facts .entry))) (now (words .entry)) consulted at (now (out .entry)) (now (out .exit)) r ⌝ }
+{
+    if words.len() <= 7 {
+        return reduce_few(words, consulted, at, facts, out);
+    }
+    reduce_small(words, consulted, at, facts, out)
 }
 
 // The same of up to 1,024 words.
@@ -144,6 +198,8 @@ fn reduce_middling(
     requires { ⌜ length (now words) ≤ 1024 ⌝ }
     ensures { λ r. ⌜ ReducesFrom (tableOf (now (facts .entry))) (now (words .entry)) consulted at (now (out .entry)) (now (out .exit)) r ⌝ }
 {
+    let mut entries = [0u16; 1024];
+    let mut buf = [0u8; 2112];
     let mut named = [0u16; 2048];
     let mut front = [0u32; 3072];
     let mut tree = [0u32; 3072];
@@ -151,7 +207,10 @@ fn reduce_middling(
         words,
         consulted,
         at,
+        LEVELS,
         facts,
+        &mut entries,
+        &mut buf,
         &mut named,
         &mut front,
         &mut tree,
@@ -164,6 +223,8 @@ fn reduce_large(words: &[u32], consulted: usize, at: usize, facts: &[u8], out: &
     requires { ⌜ length (now words) ≤ 16384 ⌝ }
     ensures { λ r. ⌜ ReducesFrom (tableOf (now (facts .entry))) (now (words .entry)) consulted at (now (out .entry)) (now (out .exit)) r ⌝ }
 {
+    let mut entries = [0u16; 1024];
+    let mut buf = [0u8; 2112];
     let mut named = [0u16; 16384];
     let mut front = [0u32; 16384];
     let mut tree = [0u32; 16384];
@@ -171,7 +232,10 @@ fn reduce_large(words: &[u32], consulted: usize, at: usize, facts: &[u8], out: &
         words,
         consulted,
         at,
+        LEVELS,
         facts,
+        &mut entries,
+        &mut buf,
         &mut named,
         &mut front,
         &mut tree,
@@ -179,14 +243,11 @@ fn reduce_large(words: &[u32], consulted: usize, at: usize, facts: &[u8], out: &
     )
 }
 
-// The same of any that were checked.
-fn reduce(words: &[u32], consulted: usize, at: usize, facts: &[u8], out: &mut [u32]) -> Answer
+// The same of any that were checked. Its lists take 160 KiB of stack, so the calls see to short words apart from it.
+fn reduce_long(words: &[u32], consulted: usize, at: usize, facts: &[u8], out: &mut [u32]) -> Answer
     requires { ⌜ length (now words) ≤ 16384 ⌝ }
     ensures { λ r. ⌜ ReducesFrom (tableOf (now (facts .entry))) (now (words .entry)) consulted at (now (out .entry)) (now (out .exit)) r ⌝ }
 {
-    if words.len() <= 64 {
-        return reduce_small(words, consulted, at, facts, out);
-    }
     if words.len() <= 1024 {
         return reduce_middling(words, consulted, at, facts, out);
     }
@@ -207,7 +268,12 @@ pub fn partial_evaluate(sheet: &[u32], facts: &[u8], out: &mut [u32]) -> Answer
         TableFault::Refused(number) => Answer::Refused(number),
         TableFault::Faultless => match policy_model::check_sheet(sheet) {
             SheetCheck::Refused(number) => Answer::Refused(number),
-            SheetCheck::Accepted => reduce(sheet, 0, 0, facts, out),
+            SheetCheck::Accepted => {
+                if sheet.len() <= 64 {
+                    return reduce_short(sheet, 0, 0, facts, out);
+                }
+                reduce_long(sheet, 0, 0, facts, out)
+            }
         },
     }
 }
@@ -230,13 +296,12 @@ pub fn narrow_residual(words: &[u32], facts: &[u8], out: &mut [u32]) -> Answer
                 consulted: _,
                 tree: _,
             } => completion::copy_record(words, out),
-            RecordCheck::Pending { consulted, tree } => reduce(
-                words,
-                consulted as usize,
-                tree,
-                facts,
-                out,
-            ),
+            RecordCheck::Pending { consulted, tree } => {
+                if words.len() <= 64 {
+                    return reduce_short(words, consulted as usize, tree, facts, out);
+                }
+                reduce_long(words, consulted as usize, tree, facts, out)
+            }
         },
     }
 }

@@ -14,7 +14,7 @@ use Rattle.model.specs.Consulted.{Consulted, unlessFalse, unlessTrue, walkC}
 use Rattle.model.specs.Reading.{Parsed, refuse, got, many, readCondition}
 use Rattle.laws.specs.FieldLaws.{Holds, fine, nothing, weaker}
 use Rattle.laws.specs.Size.{wordsC, wordsCs}
-use Rattle.condition.specs.Listing.{Lent, lent, most}
+use Rattle.condition.specs.Listing.{Lent, lent}
 use Rattle.condition.specs.Spanning.{Skipped}
 use Rattle.condition.proofs.Listing.{consults-as, consults-none, consults-then}
 use Rattle.decisive.proofs.Positions.{first-arm}
@@ -154,7 +154,6 @@ for-each (got a ws) f = fine (λ x y. f x y .it)
 
 -- ---- the invariant: what was lent is s and out₀, and is u and out now; the arms before `next` have left those that are held
 pub record Going (stop : Bool) (P : Table) (W : List ℕ) (at depth arms : ℕ) (s : Lent) (out₀ : List ℕ) (u : Lent) (out : List ℕ) (h : Held) (next left : ℕ) : Type 0 where
-  pub room : most u ≡ most s
   pub entries-long : length (u .entries) ≡ length (s .entries)
   pub seen-long : length (u .seen) ≡ length (s .seen)
   pub out-long : length out ≡ length out₀
@@ -168,7 +167,6 @@ pub record Going (stop : Bool) (P : Table) (W : List ℕ) (at depth arms : ℕ) 
 module _ (stop : Bool) (P : Table) (W : List ℕ) (at depth arms : ℕ) (s : Lent) (out₀ : List ℕ) where
   pub going-none : Going stop P W at depth arms s out₀ s out₀ (heldOf 0 0 0) at arms
   going-none = record {
-    room = refl;
     entries-long = refl;
     seen-long = refl;
     out-long = refl;
@@ -204,7 +202,6 @@ module _ (stop : Bool) (P : Table) (W : List ℕ) (at depth arms : ℕ) (s : Len
     pub going-more : (g : Held) (from : ℕ) (before after : List ℕ) → decided a stop ≡ false → Returned (h .used) from out part before → Heeds h a before g after → length after ≡ length before →
         length (m .entries) ≡ length (u .entries) → length (m .seen) ≡ length (u .seen) → Going stop P W at depth arms s out₀ m after g (a .next) (left - 1)
     going-more g from before after goes-on b e long entries seen = record {
-      room = arm .room ∙ i .room;
       entries-long = entries ∙ i .entries-long;
       seen-long = seen ∙ i .seen-long;
       out-long = long ∙ b .long ∙ i .out-long;
@@ -217,7 +214,6 @@ module _ (stop : Bool) (P : Table) (W : List ℕ) (at depth arms : ℕ) (s : Len
     -- it does: the others are passed over
     pub going-stop : (n count : ℕ) (o : List ℕ) → decided a stop ≡ true → Skipped W (a .next) (left - 1) n → ReducesList stop P W at depth arms s (knownOf stop n count) m o
     going-stop n count o halts k = record {
-      room = arm .room ∙ i .room;
       bound = omega arith;
       says = i .goes (knownOf stop n count) m o (λ cs _. first-arm {One = First} {Others = λ ds us. n ≡ a .next + wordsCs ds} W next (a .next) (λ c rest x. x .next-is)
           (λ c rest ds us x y. record {
@@ -234,7 +230,6 @@ module _ (stop : Bool) (P : Table) (W : List ℕ) (at depth arms : ℕ) (s : Len
   going-end count entries seen out o h next left r z i e =
       subst (λ n. ReducesList stop P W at depth arms s r (lent n entries seen) o) (sym (e .count-is))
       (record {
-        room = i .room;
         bound = e .bound;
         says = i .goes r (lent count entries seen) o (λ cs k. rw z (fine (record {
           left = subst (λ w. Left (endOf stop w) r o) (sym (ap (behind cs) (walk-none stop P) ∙ ap through (append-none cs))) (e .ends cs k);

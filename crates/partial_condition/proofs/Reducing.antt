@@ -29,24 +29,23 @@ use Rattle.partial_condition.proofs.Laying.{Returned, laid-free}
 -- ---- a condition that reads no fact
 module _ (P : Table) (words : List ℕ) (at depth : ℕ) (s : Lent) (value : Bool) (next count : ℕ) (out : List ℕ) where
   pub reduce-end : length words ≤ at → ReducesC P words at depth s (knownOf value next count) s out
-  reduce-end h = record { room = refl; bound = omega arith; says = no-words words at depth h }
+  reduce-end h = record { bound = omega arith; says = no-words words at depth h }
 
   pub reduce-limit : depth ≡ 0 → ReducesC P words at depth s (knownOf value next count) s out
-  reduce-limit z = record { room = refl; bound = omega arith; says = no-levels depth (drop at words) z }
+  reduce-limit z = record { bound = omega arith; says = no-levels depth (drop at words) z }
 
   module _ (lt : at < length words) (deep : depth ≡ 0 → ⊥) where
     pub reduce-bad-kind : BadKind ≡ conditionHead (getD words at 0) → ReducesC P words at depth s (knownOf value next count) s out
     unfolding conditionNode
-    reduce-bad-kind e = record { room = refl; bound = omega arith; says = by-head words at depth BadKind lt deep e nothing }
+    reduce-bad-kind e = record { bound = omega arith; says = by-head words at depth BadKind lt deep e nothing }
 
     pub reduce-bad-field : BadField ≡ conditionHead (getD words at 0) → ReducesC P words at depth s (knownOf value next count) s out
     unfolding conditionNode
-    reduce-bad-field e = record { room = refl; bound = omega arith; says = by-head words at depth BadField lt deep e nothing }
+    reduce-bad-field e = record { bound = omega arith; says = by-head words at depth BadField lt deep e nothing }
 
     pub reduce-always : Always ≡ conditionHead (getD words at 0) → value ≡ true → next ≡ at + 1 → ReducesC P words at depth s (knownOf value next count) s out
     unfolding conditionNode
     reduce-always e v n = record {
-      room = refl;
       bound = omega arith;
       says = by-head words at depth Always lt deep e (fine (record { left = (refl, v); next-is = n; log = consults-as (λ l. refl) consults-none }));
     }
@@ -54,7 +53,6 @@ module _ (P : Table) (words : List ℕ) (at depth : ℕ) (s : Lent) (value : Boo
     pub reduce-never : Never ≡ conditionHead (getD words at 0) → value ≡ false → next ≡ at + 1 → ReducesC P words at depth s (knownOf value next count) s out
     unfolding conditionNode
     reduce-never e v n = record {
-      room = refl;
       bound = omega arith;
       says = by-head words at depth Never lt deep e (fine (record { left = (refl, v); next-is = n; log = consults-as (λ l. refl) consults-none }));
     }
@@ -63,14 +61,12 @@ module _ (P : Table) (words : List ℕ) (at depth : ℕ) (s : Lent) (value : Boo
 module _ (P : Table) (f end : ℕ) (s t : Lent) (count : ℕ) (out : List ℕ) where
   pub has-absent : P f ≡ absent → Recorded f absent s t → ReducesHas P f end s (knownOf false end count) t out
   has-absent e a = record {
-    room = a .room;
     bound = omega arith;
     says = record { left = subst (λ p. Left (reduceHas f p) (knownOf false end count) out) (sym e) (refl, refl); next-is = refl; log = simp e (a .log) };
   }
 
   pub has-present : P f ≡ present → Recorded f present s t → ReducesHas P f end s (knownOf true end count) t out
   has-present e a = record {
-    room = a .room;
     bound = omega arith;
     says = record { left = subst (λ p. Left (reduceHas f p) (knownOf true end count) out) (sym e) (refl, refl); next-is = refl; log = simp e (a .log) };
   }
@@ -78,7 +74,6 @@ module _ (P : Table) (f end : ℕ) (s t : Lent) (count : ℕ) (out : List ℕ) w
 -- An Unknown fact is what is left, and isn't consulted.
 pub has-unknown : (P : Table) (f end : ℕ) (s : Lent) (count : ℕ) (before out : List ℕ) → P f ≡ unknown → out ≡ set before 0 (word 2 f) → ReducesHas P f end s (leftOf 1 end count) s out
 has-unknown P f end s count before out e w = record {
-  room = refl;
   bound = omega arith;
   says = record {
     left = subst (λ p. Left (reduceHas f p) (leftOf 1 end count) out) (sym e) (refl, rw w (laid-word (word 2 f) before));
@@ -102,7 +97,6 @@ module _ (P : Table) (words : List ℕ) (at depth : ℕ) (s : Lent) (r : Reduced
   reduce-not a from mid part before out entries seen e k n inner =
       subst (λ k. ReducesC P words at depth s r (lent k entries seen) out) (sym (n .count-is))
       (record {
-        room = inner .room;
         bound = n .bound;
         says = by-head words at depth Not lt deep e
             (then-holds (readCondition (depth - 1) (drop (at + 1) words)) (λ c vs. got (notC c) vs) (inner .says) (λ c vs i. fine (record {
@@ -115,12 +109,11 @@ module _ (P : Table) (words : List ℕ) (at depth : ℕ) (s : Lent) (r : Reduced
   module _ (t : Lent) (out : List ℕ) where
     pub reduce-has : (f : ℕ) → Has f ≡ conditionHead (getD words at 0) → ReducesHas P f (at + 1) s r t out → ReducesC P words at depth s r t out
     unfolding conditionNode
-    reduce-has f e a = record { room = a .room; bound = a .bound; says = by-head words at depth (Has f) lt deep e (fine (record { left = a .says .left; next-is = a .says .next-is; log = consults-as (λ l. refl) (a .says .log) })) }
+    reduce-has f e a = record { bound = a .bound; says = by-head words at depth (Has f) lt deep e (fine (record { left = a .says .left; next-is = a .says .next-is; log = consults-as (λ l. refl) (a .says .log) })) }
 
     pub reduce-all : (n : ℕ) → All n ≡ conditionHead (getD words at 0) → ReducesAll P words (at + 1) (depth - 1) n s r t out → ReducesC P words at depth s r t out
     unfolding conditionNode
     reduce-all n e a = record {
-      room = a .room;
       bound = a .bound;
       says = by-head words at depth (All n) lt deep e
           (then-holds (many cnil ccons (readCondition (depth - 1)) n (drop (at + 1) words)) (λ cs vs. got (allC cs) vs) (a .says) (λ cs vs i.
@@ -130,7 +123,6 @@ module _ (P : Table) (words : List ℕ) (at depth : ℕ) (s : Lent) (r : Reduced
     pub reduce-any : (n : ℕ) → Any n ≡ conditionHead (getD words at 0) → ReducesAny P words (at + 1) (depth - 1) n s r t out → ReducesC P words at depth s r t out
     unfolding conditionNode
     reduce-any n e a = record {
-      room = a .room;
       bound = a .bound;
       says = by-head words at depth (Any n) lt deep e
           (then-holds (many cnil ccons (readCondition (depth - 1)) n (drop (at + 1) words)) (λ cs vs. got (anyC cs) vs) (a .says) (λ cs vs i.
@@ -140,7 +132,7 @@ module _ (P : Table) (words : List ℕ) (at depth : ℕ) (s : Lent) (r : Reduced
 -- A word that one division shows to be a Has, of however many levels.
 pub reduce-has-word : (P : Table) (words : List ℕ) (at depth : ℕ) (s : Lent) (r : ReducedCondition) (t : Lent) (out : List ℕ) → at < length words → getD words at 0 / 1024 ≡ 524288 →
     ReducesHas P (getD words at 0 % 1024) (at + 1) s r t out → ReducesC P words at depth s r t out
-reduce-has-word P words at zero s r t out lt e a = record { room = a .room; bound = a .bound; says = no-levels 0 (drop at words) refl }
+reduce-has-word P words at zero s r t out lt e a = record { bound = a .bound; says = no-levels 0 (drop at words) refl }
 reduce-has-word P words at (suc depth) s r t out lt e a = reduce-has P words at (suc depth) s r lt (λ z. omega arith) t out (getD words at 0 % 1024) (has-word (getD words at 0) e) a
 
 -- ---- a list has at most 4,095 arms
@@ -181,7 +173,6 @@ any-below w n e = few-arms w (Any n) e
 module _ (P : Table) (words : List ℕ) (at depth arms : ℕ) (s : Lent) where
   pub all-none : (count : ℕ) (out : List ℕ) → arms ≡ 0 → ReducesAll P words at depth arms s (knownOf false at count) s out
   all-none count out z = record {
-    room = refl;
     bound = omega arith;
     says = rw z (fine (record { left = (refl, refl); next-is = omega arith; log = consults-as (λ l. refl) consults-none }));
   }
@@ -193,7 +184,6 @@ module _ (P : Table) (words : List ℕ) (at depth arms : ℕ) (s : Lent) where
 
     pub all-with-arms : (arms ≡ 0 → ⊥) → ReducesList false P words at depth arms s r t out → ReducesAll P words at depth arms s r t out
     all-with-arms f a = record {
-      room = a .room;
       bound = a .bound;
       says = weaker (many cnil ccons (readCondition depth) arms (drop at words))
           (λ cs rest h. record { left = with-arms cs (h .1) (h .0 .left); next-is = h .0 .next-is; log = consults-as (λ l. refl) (h .0 .log) })
@@ -202,7 +192,6 @@ module _ (P : Table) (words : List ℕ) (at depth arms : ℕ) (s : Lent) where
 
     pub any-arms : ReducesList true P words at depth arms s r t out → ReducesAny P words at depth arms s r t out
     any-arms a = record {
-      room = a .room;
       bound = a .bound;
       says = weaker (many cnil ccons (readCondition depth) arms (drop at words))
           (λ cs rest h. record { left = h .left; next-is = h .next-is; log = consults-as (λ l. refl) (h .log) }) (a .says);

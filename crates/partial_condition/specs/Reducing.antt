@@ -13,7 +13,7 @@ use Rattle.model.specs.Writing.{encodeC}
 use Rattle.model.specs.Reading.{many, readCondition}
 use Rattle.laws.specs.FieldLaws.{Holds}
 use Rattle.laws.specs.Size.{wordsC, wordsCs}
-use Rattle.condition.specs.Listing.{Lent, most, Consults}
+use Rattle.condition.specs.Listing.{Lent, Consults}
 use Rattle.sizes.specs.Laid.{tooMany, Laid}
 use Rattle.partial_condition.specs.declared.ReducedCondition.{ReducedCondition}
 
@@ -35,21 +35,18 @@ pub record ReducedTo (q : model.ReducedCondition) (end : ℕ) (read : Consulted 
   pub next-is : r .next ≡ end
   pub log : Consults read s t
 
--- The answer to a condition at `at`, of at most `depth` levels. Of words that don't read only the room and the bound are said.
+-- The answer to a condition at `at`, of at most `depth` levels. Of words that don't read only the bound is said.
 pub record ReducesC (P : Table) (words : List ℕ) (at depth : ℕ) (s : Lent) (r : ReducedCondition) (t : Lent) (out : List ℕ) : Type 0 where
-  pub room : most t ≡ most s
   pub bound : r .size ≤ tooMany
   pub says : Holds (λ c rest. ReducedTo (reduceCondition P c) (at + wordsC c) (walkC P c) s r t out) (readCondition depth (drop at words))
 
 -- The same of a Has that ends at `end`.
 pub record ReducesHas (P : Table) (f end : ℕ) (s : Lent) (r : ReducedCondition) (t : Lent) (out : List ℕ) : Type 0 where
-  pub room : most t ≡ most s
   pub bound : r .size ≤ tooMany
   pub says : ReducedTo (reduceHas f (P f)) end (λ l. consultKnown l f (P f)) s r t out
 
 -- The same of arms, for a list rule: what it reduces to with them, and what it consults.
 pub record ReducesArms (value : Conditions → model.ReducedCondition) (read : Conditions → Consulted → Consulted) (words : List ℕ) (at depth arms : ℕ) (s : Lent) (r : ReducedCondition) (t : Lent) (out : List ℕ) : Type 0 where
-  pub room : most t ≡ most s
   pub bound : r .size ≤ tooMany
   pub says : Holds (λ cs rest. ReducedTo (value cs) (at + wordsCs cs) (read cs) s r t out) (many cnil ccons (readCondition depth) arms (drop at words))
 

@@ -8,7 +8,7 @@ ghost use Prim.Native.Nat.{_+_, _≤_, _<_};
 ghost use lib.ListN.{set};
 ghost use Rattle.model.specs.Facts.{factCount, tableOf};
 ghost use Rattle.model.specs.Writing.{word};
-ghost use Rattle.condition.specs.Listing.{lent, Room};
+ghost use Rattle.condition.specs.Listing.{lent};
 ghost use Rattle.sizes.specs.Laid.{tooMany, capped};
 ghost use Rattle.partial_condition.specs.Reducing.{knownOf, leftOf, ReducesC, ReducesHas, ReducesList, ReducesAll, ReducesAny};
 ghost use Rattle.partial_condition.specs.Holding.{heldOf, listKind, MovedUp, Heeds, Negates, Ends};
@@ -82,11 +82,11 @@ fn reduce_has(
     next: usize,
     facts: &[u8],
     entries: &mut [u16],
-    seen: &mut [u8],
+    seen: &mut [u64],
     count: usize,
     out: &mut [u32],
 ) -> ReducedCondition
-    requires { ⌜ Room (lent count (now entries) (now seen)) × (fact < factCount) ⌝ }
+    requires { ⌜ fact < factCount ⌝ }
     ensures { λ r. ⌜ ReducesHas (tableOf (now (facts .entry))) fact next (lent count (now (entries .entry)) (now (seen .entry))) r (lent (r .count) (now (entries .exit)) (now (seen .exit))) (now (out .exit)) ⌝ }
 {
     match Presence::of(facts, fact) {
@@ -124,11 +124,10 @@ pub fn reduce_condition(
     depth: usize,
     facts: &[u8],
     entries: &mut [u16],
-    seen: &mut [u8],
+    seen: &mut [u64],
     count: usize,
     out: &mut [u32],
 ) -> ReducedCondition
-    requires { ⌜ Room (lent count (now entries) (now seen)) ⌝ }
     ensures { λ r. ⌜ ReducesC (tableOf (now (facts .entry))) (now (words .entry)) at depth (lent count (now (entries .entry)) (now (seen .entry))) r (lent (r .count) (now (entries .exit)) (now (seen .exit))) (now (out .exit)) ⌝ }
 {
     if words.len() <= at {
@@ -175,11 +174,10 @@ fn reduce_arm(
     depth: usize,
     facts: &[u8],
     entries: &mut [u16],
-    seen: &mut [u8],
+    seen: &mut [u64],
     count: usize,
     out: &mut [u32],
 ) -> ReducedCondition
-    requires { ⌜ Room (lent count (now entries) (now seen)) ⌝ }
     ensures { λ r. ⌜ ReducesC (tableOf (now (facts .entry))) (now (words .entry)) at depth (lent count (now (entries .entry)) (now (seen .entry))) r (lent (r .count) (now (entries .exit)) (now (seen .exit))) (now (out .exit)) ⌝ }
 {
     if words.len() <= at {
@@ -271,11 +269,11 @@ fn reduce_arms(
     stop: bool,
     facts: &[u8],
     entries: &mut [u16],
-    seen: &mut [u8],
+    seen: &mut [u64],
     count: usize,
     out: &mut [u32],
 ) -> ReducedCondition
-    requires { ⌜ Room (lent count (now entries) (now seen)) × (arms < 4096) ⌝ }
+    requires { ⌜ arms < 4096 ⌝ }
     ensures { λ r. ⌜ ReducesList stop (tableOf (now (facts .entry))) (now (words .entry)) at depth arms (lent count (now (entries .entry)) (now (seen .entry))) r (lent (r .count) (now (entries .exit)) (now (seen .exit))) (now (out .exit)) ⌝ }
 {
     let mut held = Held {
@@ -317,11 +315,11 @@ fn reduce_condition_all(
     arms: u32,
     facts: &[u8],
     entries: &mut [u16],
-    seen: &mut [u8],
+    seen: &mut [u64],
     count: usize,
     out: &mut [u32],
 ) -> ReducedCondition
-    requires { ⌜ Room (lent count (now entries) (now seen)) × (arms < 4096) ⌝ }
+    requires { ⌜ arms < 4096 ⌝ }
     ensures { λ r. ⌜ ReducesAll (tableOf (now (facts .entry))) (now (words .entry)) at depth arms (lent count (now (entries .entry)) (now (seen .entry))) r (lent (r .count) (now (entries .exit)) (now (seen .exit))) (now (out .exit)) ⌝ }
 {
     if arms == 0 {
@@ -349,11 +347,11 @@ fn reduce_condition_any(
     arms: u32,
     facts: &[u8],
     entries: &mut [u16],
-    seen: &mut [u8],
+    seen: &mut [u64],
     count: usize,
     out: &mut [u32],
 ) -> ReducedCondition
-    requires { ⌜ Room (lent count (now entries) (now seen)) × (arms < 4096) ⌝ }
+    requires { ⌜ arms < 4096 ⌝ }
     ensures { λ r. ⌜ ReducesAny (tableOf (now (facts .entry))) (now (words .entry)) at depth arms (lent count (now (entries .entry)) (now (seen .entry))) r (lent (r .count) (now (entries .exit)) (now (seen .exit))) (now (out .exit)) ⌝ }
 {
     reduce_arms(

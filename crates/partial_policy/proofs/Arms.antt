@@ -23,7 +23,7 @@ use Rattle.policy_model.specs.declared.PolicyHead.the-variants.{OrElse}
 use Rattle.policy_model.specs.Heads.{policyNode}
 use Rattle.policy_model.specs.Span.{Skipped}
 use Rattle.policy_model.proofs.Policies.{policy-leaves}
-use Rattle.condition.specs.Listing.{Lent, lent, most}
+use Rattle.condition.specs.Listing.{Lent, lent}
 use Rattle.condition.proofs.Listing.{consults-none, consults-then, consults-as}
 use Rattle.decision.specs.declared.Decision.{Decision}
 use Rattle.decision.specs.Meaning.{deniedAt, decisionOf, past, Sound}
@@ -154,7 +154,6 @@ module _ (every : Bool) (T : Table) (W : List ℕ) (v : Sofar) (a : ReducedPolic
 -- ---- arms
 -- The answer for the arms that are left, given what is kept so far. Of arms that don't read only the bounds are said.
 pub record ArmsLeft (every : Bool) (P : Table) (W : List ℕ) (v : Sofar) (buf front out : List ℕ) (at depth arms : ℕ) (s : Lent) (r : ReducedPolicy) (t : Lent) (buf′ out′ : List ℕ) : Type 0 where
-  pub same : most t ≡ most s
   pub few : r .decision .count ≤ 64
   pub bound : r .size ≤ tooMany
   pub says : (k : Walked) → SofarIs every P W k v buf front out →
@@ -166,14 +165,13 @@ module _ (every : Bool) (P : Table) (W : List ℕ) (depth : ℕ) (s m t : Lent) 
   Whole k p ts rest = ReducedTo (leftOf every P k (pcons p ts)) (at + wordss (pcons p ts)) (readOf every P (pcons p ts)) P W s r t buf′ (length front) out′
 
   -- By the answer a to the first arm.
-  arm-first : most t ≡ most s → r .decision .count ≤ 64 → r .size ≤ tooMany →
+  arm-first : r .decision .count ≤ 64 → r .size ≤ tooMany →
       ((k : Walked) (p : Policy ℕ) → SofarIs every P W k v buf front out → ReducedTo (reducePolicy productSets P p) (at + words p) (walk productSets P p) P W s a m part room opart →
       Holds (Whole k p) (many pnil pcons (readPolicy (productSets .value) true depth) (arms - 1) (drop (a .next) W))) →
       ArmsLeft every P W v buf front out at depth arms s r t buf′ out′
-  arm-first same few bound f =
+  arm-first few bound f =
       let one = readPolicy (productSets .value) true depth in
       record {
-        same = same;
         few = few;
         bound = bound;
         says = λ k z. rw (arms-more one arms (drop at W) some)
@@ -190,7 +188,7 @@ module _ (every : Bool) (P : Table) (W : List ℕ) (depth : ℕ) (s m t : Lent) 
       false ≡ (every && (not (a .pending) && not (a .decision .permit))) →
       ArmsLeft every P W v′ mid front′ omid (a .next) depth (arms - 1) m r t buf′ out′ → ArmsLeft every P W v buf front out at depth arms s r t buf′ out′
   arm-goes v′ mid front′ omid long more e rest =
-      arm-first (rest .same ∙ first .same) (rest .few) (rest .bound) (λ k p z h.
+      arm-first (rest .few) (rest .bound) (λ k p z h.
       let x = reducePolicy productSets P p in
       let on : stops every x ≡ false = settled-as P W part room opart a x (h .result) every ∙ sym e in
       weaker (many pnil pcons (readPolicy (productSets .value) true depth) (arms - 1) (drop (a .next) W)) (λ ts us g. record {
@@ -220,7 +218,7 @@ pub arm-stops : (every : Bool) (P : Table) (W : List ℕ) (depth : ℕ) (s m : L
     ((depth : ℕ) (res : Bool) → Skipped wordss (a .next) (many pnil pcons (readPolicy (productSets .value) res depth) (arms - 1) (drop (a .next) W)) end) →
     ArmsLeft every P W v buf front out at depth arms s (resolvedTo (a .decision) end (a .count)) m mid out′
 arm-stops every P W depth s m a v buf front out part opart room mid out′ at arms end some first e k =
-    arm-first every P W depth s m m a (resolvedTo (a .decision) end (a .count)) v buf front out part opart room mid out′ at arms some first (first .same) (first .few) (omega arith) (λ w p z h.
+    arm-first every P W depth s m m a (resolvedTo (a .decision) end (a .count)) v buf front out part opart room mid out′ at arms some first (first .few) (omega arith) (λ w p z h.
     let x = reducePolicy productSets P p in
     let stop-here : stops every x ≡ true = settled-as P W part room opart a x (h .result) every ∙ sym e in
     weaker (many pnil pcons (readPolicy (productSets .value) true depth) (arms - 1) (drop (a .next) W)) (λ ts us g. record {
@@ -250,7 +248,6 @@ pub arms-end : (every : Bool) (P : Table) (W : List ℕ) (v : Sofar) (buf front 
 arms-end every P W v buf front out at depth arms listed entries seen r buf′ out′ z e =
     subst (λ n. ArmsLeft every P W v buf front out at depth arms (lent listed entries seen) r (lent n entries seen) buf′ out′) (sym (e .count-is))
     (rw z (record {
-      same = refl;
       few = e .few;
       bound = e .bound;
       says = λ k s. fine (record {
@@ -312,7 +309,6 @@ module _ (every : Bool) (P : Table) (W : List ℕ) (at depth n : ℕ) (s : Lent)
 
   pub list-node : ArmsLeft every P W (noneYet end) buf front out (at + 1) depth n s r t buf′ out′ → ReducesBy (listHead every n) P W at depth s r t buf′ (length front) out′
   list-node a = record {
-    same = a .same;
     few = a .few;
     bound = a .bound;
     says = λ e. node-holds W at depth (listHead every n) lt e (rw (list-reads every _ (readPolicy (productSets .value) true depth) n (drop (at + 1) W))
@@ -325,7 +321,6 @@ module _ (every : Bool) (P : Table) (W : List ℕ) (at depth n : ℕ) (s : Lent)
 
 -- ---- a loop over arms: what was lent first and what is now; what answers for the arms that are left answers for all
 pub record Going (Left Whole : ReducedPolicy → Lent → List ℕ → List ℕ → Type 0) (s u : Lent) (v : Sofar) (arms left : ℕ) (buf₀ buf named₀ named front₀ front out₀ out : List ℕ) : Type 0 where
-  pub same : most u ≡ most s
   pub entries-long : length (u .entries) ≡ length (s .entries)
   pub seen-long : length (u .seen) ≡ length (s .seen)
   pub buf-long : length buf ≡ length buf₀
@@ -342,13 +337,12 @@ module _ (P : Table) (W : List ℕ) (at depth : ℕ) (s m : Lent) (a : ReducedPo
   one = readPolicy (productSets .value) true depth
 
   -- By the answer a to the primary.
-  or-first : (r : ReducedPolicy) (t : Lent) (buf : List ℕ) (n : ℕ) (out : List ℕ) → most t ≡ most s → r .decision .count ≤ 64 → r .size ≤ tooMany →
+  or-first : (r : ReducedPolicy) (t : Lent) (buf : List ℕ) (n : ℕ) (out : List ℕ) → r .decision .count ≤ 64 → r .size ≤ tooMany →
       ((x : Policy ℕ) → ReducedTo (reducePolicy productSets P x) (at + 1 + words x) (walk productSets P x) P W s a m mid room opart →
       Holds (λ y rest. ReducedTo (reducePolicy productSets P (orElse x y)) (at + words (orElse x y)) (walk productSets P (orElse x y)) P W s r t buf n out) (one (drop (a .next) W))) →
       ReducesBy OrElse P W at depth s r t buf n out
   unfolding policyNode
-  or-first r t buf n out same few bound f = record {
-    same = same;
+  or-first r t buf n out few bound f = record {
     few = few;
     bound = bound;
     says = λ e. node-holds W at depth OrElse lt e
@@ -375,7 +369,7 @@ module _ (P : Table) (W : List ℕ) (at depth : ℕ) (s m : Lent) (a : ReducedPo
       ((depth : ℕ) (res : Bool) → Skipped wordss (a .next) (many pnil pcons (readPolicy (productSets .value) res depth) 1 (drop (a .next) W)) end) →
       ReducesBy OrElse P W at depth s (resolvedTo (a .decision) end (a .count)) m mid n out
   or-permits end n out e q k =
-      or-first (resolvedTo (a .decision) end (a .count)) m mid n out (first .same) (first .few) (omega arith) (λ x h.
+      or-first (resolvedTo (a .decision) end (a .count)) m mid n out (first .few) (omega arith) (λ x h.
       weaker (one (drop (a .next) W)) (λ y rest g. record {
         result = permits-first (reducePolicy productSets P x) (reducePolicy productSets P y) n out end (h .result) e q;
         next-is = omega (arith, h .next-is, g);
@@ -398,7 +392,7 @@ module _ (P : Table) (W : List ℕ) (at depth : ℕ) (s m : Lent) (a : ReducedPo
     pub or-denies : (n : ℕ) (out : List ℕ) → a .pending ≡ false → a .decision .permit ≡ false → (n′ : ℕ) → ReducesP P W (a .next) depth m b t buf n′ out → n′ ≡ n → ReducesBy OrElse P W at depth s b t buf n out
     or-denies n out e q n′ second₀ z =
         let second : ReducesP P W (a .next) depth m b t buf n out = subst (λ i. ReducesP P W (a .next) depth m b t buf i out) z second₀ in
-        or-first b t buf n out (second .same ∙ first .same) (second .few) (second .bound) (λ x h.
+        or-first b t buf n out (second .few) (second .bound) (λ x h.
         weaker (one (drop (a .next) W)) (λ y rest g. record {
           result = denies-first (reducePolicy productSets P x) (reducePolicy productSets P y) n out (h .result) e q (g .result);
           next-is = omega (arith, h .next-is, g .next-is);
@@ -425,7 +419,7 @@ module _ (P : Table) (W : List ℕ) (at depth : ℕ) (s m : Lent) (a : ReducedPo
         OrElsePut P W used b buf (back behind (back from out opart) opart₂) out′ size → ReducesBy OrElse P W at depth s (leftTo size end (b .next) (b .count)) t buf′ room out′
     or-open out opart₂ buf′ out′ from behind used size end p f long u g long₂ room′ second₀ z k =
         let second : ReducesP P W (a .next) depth m b t buf room opart₂ = subst (λ i. ReducesP P W (a .next) depth m b t buf i opart₂) z second₀ in
-        or-first (leftTo size end (b .next) (b .count)) t buf′ room out′ (second .same ∙ first .same) (omega arith) (k .bound) (λ x h.
+        or-first (leftTo size end (b .next) (b .count)) t buf′ room out′ (omega arith) (k .bound) (λ x h.
         weaker (one (drop (a .next) W)) (λ y rest i. record {
           result = open-first (reducePolicy productSets P x) (reducePolicy productSets P y) out opart₂ buf′ out′ from behind used size end (b .next) (b .count) p f long u g long₂ k (h .result) (i .result);
           next-is = omega (arith, h .next-is, i .next-is);

@@ -54,14 +54,14 @@ use Rattle.partial_policy.proofs.Adding.{clash}
 -- ---- a policy by its head
 module _ (P : Table) (W : List ℕ) (at depth : ℕ) (s : Lent) (r : ReducedPolicy) (t : Lent) (buf : List ℕ) (room : ℕ) (out : List ℕ) where
   pub by-head : (h : PolicyHead) → (depth ≡ 0 → ⊥) → h ≡ policyHead (getD W at 0) true → ReducesBy h P W at (depth - 1) s r t buf room out → ReducesP P W at depth s r t buf room out
-  by-head h f e a = record { same = a .same; few = a .few; bound = a .bound; says = in-sheet depth (drop at W) (one-level depth (drop at W) f (a .says e)) }
+  by-head h f e a = record { few = a .few; bound = a .bound; says = in-sheet depth (drop at W) (one-level depth (drop at W) f (a .says e)) }
 
   -- Words that don't read.
   pub reduce-end : t ≡ s → r .decision .count ≤ 64 → r .size ≤ tooMany → length W ≤ at → ReducesP P W at depth s r t buf room out
-  reduce-end e few bound h = rw e (record { same = refl; few = few; bound = bound; says = λ res. rw (no-word W at h, nothing-there res depth) nothing })
+  reduce-end e few bound h = rw e (record { few = few; bound = bound; says = λ res. rw (no-word W at h, nothing-there res depth) nothing })
 
   pub reduce-limit : t ≡ s → r .decision .count ≤ 64 → r .size ≤ tooMany → depth ≡ 0 → ReducesP P W at depth s r t buf room out
-  reduce-limit e few bound z = rw e (record { same = refl; few = few; bound = bound; says = λ res. rw z (no-levels res (drop at W)) })
+  reduce-limit e few bound z = rw e (record { few = few; bound = bound; says = λ res. rw z (no-levels res (drop at W)) })
 
 -- ---- what is evaluated: the tags of its heads
 abbrev constants : List ℕ
@@ -94,7 +94,6 @@ pub reduce-constant : (P : Table) (W : List ℕ) (at depth : ℕ) (s : Lent) (r 
 reduce-constant P W at depth s r t buf room out h lt f e k c =
     rw (c .is)
     (record {
-      same = c .evaluates .room;
       few = c .evaluates .few;
       bound = omega arith;
       says = in-sheet depth (drop at W)
@@ -179,7 +178,6 @@ module _ (P : Table) (W : List ℕ) (at depth : ℕ) (hidden : Bool) (n o : ℕ)
   pub grant-short : (s : Lent) (r : ReducedPolicy) (buf : List ℕ) (room : ℕ) (out : List ℕ) → r .decision .count ≤ 64 → r .size ≤ tooMany → length W - at < own → ReducesBy (Grant hidden n o) P W at depth s r s buf room out
   unfolding policyNode
   grant-short s r buf room out few bound h = record {
-    same = refl;
     few = few;
     bound = bound;
     says = λ e. node-holds W at depth (Grant hidden n o) lt e
@@ -267,7 +265,6 @@ module _ (P : Table) (W : List ℕ) (at depth : ℕ) (hidden : Bool) (n o : ℕ)
         ((d : Condition) (g : Clause ℕ) (rest : List ℕ) → nodeAt W at ≡ got (grant g d) rest → g .outcome ≡ o → length (g .obligations) ≡ n → encode (productSets .number) (grant g d) ++ rest ≡ drop at W → condition.Left (reduceCondition P d) a part → Result (reducePolicy productSets P (grant g d)) P W buf room out r) →
         ReducesBy (Grant hidden n o) P W at depth s r t buf room out
     granted r few bound e f = record {
-      same = c .room;
       few = few;
       bound = bound;
       says = λ h. weaker (readPolicy (productSets .value) true (suc depth) (drop at W)) (λ p rest g.

@@ -18,7 +18,7 @@ use Rattle.laws.specs.Size.{words}
 use Rattle.policy_model.specs.declared.PolicyHead.{PolicyHead}
 use Rattle.policy_model.specs.declared.PolicyHead.the-variants as policy
 use Rattle.policy_model.specs.Heads.{policyHead}
-use Rattle.condition.specs.Listing.{Lent, most, Consults}
+use Rattle.condition.specs.Listing.{Lent, Consults}
 use Rattle.decision.specs.declared.Decision.{Decision}
 use Rattle.decision.specs.Meaning.{deniedAt, decisionOf, Sound}
 use Rattle.evaluate.specs.declared.PolicyEval.{PolicyEval}
@@ -59,7 +59,6 @@ pub record ReducedTo (x : model.ReducedPolicy ℕ) (end : ℕ) (reads : Consulte
 
 -- The answer to a policy at `at`, of at most `depth` levels, in a sheet or a residual. Of words that don't read only the bounds are said.
 pub record ReducesP (P : Table) (W : List ℕ) (at depth : ℕ) (s : Lent) (r : ReducedPolicy) (t : Lent) (buf : List ℕ) (room : ℕ) (out : List ℕ) : Type 0 where
-  pub same : most t ≡ most s
   pub few : r .decision .count ≤ 64
   pub bound : r .size ≤ tooMany
   pub says : (res : Bool) →
@@ -67,7 +66,6 @@ pub record ReducesP (P : Table) (W : List ℕ) (at depth : ℕ) (s : Lent) (r : 
 
 -- The same where its first word has this head and `depth` levels are left for what stands below.
 pub record ReducesBy (h : PolicyHead) (P : Table) (W : List ℕ) (at depth : ℕ) (s : Lent) (r : ReducedPolicy) (t : Lent) (buf : List ℕ) (room : ℕ) (out : List ℕ) : Type 0 where
-  pub same : most t ≡ most s
   pub few : r .decision .count ≤ 64
   pub bound : r .size ≤ tooMany
   pub says : h ≡ policyHead (getD W at 0) true →

@@ -12,7 +12,7 @@ ghost use lib.ListN.{length, take, drop, set};
 ghost use Rattle.model.specs.Facts.{tableOf};
 ghost use Rattle.model.specs.Writing.{mostListed, word};
 ghost use Rattle.policy_model.specs.declared.PolicyHead.the-variants.{Grant, OrElse};
-ghost use Rattle.condition.specs.Listing.{lent, Room};
+ghost use Rattle.condition.specs.Listing.{lent};
 ghost use Rattle.evaluate.specs.Evaluating.{Folds};
 ghost use Rattle.sizes.specs.Laid.{tooMany, Laid};
 ghost use Rattle.partial_policy.specs.Keeping.{listKind, armsWith, foldNext};
@@ -87,11 +87,11 @@ fn reduce_grant(
     outcome: u16,
     facts: &[u8],
     entries: &mut [u16],
-    seen: &mut [u8],
+    seen: &mut [u64],
     count: usize,
     out: &mut [u32],
 ) -> ReducedPolicy
-    requires { ⌜ Room (lent count (now entries) (now seen)) × (at < length (now words)) × (depth < 32) × (length (now words) ≤ 16384) ⌝ }
+    requires { ⌜ (at < length (now words)) × (depth < 32) × (length (now words) ≤ 16384) ⌝ }
     ensures { λ r. ⌜ ((hidden : Bool) (buf : List ℕ) (room : ℕ) → ReducesBy (Grant hidden obligations outcome) (tableOf (now (facts .entry))) (now (words .entry)) at depth (lent count (now (entries .entry)) (now (seen .entry))) r (lent (r .count) (now (entries .exit)) (now (seen .exit))) buf room (now (out .exit))) ⌝ }
 {
     let none = words.len();
@@ -129,11 +129,11 @@ fn reduce_constant(
     depth: usize,
     facts: &[u8],
     entries: &mut [u16],
-    seen: &mut [u8],
+    seen: &mut [u64],
     count: usize,
     buf: &mut [u8],
 ) -> ReducedPolicy
-    requires { ⌜ Room (lent count (now entries) (now seen)) × (depth ≤ 32) × (64 * (depth + 1) ≤ length (now buf)) × (length (now words) ≤ 16384) ⌝ }
+    requires { ⌜ (depth ≤ 32) × (64 * (depth + 1) ≤ length (now buf)) × (length (now words) ≤ 16384) ⌝ }
     ensures { λ r. ⌜ ReducesConstant (tableOf (now (facts .entry))) (now (words .entry)) at depth (lent count (now (entries .entry)) (now (seen .entry))) r (lent (r .count) (now (entries .exit)) (now (seen .exit))) (now (buf .exit)) ⌝ }
 {
     let eval = evaluate::eval_policy(words, at, depth, facts, entries, seen, count, buf);
@@ -388,14 +388,14 @@ pub fn reduce_policy(
     depth: usize,
     facts: &[u8],
     entries: &mut [u16],
-    seen: &mut [u8],
+    seen: &mut [u64],
     count: usize,
     buf: &mut [u8],
     named: &mut [u16],
     front: &mut [u32],
     out: &mut [u32],
 ) -> ReducedPolicy
-    requires { ⌜ Room (lent count (now entries) (now seen)) × (depth ≤ 32) × (64 * (depth + 1) ≤ length (now buf)) × (length (now words) ≤ 16384) × (length (now words) ≤ length (now named)) × (min (2 * length (now words)) mostListed ≤ length (now named)) ⌝ }
+    requires { ⌜ (depth ≤ 32) × (64 * (depth + 1) ≤ length (now buf)) × (length (now words) ≤ 16384) × (length (now words) ≤ length (now named)) × (min (2 * length (now words)) mostListed ≤ length (now named)) ⌝ }
     ensures { λ r. ⌜ ReducesP (tableOf (now (facts .entry))) (now (words .entry)) at depth (lent count (now (entries .entry)) (now (seen .entry))) r (lent (r .count) (now (entries .exit)) (now (seen .exit))) (now (buf .exit)) (length (now (front .entry))) (now (out .exit)) ⌝ }
 {
     let none = words.len();
@@ -488,14 +488,14 @@ fn reduce_list(
     every: bool,
     facts: &[u8],
     entries: &mut [u16],
-    seen: &mut [u8],
+    seen: &mut [u64],
     count: usize,
     buf: &mut [u8],
     named: &mut [u16],
     front: &mut [u32],
     out: &mut [u32],
 ) -> ReducedPolicy
-    requires { ⌜ Room (lent count (now entries) (now seen)) × (at < length (now words)) × (depth < 32) × (arms < 4096) × (64 * (depth + 2) ≤ length (now buf)) × (length (now words) ≤ 16384) × (length (now words) ≤ length (now named)) × (min (2 * length (now words)) mostListed ≤ length (now named)) ⌝ }
+    requires { ⌜ (at < length (now words)) × (depth < 32) × (arms < 4096) × (64 * (depth + 2) ≤ length (now buf)) × (length (now words) ≤ 16384) × (length (now words) ≤ length (now named)) × (min (2 * length (now words)) mostListed ≤ length (now named)) ⌝ }
     ensures { λ r. ⌜ ReducesBy (listHead every arms) (tableOf (now (facts .entry))) (now (words .entry)) at depth (lent count (now (entries .entry)) (now (seen .entry))) r (lent (r .count) (now (entries .exit)) (now (seen .exit))) (now (buf .exit)) (length (now (front .entry))) (now (out .exit)) ⌝ }
 {
     let mut sofar = Sofar {
@@ -559,14 +559,14 @@ fn reduce_or_else(
     depth: usize,
     facts: &[u8],
     entries: &mut [u16],
-    seen: &mut [u8],
+    seen: &mut [u64],
     count: usize,
     buf: &mut [u8],
     named: &mut [u16],
     front: &mut [u32],
     out: &mut [u32],
 ) -> ReducedPolicy
-    requires { ⌜ Room (lent count (now entries) (now seen)) × (at < length (now words)) × (depth < 32) × (64 * (depth + 1) ≤ length (now buf)) × (length (now words) ≤ 16384) × (length (now words) ≤ length (now named)) × (min (2 * length (now words)) mostListed ≤ length (now named)) ⌝ }
+    requires { ⌜ (at < length (now words)) × (depth < 32) × (64 * (depth + 1) ≤ length (now buf)) × (length (now words) ≤ 16384) × (length (now words) ≤ length (now named)) × (min (2 * length (now words)) mostListed ≤ length (now named)) ⌝ }
     ensures { λ r. ⌜ ReducesBy OrElse (tableOf (now (facts .entry))) (now (words .entry)) at depth (lent count (now (entries .entry)) (now (seen .entry))) r (lent (r .count) (now (entries .exit)) (now (seen .exit))) (now (buf .exit)) (length (now (front .entry))) (now (out .exit)) ⌝ }
 {
     let from = sizes::tail_from(1, out.len());

@@ -9,7 +9,8 @@ use lib.Seq.{drop-drop, drop-at}
 use Rattle.model.specs.Reading.{Parsed, refuse, got, next, unless, many}
 use Rattle.model.specs.Required.{factSet}
 use Rattle.laws.specs.FieldLaws.{Holds}
-use Rattle.required.specs.Sets.{Grown, Walked, Collected}
+use Rattle.fact_set.specs.Sets.{Grown}
+use Rattle.required.specs.Sets.{Walked, Collected}
 use Rattle.required.specs.Arms.{Onward}
 
 pub grown-none : (s : List ℕ) → Grown (λ f. false) s s

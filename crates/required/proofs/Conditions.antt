@@ -21,7 +21,8 @@ use Rattle.policy_model.specs.declared.ConditionHead.the-variants.{Always, Neve
 use Rattle.policy_model.specs.declared.ConditionHead.the-variants as condition
 use Rattle.policy_model.specs.Heads.{conditionHeads, conditionHead, conditionNode}
 use Rattle.policy_model.specs.HeadLaws.{condition-node}
-use Rattle.required.specs.Sets.{Grown, Walked, Collected}
+use Rattle.fact_set.specs.Sets.{Grown}
+use Rattle.required.specs.Sets.{Walked, Collected}
 use Rattle.required.specs.Nodes.{conditionArms}
 use Rattle.required.specs.Arms.{OnwardC}
 use Rattle.required.proofs.Arms.{grown-none, grown-as, walked-then, walked-as, refused-either, left-of, onward-more, onward-end}

@@ -23,7 +23,7 @@ use Rattle.laws.specs.Lengths.{length-pack}
 use Rattle.laws.specs.ReadForm.{same-consulted}
 use Rattle.policy_model.specs.Answers.{Lead, leadOf}
 use Rattle.required.specs.declared.Required.the-variants.{Facts, Refused}
-use Rattle.required.specs.SetLaws.{ones-named}
+use Rattle.required.specs.Counts.{ones-named}
 use Rattle.required.specs.Answers.{setAfter, Given, FactsOf, Answered, treeOf}
 use Rattle.required.proofs.Arms.{left-of}
 use Rattle.required.proofs.Policies.{another-of}

@@ -11,7 +11,7 @@ use Rattle.model.specs.Reading.{Parsed, refuse, got, unless, whole}
 use Rattle.model.specs.Required.{requiredOf}
 use Rattle.policy_model.specs.Answers.{refusal}
 use Rattle.required.specs.declared.Required.the-variants.{Facts, Refused}
-use Rattle.required.specs.SetLaws.{ones-named}
+use Rattle.required.specs.Counts.{ones-named}
 use Rattle.required.specs.Answers.{setAfter, FactsOf, Answered}
 
 never : (n : ℕ) {G : Type 0} → none ≡ some n → G

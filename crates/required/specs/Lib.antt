@@ -1,5 +1,5 @@
 pub mod Sets
-pub mod SetLaws
+pub mod Counts
 pub mod Nodes
 pub mod Answers
 pub mod Arms

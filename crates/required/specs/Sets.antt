@@ -1,16 +1,12 @@
 -- What a walk adds to a set of facts, and how many facts are named. Document 01, "Required facts".
 use mathlib.Core.Path.{_≡_}
-use mathlib.Core.Bool.{Bool, cond, _||_}
+use mathlib.Core.Bool.{Bool, cond}
 use mathlib.Core.List.{List, [], _∷_}
 use Prim.Native.Nat.{ℕ, zero, suc, _+_}
 use lib.ListN.{length}
 use Rattle.model.specs.Facts.{factCount}
 use Rattle.model.specs.Reading.{Parsed, refuse, got}
-use Rattle.model.specs.Required.{factSet}
-
--- A set has, after, the facts that it had before and exactly those that are named besides.
-pub record Grown (names : ℕ → Bool) (before after : List ℕ) : Type 0 where
-  pub grown : (named : ℕ → Bool) → before ≡ factSet named → after ≡ factSet (λ f. named f || names f)
+use Rattle.fact_set.specs.Sets.{Grown}
 
 -- A walk from `at` over so many words, to `next`.
 pub record Walked (at words next : ℕ) (names : ℕ → Bool) (before after : List ℕ) : Type 0 where

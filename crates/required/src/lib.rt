@@ -8,7 +8,6 @@ use policy_model::SheetCheck;
 ghost use mathlib.Core.Path.{_≡_};
 ghost use mathlib.Core.Bool.{Bool};
 ghost use Prim.Native.Nat.{ℕ, _+_, _≤_, _<_};
-ghost use lib.Dec.{eqb};
 ghost use lib.ListN.{length, drop, replicate};
 ghost use Rattle.model.specs.Outcome.{productSets};
 ghost use Rattle.model.specs.Condition.{namesC};
@@ -17,20 +16,10 @@ ghost use Rattle.model.specs.Reading.{levels, readCondition, readPolicy, readSh
 ghost use Rattle.model.specs.Required.{ones, requiredFacts, requiredResidualFacts};
 ghost use Rattle.laws.specs.Size.{wordsC, words as wordsP};
 ghost use Rattle.policy_model.specs.Heads.{permitTraceNode, denyTraceNode};
-ghost use Rattle.required.specs.Sets.{Grown, Collected};
+ghost use Rattle.required.specs.Sets.{Collected};
 ghost use Rattle.required.specs.Nodes.{conditionArms, policyArms, Ended, OwnFacts};
 ghost use Rattle.required.specs.Arms.{PassedHas, PassedPermits};
 ghost use Rattle.required.specs.Answers.{setAfter, FactsOf, Answered, treeOf};
-
-// Puts a fact into the set. A set that is too short for it is left as it was.
-fn insert(set: &mut [u64], fact: u32)
-    ensures { λ r. ⌜ Grown (λ f. eqb f fact) (now (set .entry)) (now (set .exit)) ⌝ }
-{
-    let at = (fact / 64) as usize;
-    if at < set.len() {
-        set[at] = set[at] | (9223372036854775808 >> (fact % 64));
-    }
-}
 
 // How many conditions follow a condition's first word as its arms.
 fn condition_arms(head: ConditionHead) -> u32
@@ -68,7 +57,7 @@ fn collect_has_facts(words: &[u32], at: usize, count: u32, set: &mut [u64]) -> P
         if word / 1024 != 524288 {
             return Passed { next, left };
         }
-        insert(set, word % 1024);
+        fact_set::insert(set, word % 1024);
         next += 1;
         left -= 1;
     }
@@ -88,7 +77,7 @@ fn collect_condition_facts(words: &[u32], at: usize, depth: usize, set: &mut [u6
     let word = words[at];
     // a Has first, since most nodes are
     if word / 1024 == 524288 {
-        insert(set, word % 1024);
+        fact_set::insert(set, word % 1024);
         return at + 1;
     }
     let mut left = condition_arms(policy_model::condition_head(word));
@@ -115,7 +104,7 @@ fn collect_grant_facts(words: &[u32], at: usize, depth: usize, set: &mut [u64]) 
     }
     let word = words[at];
     if word / 1024 == 524288 {
-        insert(set, word % 1024);
+        fact_set::insert(set, word % 1024);
         return at + 1;
     }
     collect_condition_facts(words, at, depth, set)

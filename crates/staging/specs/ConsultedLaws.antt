@@ -1,11 +1,11 @@
--- A consulted list holds each fact once, and only facts that the tree names: so it has at most 1,024 entries.
+-- A consulted list holds each fact once, and only facts that the tree names: so it has at most 1,024 entries, and no more than there were and the tree has words.
 use mathlib.Core.Path.{_≡_, refl, sym, _∙_, ap}
 use mathlib.Core.Bool.{Bool, true, false, cond, _||_}
 use mathlib.Core.List.{List, [], _∷_, _++_}
 use Prim.Native.Nat.{ℕ, _+_, _≤_, _<_}
 use native.Mathlib.Omega.{arith}
 use lib.Dec.{eqb}
-use lib.ListN.{length}
+use lib.ListN.{length, length-append}
 use Rattle.model.specs.Facts.{Presence, absent, present, unknown, Table}
 use Rattle.model.specs.Outcome.{Outcomes}
 use Rattle.model.specs.Condition.{Condition, always, never, has, notC, allC, anyC, Conditions, cnil, ccons, ConditionEval, satisfied, unsatisfied, evalCondition}
@@ -15,6 +15,7 @@ use Rattle.model.specs.Evaluate.{evalPolicy}
 use Rattle.model.specs.Partial.{ReducedCondition, known, pendingC, reduceCondition, ReducedPolicy, resolved, pending, reducePolicy}
 use Rattle.model.specs.Consulted.{Entry, Consulted, isConsulted, consult, consultKnown, onceFrom, once, afterTrue, afterFalse, readC, readAllC, readAnyC, afterPermit, afterDeny, unlessFalse, unlessTrue, walkC, walkAllC, walkAnyC, unlessDenied, unlessPermitted, read, readAll, readAny, walk, walkAll, walkAny}
 use Rattle.laws.specs.Lists.{Distinct, Every, insert-distinct, insert-every, pigeon}
+use Rattle.laws.specs.Size.{wordsC, wordsCs, words, wordss}
 use Rattle.laws.specs.Each.{EachC, EachCs, Each, Eachs}
 
 abbrev pub consultedFacts : Consulted → List ℕ
@@ -44,6 +45,44 @@ length-facts : (l : Consulted) → length (consultedFacts l) ≡ length l
 length-facts [] = omega arith
 length-facts (e ∷ l) = omega (arith, length-facts l)
 
+-- What holds of both lists holds of the one that is taken.
+module _ (R : Consulted → Type 0) where
+  either-afterTrue : (v : ConditionEval) (l m : Consulted) → R l → R m → R (afterTrue v l m)
+  either-afterTrue (satisfied fs) l m h k = k
+  either-afterTrue (unsatisfied fs) l m h k = h
+
+  either-afterFalse : (v : ConditionEval) (l m : Consulted) → R l → R m → R (afterFalse v l m)
+  either-afterFalse (satisfied fs) l m h k = h
+  either-afterFalse (unsatisfied fs) l m h k = k
+
+  either-unlessFalse : (r : ReducedCondition) (l m : Consulted) → R l → R m → R (unlessFalse r l m)
+  either-unlessFalse (known false) l m h k = h
+  either-unlessFalse (known true) l m h k = k
+  either-unlessFalse (pendingC c) l m h k = k
+
+  either-unlessTrue : (r : ReducedCondition) (l m : Consulted) → R l → R m → R (unlessTrue r l m)
+  either-unlessTrue (known true) l m h k = h
+  either-unlessTrue (known false) l m h k = k
+  either-unlessTrue (pendingC c) l m h k = k
+
+  either-afterPermit : {O : Type 0} (d : Decision O) (l m : Consulted) → R l → R m → R (afterPermit d l m)
+  either-afterPermit (permits p) l m h k = k
+  either-afterPermit (denies d) l m h k = h
+
+  either-afterDeny : {O : Type 0} (d : Decision O) (l m : Consulted) → R l → R m → R (afterDeny d l m)
+  either-afterDeny (permits p) l m h k = h
+  either-afterDeny (denies d) l m h k = k
+
+  either-unlessDenied : {O : Type 0} (r : ReducedPolicy O) (l m : Consulted) → R l → R m → R (unlessDenied r l m)
+  either-unlessDenied (resolved (permits p)) l m h k = k
+  either-unlessDenied (resolved (denies d)) l m h k = h
+  either-unlessDenied (pending t) l m h k = k
+
+  either-unlessPermitted : {O : Type 0} (r : ReducedPolicy O) (l m : Consulted) → R l → R m → R (unlessPermitted r l m)
+  either-unlessPermitted (resolved (permits p)) l m h k = h
+  either-unlessPermitted (resolved (denies d)) l m h k = k
+  either-unlessPermitted (pending t) l m h k = k
+
 -- Each fact once, and each with Q.
 abbrev pub Good : (ℕ → Type 0) → Consulted → Type 0
 Good Q l = Distinct (consultedFacts l) × Every Q (consultedFacts l)
@@ -64,42 +103,6 @@ module _ (Q : ℕ → Type 0) where
   pub good-once : (l : Consulted) → Every Q (consultedFacts l) → Good Q (once l)
   good-once l h = good-onceFrom [] l (tt, tt) h
 
-  good-afterTrue : (v : ConditionEval) (l m : Consulted) → Good Q l → Good Q m → Good Q (afterTrue v l m)
-  good-afterTrue (satisfied fs) l m h k = k
-  good-afterTrue (unsatisfied fs) l m h k = h
-
-  good-afterFalse : (v : ConditionEval) (l m : Consulted) → Good Q l → Good Q m → Good Q (afterFalse v l m)
-  good-afterFalse (satisfied fs) l m h k = h
-  good-afterFalse (unsatisfied fs) l m h k = k
-
-  good-unlessFalse : (r : ReducedCondition) (l m : Consulted) → Good Q l → Good Q m → Good Q (unlessFalse r l m)
-  good-unlessFalse (known false) l m h k = h
-  good-unlessFalse (known true) l m h k = k
-  good-unlessFalse (pendingC c) l m h k = k
-
-  good-unlessTrue : (r : ReducedCondition) (l m : Consulted) → Good Q l → Good Q m → Good Q (unlessTrue r l m)
-  good-unlessTrue (known true) l m h k = h
-  good-unlessTrue (known false) l m h k = k
-  good-unlessTrue (pendingC c) l m h k = k
-
-  good-afterPermit : {O : Type 0} (d : Decision O) (l m : Consulted) → Good Q l → Good Q m → Good Q (afterPermit d l m)
-  good-afterPermit (permits p) l m h k = k
-  good-afterPermit (denies d) l m h k = h
-
-  good-afterDeny : {O : Type 0} (d : Decision O) (l m : Consulted) → Good Q l → Good Q m → Good Q (afterDeny d l m)
-  good-afterDeny (permits p) l m h k = h
-  good-afterDeny (denies d) l m h k = k
-
-  good-unlessDenied : {O : Type 0} (r : ReducedPolicy O) (l m : Consulted) → Good Q l → Good Q m → Good Q (unlessDenied r l m)
-  good-unlessDenied (resolved (permits p)) l m h k = k
-  good-unlessDenied (resolved (denies d)) l m h k = h
-  good-unlessDenied (pending t) l m h k = k
-
-  good-unlessPermitted : {O : Type 0} (r : ReducedPolicy O) (l m : Consulted) → Good Q l → Good Q m → Good Q (unlessPermitted r l m)
-  good-unlessPermitted (resolved (permits p)) l m h k = h
-  good-unlessPermitted (resolved (denies d)) l m h k = k
-  good-unlessPermitted (pending t) l m h k = k
-
   module _ (T : Table) where
     mutual
       good-readC : (c : Condition) (l : Consulted) → EachC Q c → Good Q l → Good Q (readC T c l)
@@ -113,12 +116,12 @@ module _ (Q : ℕ → Type 0) where
       good-readAllC : (cs : Conditions) (l : Consulted) → EachCs Q cs → Good Q l → Good Q (readAllC T cs l)
       good-readAllC cnil l q h = h
       good-readAllC (ccons c cs) l q h =
-          good-afterTrue (evalCondition T c) (readC T c l) (readAllC T cs (readC T c l)) (good-readC c l (q .0) h) (good-readAllC cs (readC T c l) (q .1) (good-readC c l (q .0) h))
+          either-afterTrue (Good Q) (evalCondition T c) (readC T c l) (readAllC T cs (readC T c l)) (good-readC c l (q .0) h) (good-readAllC cs (readC T c l) (q .1) (good-readC c l (q .0) h))
 
       good-readAnyC : (cs : Conditions) (l : Consulted) → EachCs Q cs → Good Q l → Good Q (readAnyC T cs l)
       good-readAnyC cnil l q h = h
       good-readAnyC (ccons c cs) l q h =
-          good-afterFalse (evalCondition T c) (readC T c l) (readAnyC T cs (readC T c l)) (good-readC c l (q .0) h) (good-readAnyC cs (readC T c l) (q .1) (good-readC c l (q .0) h))
+          either-afterFalse (Good Q) (evalCondition T c) (readC T c l) (readAnyC T cs (readC T c l)) (good-readC c l (q .0) h) (good-readAnyC cs (readC T c l) (q .1) (good-readC c l (q .0) h))
 
     mutual
       good-walkC : (c : Condition) (l : Consulted) → EachC Q c → Good Q l → Good Q (walkC T c l)
@@ -132,12 +135,12 @@ module _ (Q : ℕ → Type 0) where
       good-walkAllC : (cs : Conditions) (l : Consulted) → EachCs Q cs → Good Q l → Good Q (walkAllC T cs l)
       good-walkAllC cnil l q h = h
       good-walkAllC (ccons c cs) l q h =
-          good-unlessFalse (reduceCondition T c) (walkC T c l) (walkAllC T cs (walkC T c l)) (good-walkC c l (q .0) h) (good-walkAllC cs (walkC T c l) (q .1) (good-walkC c l (q .0) h))
+          either-unlessFalse (Good Q) (reduceCondition T c) (walkC T c l) (walkAllC T cs (walkC T c l)) (good-walkC c l (q .0) h) (good-walkAllC cs (walkC T c l) (q .1) (good-walkC c l (q .0) h))
 
       good-walkAnyC : (cs : Conditions) (l : Consulted) → EachCs Q cs → Good Q l → Good Q (walkAnyC T cs l)
       good-walkAnyC cnil l q h = h
       good-walkAnyC (ccons c cs) l q h =
-          good-unlessTrue (reduceCondition T c) (walkC T c l) (walkAnyC T cs (walkC T c l)) (good-walkC c l (q .0) h) (good-walkAnyC cs (walkC T c l) (q .1) (good-walkC c l (q .0) h))
+          either-unlessTrue (Good Q) (reduceCondition T c) (walkC T c l) (walkAnyC T cs (walkC T c l)) (good-walkC c l (q .0) h) (good-walkAnyC cs (walkC T c l) (q .1) (good-walkC c l (q .0) h))
 
   module _ (L : Outcomes) (T : Table) where
     mutual
@@ -148,13 +151,13 @@ module _ (Q : ℕ → Type 0) where
       good-read (all ts) l q h = good-readAll ts l q h
       good-read (any ts) l q h = good-readAny ts l q h
       good-read (orElse a b) l q h =
-          good-afterDeny (evalPolicy L T a) (read L T a l) (read L T b (read L T a l)) (good-read a l (q .0) h) (good-read b (read L T a l) (q .1) (good-read a l (q .0) h))
+          either-afterDeny (Good Q) (evalPolicy L T a) (read L T a l) (read L T b (read L T a l)) (good-read a l (q .0) h) (good-read b (read L T a l) (q .1) (good-read a l (q .0) h))
       good-read (stored d) l q h = h
 
       good-readAll : (ts : Policies (L .O)) (l : Consulted) → Eachs Q ts → Good Q l → Good Q (readAll L T ts l)
       good-readAll pnil l q h = h
       good-readAll (pcons t ts) l q h =
-          good-afterPermit (evalPolicy L T t) (read L T t l) (readAll L T ts (read L T t l)) (good-read t l (q .0) h) (good-readAll ts (read L T t l) (q .1) (good-read t l (q .0) h))
+          either-afterPermit (Good Q) (evalPolicy L T t) (read L T t l) (readAll L T ts (read L T t l)) (good-read t l (q .0) h) (good-readAll ts (read L T t l) (q .1) (good-read t l (q .0) h))
 
       good-readAny : (ts : Policies (L .O)) (l : Consulted) → Eachs Q ts → Good Q l → Good Q (readAny L T ts l)
       good-readAny pnil l q h = h
@@ -168,17 +171,157 @@ module _ (Q : ℕ → Type 0) where
       good-walk (all ts) l q h = good-walkAll ts l q h
       good-walk (any ts) l q h = good-walkAny ts l q h
       good-walk (orElse a b) l q h =
-          good-unlessPermitted (reducePolicy L T a) (walk L T a l) (walk L T b (walk L T a l)) (good-walk a l (q .0) h) (good-walk b (walk L T a l) (q .1) (good-walk a l (q .0) h))
+          either-unlessPermitted (Good Q) (reducePolicy L T a) (walk L T a l) (walk L T b (walk L T a l)) (good-walk a l (q .0) h) (good-walk b (walk L T a l) (q .1) (good-walk a l (q .0) h))
       good-walk (stored d) l q h = h
 
       good-walkAll : (ts : Policies (L .O)) (l : Consulted) → Eachs Q ts → Good Q l → Good Q (walkAll L T ts l)
       good-walkAll pnil l q h = h
       good-walkAll (pcons t ts) l q h =
-          good-unlessDenied (reducePolicy L T t) (walk L T t l) (walkAll L T ts (walk L T t l)) (good-walk t l (q .0) h) (good-walkAll ts (walk L T t l) (q .1) (good-walk t l (q .0) h))
+          either-unlessDenied (Good Q) (reducePolicy L T t) (walk L T t l) (walkAll L T ts (walk L T t l)) (good-walk t l (q .0) h) (good-walkAll ts (walk L T t l) (q .1) (good-walk t l (q .0) h))
 
       good-walkAny : (ts : Policies (L .O)) (l : Consulted) → Eachs Q ts → Good Q l → Good Q (walkAny L T ts l)
       good-walkAny pnil l q h = h
       good-walkAny (pcons t ts) l q h = good-walkAny ts (walk L T t l) (q .1) (good-walk t l (q .0) h)
+
+-- ---- no more entries come than the tree has words
+consult-at : (l : Consulted) (f : ℕ) (p : Presence) (b : Bool) → isConsulted f l ≡ b → length (consult l f p) ≤ length l + 1
+consult-at l f p true e = rw e (omega arith)
+consult-at l f p false e = let k : Entry = record { fact = f; seen = p } in rw e (omega (arith, length-append l (k ∷ [])))
+
+consult-length : (l : Consulted) (f : ℕ) (p : Presence) → length (consult l f p) ≤ length l + 1
+consult-length l f p = consult-at l f p (isConsulted f l) refl
+
+known-length : (l : Consulted) (f : ℕ) (p : Presence) → length (consultKnown l f p) ≤ length l + 1
+known-length l f absent = consult-length l f absent
+known-length l f present = consult-length l f present
+known-length l f unknown = omega arith
+
+once-from-length : (l es : Consulted) → length (onceFrom l es) ≤ length l + length es
+once-from-length l [] = omega arith
+once-from-length l (e ∷ es) = omega (arith, once-from-length (consult l (e .fact) (e .seen)) es, consult-length l (e .fact) (e .seen))
+
+pub once-length : (es : Consulted) → length (once es) ≤ length es
+once-length es = omega (arith, once-from-length [] es)
+
+-- Of two walks, one after the other, and the first alone.
+module _ (l m n : Consulted) (i j : ℕ) (h : length m ≤ length l + i) (k : length n ≤ length m + j) where
+  pub both-walks : length n ≤ length l + (i + j)
+  both-walks = omega arith
+
+  pub first-walk : length m ≤ length l + (i + j)
+  first-walk = omega arith
+
+module _ (T : Table) where
+  mutual
+    readC-length : (c : Condition) (l : Consulted) → length (readC T c l) ≤ length l + wordsC c
+    readC-length always l = omega arith
+    readC-length never l = omega arith
+    readC-length (has f) l = consult-length l f (T f)
+    readC-length (notC c) l = omega (arith, readC-length c l)
+    readC-length (allC cs) l = omega (arith, readAllC-length cs l)
+    readC-length (anyC cs) l = omega (arith, readAnyC-length cs l)
+
+    readAllC-length : (cs : Conditions) (l : Consulted) → length (readAllC T cs l) ≤ length l + wordsCs cs
+    readAllC-length cnil l = omega arith
+    readAllC-length (ccons c cs) l =
+        let m = readC T c l in
+        let n = readAllC T cs m in
+        let h = readC-length c l in
+        let k = readAllC-length cs m in
+        either-afterTrue (λ k. length k ≤ length l + (wordsC c + wordsCs cs)) (evalCondition T c) m n (first-walk l m n (wordsC c) (wordsCs cs) h k) (both-walks l m n (wordsC c) (wordsCs cs) h k)
+
+    readAnyC-length : (cs : Conditions) (l : Consulted) → length (readAnyC T cs l) ≤ length l + wordsCs cs
+    readAnyC-length cnil l = omega arith
+    readAnyC-length (ccons c cs) l =
+        let m = readC T c l in
+        let n = readAnyC T cs m in
+        let h = readC-length c l in
+        let k = readAnyC-length cs m in
+        either-afterFalse (λ k. length k ≤ length l + (wordsC c + wordsCs cs)) (evalCondition T c) m n (first-walk l m n (wordsC c) (wordsCs cs) h k) (both-walks l m n (wordsC c) (wordsCs cs) h k)
+
+  mutual
+    walkC-length : (c : Condition) (l : Consulted) → length (walkC T c l) ≤ length l + wordsC c
+    walkC-length always l = omega arith
+    walkC-length never l = omega arith
+    walkC-length (has f) l = known-length l f (T f)
+    walkC-length (notC c) l = omega (arith, walkC-length c l)
+    walkC-length (allC cs) l = omega (arith, walkAllC-length cs l)
+    walkC-length (anyC cs) l = omega (arith, walkAnyC-length cs l)
+
+    walkAllC-length : (cs : Conditions) (l : Consulted) → length (walkAllC T cs l) ≤ length l + wordsCs cs
+    walkAllC-length cnil l = omega arith
+    walkAllC-length (ccons c cs) l =
+        let m = walkC T c l in
+        let n = walkAllC T cs m in
+        let h = walkC-length c l in
+        let k = walkAllC-length cs m in
+        either-unlessFalse (λ k. length k ≤ length l + (wordsC c + wordsCs cs)) (reduceCondition T c) m n (first-walk l m n (wordsC c) (wordsCs cs) h k) (both-walks l m n (wordsC c) (wordsCs cs) h k)
+
+    walkAnyC-length : (cs : Conditions) (l : Consulted) → length (walkAnyC T cs l) ≤ length l + wordsCs cs
+    walkAnyC-length cnil l = omega arith
+    walkAnyC-length (ccons c cs) l =
+        let m = walkC T c l in
+        let n = walkAnyC T cs m in
+        let h = walkC-length c l in
+        let k = walkAnyC-length cs m in
+        either-unlessTrue (λ k. length k ≤ length l + (wordsC c + wordsCs cs)) (reduceCondition T c) m n (first-walk l m n (wordsC c) (wordsCs cs) h k) (both-walks l m n (wordsC c) (wordsCs cs) h k)
+
+module _ (L : Outcomes) (T : Table) where
+  mutual
+    pub read-length : (t : Policy (L .O)) (l : Consulted) → length (read L T t l) ≤ length l + words t
+    read-length (permit o) l = omega arith
+    read-length deny l = omega arith
+    read-length (grant g c) l = omega (arith, readC-length T c l)
+    read-length (all ts) l = omega (arith, readAll-length ts l)
+    read-length (any ts) l = omega (arith, readAny-length ts l)
+    read-length (orElse a b) l =
+        let m = read L T a l in
+        let n = read L T b m in
+        let h = read-length a l in
+        let k = read-length b m in
+        either-afterDeny (λ k. length k ≤ length l + (1 + words a + words b)) (evalPolicy L T a) m n (omega arith) (omega arith)
+    read-length (stored d) l = omega arith
+
+    readAll-length : (ts : Policies (L .O)) (l : Consulted) → length (readAll L T ts l) ≤ length l + wordss ts
+    readAll-length pnil l = omega arith
+    readAll-length (pcons t ts) l =
+        let m = read L T t l in
+        let n = readAll L T ts m in
+        let h = read-length t l in
+        let k = readAll-length ts m in
+        either-afterPermit (λ k. length k ≤ length l + (words t + wordss ts)) (evalPolicy L T t) m n (first-walk l m n (words t) (wordss ts) h k) (both-walks l m n (words t) (wordss ts) h k)
+
+    readAny-length : (ts : Policies (L .O)) (l : Consulted) → length (readAny L T ts l) ≤ length l + wordss ts
+    readAny-length pnil l = omega arith
+    readAny-length (pcons t ts) l = omega (arith, read-length t l, readAny-length ts (read L T t l))
+
+  mutual
+    pub walk-length : (t : Policy (L .O)) (l : Consulted) → length (walk L T t l) ≤ length l + words t
+    walk-length (permit o) l = omega arith
+    walk-length deny l = omega arith
+    walk-length (grant g c) l = omega (arith, walkC-length T c l)
+    walk-length (all ts) l = omega (arith, walkAll-length ts l)
+    walk-length (any ts) l = omega (arith, walkAny-length ts l)
+    walk-length (orElse a b) l =
+        let m = walk L T a l in
+        let n = walk L T b m in
+        let h = walk-length a l in
+        let k = walk-length b m in
+        either-unlessPermitted (λ k. length k ≤ length l + (1 + words a + words b)) (reducePolicy L T a) m n (omega arith) (omega arith)
+    walk-length (stored d) l = omega arith
+
+    walkAll-length : (ts : Policies (L .O)) (l : Consulted) → length (walkAll L T ts l) ≤ length l + wordss ts
+    walkAll-length pnil l = omega arith
+    walkAll-length (pcons t ts) l =
+        let m = walk L T t l in
+        let n = walkAll L T ts m in
+        let h = walk-length t l in
+        let k = walkAll-length ts m in
+        either-unlessDenied (λ k. length k ≤ length l + (words t + wordss ts)) (reducePolicy L T t) m n (first-walk l m n (words t) (wordss ts) h k) (both-walks l m n (words t) (wordss ts) h k)
+
+    walkAny-length : (ts : Policies (L .O)) (l : Consulted) → length (walkAny L T ts l) ≤ length l + wordss ts
+    walkAny-length pnil l = omega arith
+    walkAny-length (pcons t ts) l = omega (arith, walk-length t l, walkAny-length ts (walk L T t l))
 
 -- A consulted list of facts below 1,024, each once, has at most 1,024 entries.
 pub log-length : (l : Consulted) → Good (λ f. f < 1024) l → length l ≤ 1024

@@ -5,6 +5,7 @@ pub mod FormLaws
 pub mod ConsultedLaws
 pub mod Chain
 pub mod Bound
+pub mod Entries
 pub mod Stages
 pub mod Statement
 pub mod Demand3

@@ -142,7 +142,7 @@ module _ (t : ℕ) where
   eval-arms-calls = (eval-arm-below, eval-arm.Post, skip-conditions-reads.Asked, skip-conditions-reads.Learnt, answer-reads.Asked, answer-reads.Learnt)
 
   eval-arms-loop-holds : eval-arms-lts.Need-loop-holds eval-arms-calls eval-arms-at eval-arms.Post eval-arms-Inv-loop eval-arms-μ-loop
-  eval-arms-loop-holds c = record { room = refl; entries-long = refl; seen-long = refl; goes = λ r t e. e }
+  eval-arms-loop-holds c = record { entries-long = refl; seen-long = refl; goes = λ r t e. e }
 
   eval-arms-eval-arm-requires : eval-arms-lts.Need-eval-arm-requires eval-arms-calls eval-arms-at eval-arms.Post eval-arms-Inv-loop eval-arms-μ-loop
   eval-arms-eval-arm-requires c κs = search needs
@@ -179,7 +179,6 @@ module _ (t : ℕ) where
       let call = c .before .before .before .before .before .before in
       let turn = call .before .before .before in
       record {
-        room = call .eval-arm .ensures .room ∙ turn .before .loop .inv .room;
         entries-long = search needs;
         seen-long = search needs;
         goes = λ r t e. turn .before .loop .inv .goes r t
@@ -250,7 +249,7 @@ module _ (t : ℕ) where
   eval-condition-eval-has-requires : eval-condition-lts.Need-eval-has-requires eval-condition-calls eval-condition-at eval-condition.Post
   eval-condition-eval-has-requires c κs =
       let fact = c .before .before .before in
-      (search needs, has-below _ _ (sym (fact .fact .given .1) ∙ fact .before .before .condition-head .ensures))
+      has-below _ _ (sym (fact .fact .given .1) ∙ fact .before .before .condition-head .ensures)
 
   eval-condition-enum-told-3 : eval-condition-lts.Need-enum-told-3 eval-condition-calls eval-condition-at eval-condition.Post
   eval-condition-enum-told-3 c = search needs

@@ -1,16 +1,20 @@
 -- `condition::record` meets its contract: by whether the list is longer than before. Assumes nothing.
 use mathlib.Core.Path.{_≡_, refl, ap}
-use Prim.Native.Nat.{ℕ, zero, suc, _+_, _<_}
+use mathlib.Core.Bool.{Bool, true, false}
+use mathlib.Core.List.{List}
+use Prim.Native.Nat.{ℕ, _+_, _<_}
 use native.Mathlib.Omega.{arith}
-use lib.ListN.{getD, set}
+use lib.Dec.{eqb}
+use lib.ListN.{length, set}
 use Rattle.model.specs.Facts.{Presence, factCount}
 use Rattle.model.specs.Writing.{entryField}
+use Rattle.model.specs.Required.{oneBit}
+use Rattle.fact_set.specs.Sets.{Grown, Contained}
 use Rattle.consulted.specs.declared.Consulted.{Consulted}
 use Rattle.consulted.specs.Lists.{recordedOf}
-use Rattle.condition.specs.Listing.{entryOf, Lent, lent, Room, Recorded}
-use Rattle.condition.proofs.Listing.{some-room, recorded-again, recorded-new}
+use Rattle.condition.specs.Listing.{entryOf, Lent, lent, Recorded}
+use Rattle.condition.proofs.Listing.{recorded-again, recorded-full, recorded-new}
 use borrow.Author.Needs.{needs}
-use borrow.Author.Tests.{ne-eqb}
 use Rattle.condition.proofs.record.Statement.{statement}
 use Rattle.condition.proofs.record.Tie as tie
 
@@ -18,26 +22,35 @@ use Rattle.condition.proofs.record.Tie as tie
 abbrev so-long : ℕ → Consulted
 so-long count = record { last = 0; length = count }
 
--- It is as long as before where the flag is set, and else has one entry more.
-was-seen : (count flag e : ℕ) (l : Consulted) → l ≡ recordedOf (so-long count) flag e → l .length ≡ count → flag ≡ 0 → ⊥
-was-seen count zero e l is same z = omega (arith, ap (λ (k : Consulted). k .length) is, same)
-was-seen count (suc flag) e l is same z = omega arith
+-- It is as long as before where the fact is listed, and else has one entry more.
+was-listed : (count e : ℕ) (b : Bool) (l : Consulted) → l ≡ recordedOf (so-long count) (oneBit b) e → l .length ≡ count → b ≡ true
+was-listed count e true l is same = refl
+was-listed count e false l is same = absurd (omega (arith, ap (λ (k : Consulted). k .length) is, same))
 
-record Grew (count flag e : ℕ) (l : Consulted) : Type 0 where
-  unseen : flag ≡ 0
+record Grew (count e : ℕ) (b : Bool) (l : Consulted) : Type 0 where
+  new : b ≡ false
   last-is : l .last ≡ e
   length-is : l .length ≡ count + 1
 
-grew : (count flag e : ℕ) (l : Consulted) → l ≡ recordedOf (so-long count) flag e → (l .length ≡ count → ⊥) → Grew count flag e l
-grew count zero e l is more = record { unseen = refl; last-is = ap (λ (k : Consulted). k .last) is; length-is = ap (λ (k : Consulted). k .length) is }
-grew count (suc flag) e l is more = absurd (more (ap (λ (k : Consulted). k .length) (rw (ne-eqb (suc flag) 0 (λ z. omega arith)) at is)))
+grew : (count e : ℕ) (b : Bool) (l : Consulted) → l ≡ recordedOf (so-long count) (oneBit b) e → (l .length ≡ count → ⊥) → Grew count e b l
+grew count e true l is more = absurd (more (ap (λ (k : Consulted). k .length) is))
+grew count e false l is more = record { new = refl; last-is = ap (λ (k : Consulted). k .last) is; length-is = ap (λ (k : Consulted). k .length) is }
 
-longer : (f : ℕ) (p : Presence) (s : Lent) (e : ℕ) (l : Consulted) → Room s → f < factCount → e ≡ entryField (entryOf f p) → Grew (s .count) (getD (s .seen) f 0) e l →
-    Recorded f p s (lent (l .length) (set (s .entries) (s .count) (l .last)) (set (s .seen) f 1))
-longer f p s e l room lt is g = rw (g .length-is, g .last-is, is) (recorded-new f p s room lt (g .unseen))
+shorter : (f : ℕ) (p : Presence) (s : Lent) (b : Bool) → f < factCount → Contained f (s .seen) b → b ≡ true → Recorded f p s s
+shorter f p s b lt c is = recorded-again f p s lt (rw is at c)
 
-slice-read-noted : tie.Need-slice-read-noted
-slice-read-noted c = search needs
+longer : (f : ℕ) (p : Presence) (s : Lent) (seen : List ℕ) (e : ℕ) (b : Bool) (l : Consulted) → f < factCount → s .count < length (s .entries) → Contained f (s .seen) b → Grown (λ g. eqb g f) (s .seen) seen →
+    e ≡ entryField (entryOf f p) → Grew (s .count) e b l → Recorded f p s (lent (l .length) (set (s .entries) (s .count) (l .last)) seen)
+longer f p s seen e b l lt room c more is g = rw (g .length-is, g .last-is, is) (recorded-new f p s seen lt room (rw (g .new) at c) more)
+
+returns : tie.Need-returns
+returns c = recorded-full (c .before .before .before .args .fact) _ _ (c .if1 .taken)
+
+contains-requires : tie.Need-contains-requires
+contains-requires c κs = search needs
+
+flag-requires : tie.Need-flag-requires
+flag-requires c κs = search needs
 
 entry-requires : tie.Need-entry-requires
 entry-requires c κs = search needs
@@ -45,47 +58,56 @@ entry-requires c κs = search needs
 noted-requires : tie.Need-noted-requires
 noted-requires c κs = search needs
 
-returns : tie.Need-returns
-returns c =
-    let call = c .before .before in
-    let start = call .before .before .before .before .before in
-    recorded-again (start .args .fact) _ _ (omega arith) (was-seen _ _ _ _ (call .noted .ensures) (c .if1 .taken))
+same-length : tie.Need-same-length
+same-length c = search needs
 
-slice-write-seen : tie.Need-slice-write-seen
-slice-write-seen c = search needs
+returns-2 : tie.Need-returns-2
+returns-2 c =
+    let noted = c .before .before in
+    let flag = noted .before .before in
+    let start = flag .before .before .before .before .before .before in
+    shorter _ _ _ _ (start .pre) (flag .before .contains .ensures) (was-listed _ _ _ _ (rw (flag .flag .ensures) at (noted .noted .ensures)) (c .if2 .taken))
+
+insert-requires : tie.Need-insert-requires
+insert-requires c κs = search needs
 
 mul-entries : tie.Need-mul-entries
 mul-entries c = search needs
 
 slice-write-entries : tie.Need-slice-write-entries
-slice-write-entries c =
-    let call = c .before .before in
-    let start = call .before .before .before .before .before in
-    some-room _ _ (start .pre .0) (omega arith) (grew _ _ _ _ (call .noted .ensures) (c .if1 .left) .unseen)
-
-same-length : tie.Need-same-length
-same-length c = search needs
+slice-write-entries c = search needs
 
 same-length-2 : tie.Need-same-length-2
 same-length-2 c = search needs
 
-returns-2 : tie.Need-returns-2
-returns-2 c =
-    let call = c .before .before in
-    let start = call .before .before .before .before .before in
-    longer _ _ _ _ _ (start .pre .0) (start .pre .1) (call .before .entry .ensures) (grew _ _ _ _ (call .noted .ensures) (c .if1 .left))
+same-length-3 : tie.Need-same-length-3
+same-length-3 c = search needs
+
+returns-3 : tie.Need-returns-3
+returns-3 c =
+    let insert = c .before .before in
+    let new = insert .before .before in
+    let noted = new .before .before in
+    let flag = noted .before .before in
+    let room = flag .before .before .before in
+    let start = room .before .before .before in
+    longer _ _ _ _ _ _ _ (start .pre) (room .if1 .left) (flag .before .contains .ensures) (insert .insert .ensures) (noted .before .entry .ensures)
+    (grew _ _ _ _ (rw (flag .flag .ensures) at (noted .noted .ensures)) (new .if2 .left))
 
 pub record-spec : {M : Type 1} → statement M
 record-spec =
     tie.close
     (tie.spec
-    slice-read-noted
+    returns
+    contains-requires
+    flag-requires
     entry-requires
     noted-requires
-    returns
-    slice-write-seen
+    same-length
+    returns-2
+    insert-requires
     mul-entries
     slice-write-entries
-    same-length
     same-length-2
-    returns-2)
+    same-length-3
+    returns-3)

@@ -24,7 +24,7 @@ returns c =
     let start = found .before .before .before .before .before in
     λ hidden n o buf. rw (c .denied .ensures)
     (grant-by-word hidden n o
-    (grant-short _ _ _ _ hidden _ _ (start .pre .1) (start .pre .2) _ _ buf (omega arith) (omega (arith, c .before .if1 .taken, found .before-condition-in .ensures))))
+    (grant-short _ _ _ _ hidden _ _ (start .pre .0) (start .pre .1) _ _ buf (omega arith) (omega (arith, c .before .if1 .taken, found .before-condition-in .ensures))))
 
 add-eval-condition : tie.Need-add-eval-condition
 add-eval-condition c = search needs
@@ -55,7 +55,7 @@ returns-2 c =
     let start = found .before .before .before .before .before in
     λ hidden n o buf. rw (c .permitted-by .ensures, outcome .outcome-in .ensures)
     (grant-by-word hidden n o
-    (grant-permits _ _ _ _ hidden _ _ (start .pre .1) (start .pre .2) _ _ _ buf (rw (found .before-condition-in .ensures) at (call .eval-condition .ensures)) (outcome .before .if2 .taken)))
+    (grant-permits _ _ _ _ hidden _ _ (start .pre .0) (start .pre .1) _ _ _ buf (rw (found .before-condition-in .ensures) at (call .eval-condition .ensures)) (outcome .before .if2 .taken)))
 
 denied-by-requires : tie.Need-denied-by-requires
 denied-by-requires c κs = search needs
@@ -73,7 +73,7 @@ returns-3 c =
     let start = found .before .before .before .before .before in
     λ hidden n o buf. rw (c .denied-by .ensures)
     (grant-by-word hidden n o
-    (grant-denies _ _ _ _ hidden _ _ (start .pre .1) (start .pre .2) _ _ _ buf (rw (found .before-condition-in .ensures) at (call .eval-condition .ensures)) (c .before .if2 .left)))
+    (grant-denies _ _ _ _ hidden _ _ (start .pre .0) (start .pre .1) _ _ _ buf (rw (found .before-condition-in .ensures) at (call .eval-condition .ensures)) (c .before .if2 .left)))
 
 pub eval-grant-spec : {M : Type 1} → statement M
 eval-grant-spec =

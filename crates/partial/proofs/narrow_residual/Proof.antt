@@ -43,31 +43,50 @@ copy-record-requires c κs = search needs
 enum-known-consulted : tie.Need-enum-known-consulted
 enum-known-consulted c = search needs
 
-cast-reduce : tie.Need-cast-reduce
-cast-reduce c = search needs
+cast-reduce-short : tie.Need-cast-reduce-short
+cast-reduce-short c = search needs
 
-reduce-requires : tie.Need-reduce-requires
-reduce-requires c κs = search needs
+reduce-short-requires : tie.Need-reduce-short-requires
+reduce-short-requires c κs = search needs
+
+same-length : tie.Need-same-length
+same-length c = search needs
 
 returns-3 : tie.Need-returns-3
 returns-3 c =
+    let done = c .before .before in
+    let told = done .before .before .before .before in
+    let check = told .before .before in
+    let fault = check .before .before .before in
+    let args = fault .before .before .before .before .before .before .args in
+    pending-narrowed (args .words .now) (args .facts .now) (args .out .now) (fault .before .before .if1 .left) (fault .before .if2 .left) (ap faultOf (sym (check .before .enum-told .given .1)) ∙ fault .partial-fault .ensures) _ _ _ _
+    (ap recordLead (sym (told .consulted .given .1)) ∙ check .check-record .ensures) (done .reduce-short .ensures)
+
+cast-reduce-long : tie.Need-cast-reduce-long
+cast-reduce-long c = search needs
+
+reduce-long-requires : tie.Need-reduce-long-requires
+reduce-long-requires c κs = search needs
+
+returns-4 : tie.Need-returns-4
+returns-4 c =
     let fault = c .before .before .before in
     let args = fault .before .before .before .before .before .before .args in
     bad-table partialFacts narrowing comes-back (args .words .now) (args .facts .now) (args .out .now) (fault .before .before .if1 .left) (fault .before .if2 .left) _ (ap faultOf (sym (c .before .number .given .1)) ∙ fault .partial-fault .ensures)
 
-returns-4 : tie.Need-returns-4
-returns-4 c =
+returns-5 : tie.Need-returns-5
+returns-5 c =
     let check = c .before .before .before in
     let fault = check .before .before .before in
     let args = fault .before .before .before .before .before .before .args in
     bad-record partialFacts narrowing comes-back (args .words .now) (args .facts .now) (args .out .now) (fault .before .before .if1 .left) (fault .before .if2 .left) (ap faultOf (sym (check .before .enum-told .given .1)) ∙ fault .partial-fault .ensures) _
     (ap recordLead (sym (c .before .number2 .given .1)) ∙ check .check-record .ensures)
 
-same-length : tie.Need-same-length
-same-length c = search needs
+same-length-2 : tie.Need-same-length-2
+same-length-2 c = search needs
 
-returns-5 : tie.Need-returns-5
-returns-5 c =
+returns-6 : tie.Need-returns-6
+returns-6 c =
     let copy = c .before .before in
     let told = copy .before .before in
     let check = told .before .before in
@@ -76,18 +95,18 @@ returns-5 c =
     resolved-answered partialFacts narrowing comes-back (args .words .now) (args .facts .now) (args .out .now) (fault .before .before .if1 .left) (fault .before .if2 .left) (ap faultOf (sym (check .before .enum-told .given .1)) ∙ fault .partial-fault .ensures) _ _ _ _
     (ap recordLead (sym (told .enum-told2 .given .1)) ∙ check .check-record .ensures) (copy .copy-record .ensures)
 
-same-length-2 : tie.Need-same-length-2
-same-length-2 c = search needs
+same-length-3 : tie.Need-same-length-3
+same-length-3 c = search needs
 
-returns-6 : tie.Need-returns-6
-returns-6 c =
+returns-7 : tie.Need-returns-7
+returns-7 c =
     let done = c .before .before in
-    let told = done .before .before .before in
+    let told = done .before .before .before .before in
     let check = told .before .before in
     let fault = check .before .before .before in
     let args = fault .before .before .before .before .before .before .args in
     pending-narrowed (args .words .now) (args .facts .now) (args .out .now) (fault .before .before .if1 .left) (fault .before .if2 .left) (ap faultOf (sym (check .before .enum-told .given .1)) ∙ fault .partial-fault .ensures) _ _ _ _
-    (ap recordLead (sym (told .consulted .given .1)) ∙ check .check-record .ensures) (done .reduce .ensures)
+    (ap recordLead (sym (told .consulted .given .1)) ∙ check .check-record .ensures) (done .reduce-long .ensures)
 
 pub narrow-residual-spec : {M : Type 1} → statement M
 narrow-residual-spec =
@@ -103,11 +122,15 @@ narrow-residual-spec =
     enum-told-2
     copy-record-requires
     enum-known-consulted
-    cast-reduce
-    reduce-requires
-    returns-3
-    returns-4
+    cast-reduce-short
+    reduce-short-requires
     same-length
+    returns-3
+    cast-reduce-long
+    reduce-long-requires
+    returns-4
     returns-5
     same-length-2
-    returns-6)
+    returns-6
+    same-length-3
+    returns-7)

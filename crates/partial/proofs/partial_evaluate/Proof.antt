@@ -33,25 +33,46 @@ enum-known-number-2 c = search needs
 enum-told-2 : tie.Need-enum-told-2
 enum-told-2 c = search needs
 
-reduce-requires : tie.Need-reduce-requires
-reduce-requires c κs = search needs
-
-returns-3 : tie.Need-returns-3
-returns-3 c =
-    bad-table partialFacts reduction (c .before .before .before .before .before .before .before .before .before .args .sheet .now) (c .before .before .before .before .before .before .before .before .before .args .facts .now) (c .before .before .before .before .before .before .before .before .before .args .out .now) (c .before .before .before .before .before .if1 .left) (c .before .before .before .before .if2 .left) _ (ap faultOf (sym (c .before .number .given .1)) ∙ c .before .before .before .partial-fault .ensures)
-
-returns-4 : tie.Need-returns-4
-returns-4 c =
-    bad-sheet partialFacts reduction (c .before .before .before .before .before .before .before .before .before .before .before .before .args .sheet .now) (c .before .before .before .before .before .before .before .before .before .before .before .before .args .facts .now) (c .before .before .before .before .before .before .before .before .before .before .before .before .args .out .now) (c .before .before .before .before .before .before .before .before .if1 .left) (c .before .before .before .before .before .before .before .if2 .left) (ap faultOf (sym (c .before .before .before .before .enum-told .given .1)) ∙ c .before .before .before .before .before .before .partial-fault .ensures) _
-    (ap sheetRefusal (sym (c .before .number2 .given .1)) ∙ c .before .before .before .check-sheet .ensures)
+reduce-short-requires : tie.Need-reduce-short-requires
+reduce-short-requires c κs = search needs
 
 same-length : tie.Need-same-length
 same-length c = search needs
 
+returns-3 : tie.Need-returns-3
+returns-3 c =
+    let done = c .before .before in
+    let told = done .before .before .before in
+    let check = told .before .before in
+    let fault = check .before .before .before in
+    let args = fault .before .before .before .before .before .before .args in
+    answered partialFacts reduction (args .sheet .now) (args .facts .now) (args .out .now) (fault .before .before .if1 .left) (fault .before .if2 .left) (ap faultOf (sym (check .before .enum-told .given .1)) ∙ fault .partial-fault .ensures) _ _
+    (ap sheetRefusal (sym (told .enum-told2 .given .1)) ∙ check .check-sheet .ensures) (sheet-reduced (done .reduce-short .ensures))
+
+reduce-long-requires : tie.Need-reduce-long-requires
+reduce-long-requires c κs = search needs
+
+returns-4 : tie.Need-returns-4
+returns-4 c =
+    bad-table partialFacts reduction (c .before .before .before .before .before .before .before .before .before .args .sheet .now) (c .before .before .before .before .before .before .before .before .before .args .facts .now) (c .before .before .before .before .before .before .before .before .before .args .out .now) (c .before .before .before .before .before .if1 .left) (c .before .before .before .before .if2 .left) _ (ap faultOf (sym (c .before .number .given .1)) ∙ c .before .before .before .partial-fault .ensures)
+
 returns-5 : tie.Need-returns-5
 returns-5 c =
-    answered partialFacts reduction (c .before .before .before .before .before .before .before .before .before .before .before .before .before .before .before .args .sheet .now) (c .before .before .before .before .before .before .before .before .before .before .before .before .before .before .before .args .facts .now) (c .before .before .before .before .before .before .before .before .before .before .before .before .before .before .before .args .out .now) (c .before .before .before .before .before .before .before .before .before .before .before .if1 .left) (c .before .before .before .before .before .before .before .before .before .before .if2 .left) (ap faultOf (sym (c .before .before .before .before .before .before .before .enum-told .given .1)) ∙ c .before .before .before .before .before .before .before .before .before .partial-fault .ensures) _ _
-    (ap sheetRefusal (sym (c .before .before .before .before .enum-told2 .given .1)) ∙ c .before .before .before .before .before .before .check-sheet .ensures) (sheet-reduced (c .before .before .reduce .ensures))
+    bad-sheet partialFacts reduction (c .before .before .before .before .before .before .before .before .before .before .before .before .args .sheet .now) (c .before .before .before .before .before .before .before .before .before .before .before .before .args .facts .now) (c .before .before .before .before .before .before .before .before .before .before .before .before .args .out .now) (c .before .before .before .before .before .before .before .before .if1 .left) (c .before .before .before .before .before .before .before .if2 .left) (ap faultOf (sym (c .before .before .before .before .enum-told .given .1)) ∙ c .before .before .before .before .before .before .partial-fault .ensures) _
+    (ap sheetRefusal (sym (c .before .number2 .given .1)) ∙ c .before .before .before .check-sheet .ensures)
+
+same-length-2 : tie.Need-same-length-2
+same-length-2 c = search needs
+
+returns-6 : tie.Need-returns-6
+returns-6 c =
+    let done = c .before .before in
+    let told = done .before .before .before in
+    let check = told .before .before in
+    let fault = check .before .before .before in
+    let args = fault .before .before .before .before .before .before .args in
+    answered partialFacts reduction (args .sheet .now) (args .facts .now) (args .out .now) (fault .before .before .if1 .left) (fault .before .if2 .left) (ap faultOf (sym (check .before .enum-told .given .1)) ∙ fault .partial-fault .ensures) _ _
+    (ap sheetRefusal (sym (told .enum-told2 .given .1)) ∙ check .check-sheet .ensures) (sheet-reduced (done .reduce-long .ensures))
 
 pub partial-evaluate-spec : {M : Type 1} → statement M
 partial-evaluate-spec =
@@ -65,8 +86,11 @@ partial-evaluate-spec =
     check-sheet-requires
     enum-known-number-2
     enum-told-2
-    reduce-requires
-    returns-3
-    returns-4
+    reduce-short-requires
     same-length
-    returns-5)
+    returns-3
+    reduce-long-requires
+    returns-4
+    returns-5
+    same-length-2
+    returns-6)

@@ -1,9 +1,12 @@
 -- `partial::put_pending` meets its contract. Assumes nothing.
 use native.Mathlib.Omega.{arith}
-use Rattle.partial.proofs.Putting.{put-too-long, put-no-room, put-not-laid, put-written}
+use Rattle.partial.proofs.Putting.{put-nothing, put-too-long, put-no-room, put-not-laid, put-written}
 use borrow.Author.Needs.{needs}
 use Rattle.partial.proofs.put_pending.Statement.{statement}
 use Rattle.partial.proofs.put_pending.Tie as tie
+
+returns : tie.Need-returns
+returns c = put-nothing (c .if1 .taken)
 
 add-total : tie.Need-add-total
 add-total c = search needs
@@ -14,14 +17,14 @@ add-total-2 c = search needs
 add-total-3 : tie.Need-add-total-3
 add-total-3 c = search needs
 
-returns : tie.Need-returns
-returns c = put-too-long (c .if1 .taken)
-
 returns-2 : tie.Need-returns-2
-returns-2 c = put-no-room (c .before .if1 .left) (c .if2 .taken)
+returns-2 c = put-too-long (c .if2 .taken)
 
 returns-3 : tie.Need-returns-3
-returns-3 c = put-not-laid (c .before .before .if1 .left) (c .if3 .taken)
+returns-3 c = put-no-room (c .before .if2 .left) (c .if3 .taken)
+
+returns-4 : tie.Need-returns-4
+returns-4 c = put-not-laid (c .before .before .if2 .left) (c .if4 .taken)
 
 write-front-requires : tie.Need-write-front-requires
 write-front-requires c κs = search needs
@@ -47,19 +50,24 @@ add-t11 c = search needs
 same-length : tie.Need-same-length
 same-length c = search needs
 
-returns-4 : tie.Need-returns-4
-returns-4 c = put-written (c .before .before .before .before .before .before .before .before .before .before .if1 .left) (c .before .before .before .before .before .before .before .before .before .if2 .left) (c .before .before .before .before .before .before .before .before .if3 .left) (c .before .before .before .before .before .before .write-front .ensures .1) (c .before .before .copy-words .ensures .0) (c .before .before .copy-words .ensures .1)
+returns-5 : tie.Need-returns-5
+returns-5 c =
+    let copy = c .before .before in
+    let front = copy .before .before .before .before in
+    let laid = front .before .before in
+    put-written (laid .before .before .if2 .left) (laid .before .if3 .left) (laid .if4 .left) (front .write-front .ensures .1) (copy .copy-words .ensures .0) (copy .copy-words .ensures .1)
 
 pub put-pending-spec : {M : Type 1} → statement M
 put-pending-spec =
     tie.close
     (tie.spec
+    returns
     add-total
     add-total-2
     add-total-3
-    returns
     returns-2
     returns-3
+    returns-4
     write-front-requires
     mul-copy-words
     sub-copy-words
@@ -68,4 +76,4 @@ put-pending-spec =
     copy-words-requires
     add-t11
     same-length
-    returns-4)
+    returns-5)

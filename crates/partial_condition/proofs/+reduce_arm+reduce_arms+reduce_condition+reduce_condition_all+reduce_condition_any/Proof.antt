@@ -282,7 +282,7 @@ module _ (t : ℕ) where
   reduce-condition-reduce-has-requires : reduce-condition-lts.Need-reduce-has-requires reduce-condition-calls reduce-condition-at reduce-condition.Post
   reduce-condition-reduce-has-requires c κs =
       let fact = c .before .before .before .before in
-      (search needs, fact-below _ _ (sym (fact .fact .given .1) ∙ fact .before .before .condition-head .ensures))
+      fact-below _ _ (sym (fact .fact .given .1) ∙ fact .before .before .condition-head .ensures)
 
   reduce-condition-enum-told-3 : reduce-condition-lts.Need-enum-told-3 reduce-condition-calls reduce-condition-at reduce-condition.Post
   reduce-condition-enum-told-3 c = search needs
@@ -314,7 +314,7 @@ module _ (t : ℕ) where
   reduce-condition-reduce-condition-all-requires : reduce-condition-lts.Need-reduce-condition-all-requires reduce-condition-calls reduce-condition-at reduce-condition.Post
   reduce-condition-reduce-condition-all-requires c κs =
       let arms = c .before .before .before .before in
-      (search needs, (search needs, all-below _ _ (sym (arms .arms .given .1) ∙ arms .before .before .condition-head .ensures)))
+      (search needs, all-below _ _ (sym (arms .arms .given .1) ∙ arms .before .before .condition-head .ensures))
 
   reduce-condition-enum-known-arms-2 : reduce-condition-lts.Need-enum-known-arms-2 reduce-condition-calls reduce-condition-at reduce-condition.Post
   reduce-condition-enum-known-arms-2 c = search needs
@@ -322,7 +322,7 @@ module _ (t : ℕ) where
   reduce-condition-reduce-condition-any-requires : reduce-condition-lts.Need-reduce-condition-any-requires reduce-condition-calls reduce-condition-at reduce-condition.Post
   reduce-condition-reduce-condition-any-requires c κs =
       let arms = c .before .before .before .before in
-      (search needs, (search needs, any-below _ _ (sym (arms .arms2 .given .1) ∙ arms .before .before .condition-head .ensures)))
+      (search needs, any-below _ _ (sym (arms .arms2 .given .1) ∙ arms .before .before .condition-head .ensures))
 
   reduce-condition-enum-told-4 : reduce-condition-lts.Need-enum-told-4 reduce-condition-calls reduce-condition-at reduce-condition.Post
   reduce-condition-enum-told-4 c = search needs

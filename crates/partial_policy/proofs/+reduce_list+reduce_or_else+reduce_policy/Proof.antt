@@ -104,7 +104,6 @@ module _ (t : ℕ) where
   reduce-list-loop-holds c =
       rw (c .denied .ensures)
       (record {
-        same = refl;
         entries-long = refl;
         seen-long = refl;
         buf-long = refl;
@@ -113,7 +112,7 @@ module _ (t : ℕ) where
         out-long = refl;
         bounds = record { few = omega arith; kept-most = omega arith; size-most = omega arith; size-some = omega arith };
         arms-left = omega arith;
-        goes = λ r t buf out e. list-node _ _ _ _ _ _ _ r t _ _ _ buf out _ refl (c .before .before .before .before .before .before .before .before .before .pre .1 .1) e;
+        goes = λ r t buf out e. list-node _ _ _ _ _ _ _ r t _ _ _ buf out _ refl (c .before .before .before .before .before .before .before .before .before .pre .1 .0) e;
       })
 
   reduce-list-tail-from-requires : reduce-list-lts.Need-tail-from-requires reduce-list-calls reduce-list-at reduce-list.Post reduce-list-Inv-loop reduce-list-μ-loop
@@ -165,7 +164,7 @@ module _ (t : ℕ) where
   reduce-list-stops-requires c κs = search needs
 
   reduce-list-skip-policies-requires : reduce-list-lts.Need-skip-policies-requires reduce-list-calls reduce-list-at reduce-list.Post reduce-list-Inv-loop reduce-list-μ-loop
-  reduce-list-skip-policies-requires c κs = c .before .before .before .before .before .before .before .before .before .before .before .before .before .before .before .before .before .before .before .before .before .before .before .before .before .before .before .before .before .before .before .before .before .before .pre .1 .5
+  reduce-list-skip-policies-requires c κs = c .before .before .before .before .before .before .before .before .before .before .before .before .before .before .before .before .before .before .before .before .before .before .before .before .before .before .before .before .before .before .before .before .before .before .pre .1 .4
 
   reduce-list-resolved-requires : reduce-list-lts.Need-resolved-requires reduce-list-calls reduce-list-at reduce-list.Post reduce-list-Inv-loop reduce-list-μ-loop
   reduce-list-resolved-requires c κs = search needs
@@ -222,7 +221,6 @@ module _ (t : ℕ) where
       let inv = turn .before .loop .inv in
       let start = c .before .before .before .before .before .before .before .before .before .before .before .before .before .before .before .before .before .before .before .before .before .before .before .before .before .before .before .before .before .before .before .before .before .before .before .before .before .before .before .before .before .before .before .before in
       record {
-        same = call .reduce-policy .ensures .same ∙ inv .same;
         entries-long = omega (arith, c .before .before .before .before .before .before .before .before .before .before .before .before .before .before .before .before .before .before .before .before .before .before .before .entries .given, inv .entries-long);
         seen-long = omega (arith, c .before .before .before .before .before .before .before .before .before .before .before .before .before .before .before .before .before .before .before .before .before .seen .given, inv .seen-long);
         buf-long = omega (arith, c .before .before .before .before .before .buf2 .given, c .before .before .before .before .before .before .before .before .before .before .before .before .before .before .before .before .before .before .before .buf .given, inv .buf-long);
@@ -314,12 +312,11 @@ module _ (t : ℕ) where
       let pre = c .before .before .before .before .before .before .before .before .before .before .before .before .before .before .before .before .before .before .before .before .before .before .before .before .before .before .before .before .before .before .before .before .before .before .before .before .before .pre in (
         omega (arith, pre .0),
         (
-          record { flags = omega (arith, c .before .before .before .before .before .before .before .before .before .before .before .before .before .before .before .before .before .before .seen .given, pre .1 .0 .flags); enough = omega (arith, c .before .before .before .before .before .before .before .before .before .before .before .before .before .before .before .before .before .before .before .before .entries .given, call .reduce-policy .ensures .same, pre .1 .0 .enough) },
-          omega (arith, pre .1 .2),
-          omega (arith, c .before .before .before .before .before .before .before .before .before .before .before .before .before .before .before .before .buf .given, pre .1 .3),
-          pre .1 .4,
+          omega (arith, pre .1 .1),
+          omega (arith, c .before .before .before .before .before .before .before .before .before .before .before .before .before .before .before .before .buf .given, pre .1 .2),
+          pre .1 .3,
+          omega (arith, c .before .before .before .before .before .before .before .before .before .before .before .before .before .before .named .given, pre .1 .4),
           omega (arith, c .before .before .before .before .before .before .before .before .before .before .before .before .before .before .named .given, pre .1 .5),
-          omega (arith, c .before .before .before .before .before .before .before .before .before .before .before .before .before .before .named .given, pre .1 .6),
         ),
       )
 
@@ -330,9 +327,9 @@ module _ (t : ℕ) where
         omega (arith, c .before .before .before .before .before .before .before .before .before .before .before .before .before .before .before .before .before .before .before .before .before .before .before .plus .ensures),
         c .before .before .before .before .before .before .before .before .before .before .before .before .before .before .before .reduce-policy2 .ensures .few,
         c .before .before .before .before .before .before .before .before .before .before .before .before .before .before .before .reduce-policy2 .ensures .bound,
-        omega (arith, c .before .before .before .before .before .before .before .before .before .before .buf2 .given, c .before .before .before .before .before .before .before .before .before .before .before .before .before .before .before .before .before .before .before .before .before .before .before .before .before .before .before .before .before .before .before .before .buf .given, pre .1 .3),
+        omega (arith, c .before .before .before .before .before .before .before .before .before .before .buf2 .given, c .before .before .before .before .before .before .before .before .before .before .before .before .before .before .before .before .before .before .before .before .before .before .before .before .before .before .before .before .before .before .before .before .buf .given, pre .1 .2),
+        omega (arith, c .before .before .before .before .before .before .before .before .named2 .given, c .before .before .before .before .before .before .before .before .before .before .before .before .before .before .before .before .before .before .before .before .before .before .before .before .before .before .before .before .before .before .named .given, pre .1 .4),
         omega (arith, c .before .before .before .before .before .before .before .before .named2 .given, c .before .before .before .before .before .before .before .before .before .before .before .before .before .before .before .before .before .before .before .before .before .before .before .before .before .before .before .before .before .before .named .given, pre .1 .5),
-        omega (arith, c .before .before .before .before .before .before .before .before .named2 .given, c .before .before .before .before .before .before .before .before .before .before .before .before .before .before .before .before .before .before .before .before .before .before .before .before .before .before .before .before .before .before .named .given, pre .1 .6),
       )
 
   reduce-or-else-left-requires : reduce-or-else-lts.Need-left-requires reduce-or-else-calls reduce-or-else-at reduce-or-else.Post
@@ -359,11 +356,11 @@ module _ (t : ℕ) where
   reduce-or-else-returns : reduce-or-else-lts.Need-returns reduce-or-else-calls reduce-or-else-at reduce-or-else.Post
   reduce-or-else-returns c =
       rw (c .left .ensures)
-      (or-open _ _ _ _ _ _ _ _ _ _ (c .before .before .before .before .before .before .before .before .before .before .before .before .before .before .before .before .before .before .before .before .before .before .before .before .before .before .before .before .before .before .before .before .before .before .before .before .before .before .before .before .before .before .before .before .before .before .before .before .before .before .before .before .before .before .before .before .before .before .before .before .before .pre .1 .1) (c .before .before .before .before .before .before .before .before .before .before .before .before .before .before .before .before .before .before .before .before .before .before .before .before .before .before .before .before .before .before .before .before .before .before .before .before .before .before .before .before .before .before .before .before .before .reduce-policy .ensures) _ _ _ _ _ _ _ _ _ _ _ _ (c .before .before .before .before .before .before .before .before .before .before .before .before .before .before .before .before .before .before .before .before .before .before .before .before .before .before .before .before .before .before .before .before .if1 .taken) (c .before .before .before .before .before .before .before .before .before .before .before .before .before .before .before .before .before .before .before .before .before .before .before .before .before .before .before .before .before .before .before .before .before .before .before .before .before .before .before .before .before .before .before .before .before .before .before .before .before .before .before .before .tail-from .ensures) (omega (arith, c .before .before .before .before .before .before .before .before .before .before .before .before .before .before .before .before .before .before .before .before .before .before .before .before .before .before .before .before .before .before .before .before .before .before .before .before .before .before .before .before .before .before .before .before .before .before .reduce-policy-arg6 .given, c .before .before .before .before .before .before .before .before .before .before .before .before .before .before .before .before .before .before .before .before .before .before .before .before .before .before .before .before .before .before .before .before .before .before .out .given)) (c .before .before .before .before .before .before .before .before .before .before .before .before .before .before .before .before .before .before .before .before .before .before .before .before .before .before .before .before .before .before .before .plus .ensures) (c .before .before .before .before .before .before .before .before .before .before .before .before .before .before .before .before .before .before .before .before .before .before .before .before .before .before .before .before .before .before .tail-from2 .ensures) (omega (arith, c .before .before .before .before .before .before .before .before .before .before .before .before .before .before .before .before .before .before .before .before .before .before .before .before .reduce-policy-arg12 .given, c .before .before .before .before .before .before .before .before .before .before .before .before .before .before .before .before .before .before .before .before .before .before .before .before .before .before .before .before .before .before .before .before .before .before .out .given, c .before .before .before .before .before .before .before .before .before .before .before .before .out2 .given))
+      (or-open _ _ _ _ _ _ _ _ _ _ (c .before .before .before .before .before .before .before .before .before .before .before .before .before .before .before .before .before .before .before .before .before .before .before .before .before .before .before .before .before .before .before .before .before .before .before .before .before .before .before .before .before .before .before .before .before .before .before .before .before .before .before .before .before .before .before .before .before .before .before .before .before .pre .1 .0) (c .before .before .before .before .before .before .before .before .before .before .before .before .before .before .before .before .before .before .before .before .before .before .before .before .before .before .before .before .before .before .before .before .before .before .before .before .before .before .before .before .before .before .before .before .before .reduce-policy .ensures) _ _ _ _ _ _ _ _ _ _ _ _ (c .before .before .before .before .before .before .before .before .before .before .before .before .before .before .before .before .before .before .before .before .before .before .before .before .before .before .before .before .before .before .before .before .if1 .taken) (c .before .before .before .before .before .before .before .before .before .before .before .before .before .before .before .before .before .before .before .before .before .before .before .before .before .before .before .before .before .before .before .before .before .before .before .before .before .before .before .before .before .before .before .before .before .before .before .before .before .before .before .before .tail-from .ensures) (omega (arith, c .before .before .before .before .before .before .before .before .before .before .before .before .before .before .before .before .before .before .before .before .before .before .before .before .before .before .before .before .before .before .before .before .before .before .before .before .before .before .before .before .before .before .before .before .before .before .reduce-policy-arg6 .given, c .before .before .before .before .before .before .before .before .before .before .before .before .before .before .before .before .before .before .before .before .before .before .before .before .before .before .before .before .before .before .before .before .before .before .out .given)) (c .before .before .before .before .before .before .before .before .before .before .before .before .before .before .before .before .before .before .before .before .before .before .before .before .before .before .before .before .before .before .before .plus .ensures) (c .before .before .before .before .before .before .before .before .before .before .before .before .before .before .before .before .before .before .before .before .before .before .before .before .before .before .before .before .before .before .tail-from2 .ensures) (omega (arith, c .before .before .before .before .before .before .before .before .before .before .before .before .before .before .before .before .before .before .before .before .before .before .before .before .reduce-policy-arg12 .given, c .before .before .before .before .before .before .before .before .before .before .before .before .before .before .before .before .before .before .before .before .before .before .before .before .before .before .before .before .before .before .before .before .before .before .out .given, c .before .before .before .before .before .before .before .before .before .before .before .before .out2 .given))
       _ (c .before .before .before .before .before .before .before .before .before .before .before .before .before .before .before .before .before .before .before .before .before .before .before .reduce-policy2 .ensures) (omega (arith, c .before .before .before .before .before .before .before .before .before .before .before .before .before .before .before .before .before .before .before .before .before .before .before .before .before .before .before .before .before .before .before .before .before .before .before .before .front .given)) (c .before .before .before .before .before .before .before .end-or-else .ensures))
 
   reduce-or-else-skip-policies-requires : reduce-or-else-lts.Need-skip-policies-requires reduce-or-else-calls reduce-or-else-at reduce-or-else.Post
-  reduce-or-else-skip-policies-requires c κs = c .before .before .before .before .before .before .before .before .before .before .before .before .before .before .before .before .before .before .before .before .before .before .before .before .before .before .before .before .before .before .before .pre .1 .4
+  reduce-or-else-skip-policies-requires c κs = c .before .before .before .before .before .before .before .before .before .before .before .before .before .before .before .before .before .before .before .before .before .before .before .before .before .before .before .before .before .before .before .pre .1 .3
 
   reduce-or-else-resolved-requires : reduce-or-else-lts.Need-resolved-requires reduce-or-else-calls reduce-or-else-at reduce-or-else.Post
   reduce-or-else-resolved-requires c κs = search needs
@@ -389,7 +386,7 @@ module _ (t : ℕ) where
   reduce-or-else-returns-2 : reduce-or-else-lts.Need-returns-2 reduce-or-else-calls reduce-or-else-at reduce-or-else.Post
   reduce-or-else-returns-2 c =
       rw (c .resolved .ensures)
-      (or-permits _ _ _ _ _ _ _ _ _ _ (c .before .before .before .before .before .before .before .before .before .before .before .before .before .before .before .before .before .before .before .before .before .before .before .before .before .before .before .before .before .before .before .before .before .pre .1 .1) (c .before .before .before .before .before .before .before .before .before .before .before .before .before .before .before .before .before .reduce-policy .ensures) _ _ _ (c .before .before .before .before .if1 .left) (c .before .before .if2 .taken) (c .before .skip-policies .ensures))
+      (or-permits _ _ _ _ _ _ _ _ _ _ (c .before .before .before .before .before .before .before .before .before .before .before .before .before .before .before .before .before .before .before .before .before .before .before .before .before .before .before .before .before .before .before .before .before .pre .1 .0) (c .before .before .before .before .before .before .before .before .before .before .before .before .before .before .before .before .before .reduce-policy .ensures) _ _ _ (c .before .before .before .before .if1 .left) (c .before .before .if2 .taken) (c .before .skip-policies .ensures))
 
   reduce-or-else-reduce-policy-requires-3 : reduce-or-else-lts.Need-reduce-policy-requires-3 reduce-or-else-calls reduce-or-else-at reduce-or-else.Post
   reduce-or-else-reduce-policy-requires-3 c κs =
@@ -397,12 +394,11 @@ module _ (t : ℕ) where
       let pre = c .before .before .before .before .before .before .before .before .before .before .before .before .before .before .before .before .before .before .before .before .before .before .before .before .before .before .before .before .before .before .before .before .before .before .before .before .before .pre in (
         omega (arith, pre .0),
         (
-          record { flags = omega (arith, c .before .before .before .before .before .before .before .before .before .before .before .before .before .before .before .before .before .before .seen .given, pre .1 .0 .flags); enough = omega (arith, c .before .before .before .before .before .before .before .before .before .before .before .before .before .before .before .before .before .before .before .before .entries .given, call .reduce-policy .ensures .same, pre .1 .0 .enough) },
-          omega (arith, pre .1 .2),
-          omega (arith, c .before .before .before .before .before .before .before .before .before .before .before .before .before .before .before .before .buf .given, pre .1 .3),
-          pre .1 .4,
+          omega (arith, pre .1 .1),
+          omega (arith, c .before .before .before .before .before .before .before .before .before .before .before .before .before .before .before .before .buf .given, pre .1 .2),
+          pre .1 .3,
+          omega (arith, c .before .before .before .before .before .before .before .before .before .before .before .before .before .before .named .given, pre .1 .4),
           omega (arith, c .before .before .before .before .before .before .before .before .before .before .before .before .before .before .named .given, pre .1 .5),
-          omega (arith, c .before .before .before .before .before .before .before .before .before .before .before .before .before .before .named .given, pre .1 .6),
         ),
       )
 
@@ -425,7 +421,7 @@ module _ (t : ℕ) where
   reduce-or-else-same-length-18 c = omega (arith, c .before .out4 .given, c .before .before .before .before .before .before .before .before .before .before .before .before .before .before .before .before .before .before .before .before .before .before .before .out .given)
 
   reduce-or-else-returns-3 : reduce-or-else-lts.Need-returns-3 reduce-or-else-calls reduce-or-else-at reduce-or-else.Post
-  reduce-or-else-returns-3 c = or-denies _ _ _ _ _ _ _ _ _ _ (c .before .before .before .before .before .before .before .before .before .before .before .before .before .before .before .before .before .before .before .before .before .before .before .before .before .before .before .before .before .before .before .before .before .before .before .before .before .before .before .before .before .before .before .before .before .before .before .before .before .before .pre .1 .1) (c .before .before .before .before .before .before .before .before .before .before .before .before .before .before .before .before .before .before .before .before .before .before .before .before .before .before .before .before .before .before .before .before .before .before .reduce-policy .ensures) _ _ _ _ _ (c .before .before .before .before .before .before .before .before .before .before .before .before .before .before .before .before .before .before .before .before .before .if1 .left) (c .before .before .before .before .before .before .before .before .before .before .before .before .before .before .before .before .before .before .before .if2 .left) _ (c .before .before .before .before .before .before .before .before .before .before .before .before .reduce-policy3 .ensures) (omega (arith, c .before .before .before .before .before .before .before .before .before .before .before .before .before .before .before .before .before .before .before .before .before .before .before .before .before .front .given))
+  reduce-or-else-returns-3 c = or-denies _ _ _ _ _ _ _ _ _ _ (c .before .before .before .before .before .before .before .before .before .before .before .before .before .before .before .before .before .before .before .before .before .before .before .before .before .before .before .before .before .before .before .before .before .before .before .before .before .before .before .before .before .before .before .before .before .before .before .before .before .before .pre .1 .0) (c .before .before .before .before .before .before .before .before .before .before .before .before .before .before .before .before .before .before .before .before .before .before .before .before .before .before .before .before .before .before .before .before .before .before .reduce-policy .ensures) _ _ _ _ _ (c .before .before .before .before .before .before .before .before .before .before .before .before .before .before .before .before .before .before .before .before .before .if1 .left) (c .before .before .before .before .before .before .before .before .before .before .before .before .before .before .before .before .before .before .before .if2 .left) _ (c .before .before .before .before .before .before .before .before .before .before .before .before .reduce-policy3 .ensures) (omega (arith, c .before .before .before .before .before .before .before .before .before .before .before .before .before .before .before .before .before .before .before .before .before .before .before .before .before .front .given))
 
   -- what `reduce-policy` calls
   abbrev reduce-policy-calls : reduce-policy-lts.Claims

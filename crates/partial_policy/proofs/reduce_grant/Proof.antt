@@ -24,7 +24,7 @@ resolved-requires c κs = search needs
 returns : tie.Need-returns
 returns c =
     let start = c .before .before .before .before .before .before .before .before in
-    λ hidden buf room. rw (c .resolved .ensures, c .before .denied .ensures) (grant-short _ _ _ _ hidden _ _ (start .pre .1) (start .pre .2) _ _ buf room _ (omega arith) (omega arith) (c .before .before .if1 .taken))
+    λ hidden buf room. rw (c .resolved .ensures, c .before .denied .ensures) (grant-short _ _ _ _ hidden _ _ (start .pre .0) (start .pre .1) _ _ buf room _ (omega arith) (omega arith) (c .before .before .if1 .taken))
 
 lay-words-requires : tie.Need-lay-words-requires
 lay-words-requires c κs = search needs
@@ -70,7 +70,7 @@ returns-2 c =
     let call = c .before .before .before .before .before .before .before .before .before in
     let own = call .before .before .before .before .before .before .before in
     let start = own .before .before .before .before .before .before .before .before in
-    λ hidden buf room. rw (c .left .ensures) (grant-pending _ _ _ _ hidden _ _ (start .pre .1) (start .pre .2) _ _ _ _ buf room _ (call .reduce-condition .ensures) _ _ _ _ (c .before .before .if2 .taken) (own .lay-words .ensures) (call .before .before .before .before .tail-from .ensures) (omega (arith, c .before .before .before .before .out2 .given)) (c .before .plus .ensures) refl)
+    λ hidden buf room. rw (c .left .ensures) (grant-pending _ _ _ _ hidden _ _ (start .pre .0) (start .pre .1) _ _ _ _ buf room _ (call .reduce-condition .ensures) _ _ _ _ (c .before .before .if2 .taken) (own .lay-words .ensures) (call .before .before .before .before .tail-from .ensures) (omega (arith, c .before .before .before .before .out2 .given)) (c .before .plus .ensures) refl)
 
 permitted-by-requires : tie.Need-permitted-by-requires
 permitted-by-requires c κs = search needs
@@ -91,7 +91,7 @@ returns-3 : tie.Need-returns-3
 returns-3 c =
     let call = c .before .before .before .before .before .before .before .before .before .before in
     let start = call .before .before .before .before .before .before .before .before .before .before .before .before .before .before .before in
-    λ hidden buf room. rw (c .resolved2 .ensures, c .before .permitted-by .ensures) (grant-permits _ _ _ _ hidden _ _ (start .pre .1) (start .pre .2) _ _ _ _ buf room _ (call .reduce-condition .ensures) (c .before .before .before .if2 .left) (c .before .before .if3 .taken))
+    λ hidden buf room. rw (c .resolved2 .ensures, c .before .permitted-by .ensures) (grant-permits _ _ _ _ hidden _ _ (start .pre .0) (start .pre .1) _ _ _ _ buf room _ (call .reduce-condition .ensures) (c .before .before .before .if2 .left) (c .before .before .if3 .taken))
 
 denied-by-requires : tie.Need-denied-by-requires
 denied-by-requires c κs = search needs
@@ -112,7 +112,7 @@ returns-4 : tie.Need-returns-4
 returns-4 c =
     let call = c .before .before .before .before .before .before .before .before .before .before in
     let start = call .before .before .before .before .before .before .before .before .before .before .before .before .before .before .before in
-    λ hidden buf room. rw (c .resolved3 .ensures, c .before .denied-by .ensures) (grant-denies _ _ _ _ hidden _ _ (start .pre .1) (start .pre .2) _ _ _ _ buf room _ (call .reduce-condition .ensures) (c .before .before .before .if2 .left) (c .before .before .if3 .left))
+    λ hidden buf room. rw (c .resolved3 .ensures, c .before .denied-by .ensures) (grant-denies _ _ _ _ hidden _ _ (start .pre .0) (start .pre .1) _ _ _ _ buf room _ (call .reduce-condition .ensures) (c .before .before .before .if2 .left) (c .before .before .if3 .left))
 
 pub reduce-grant-spec : {M : Type 1} → statement M
 reduce-grant-spec =

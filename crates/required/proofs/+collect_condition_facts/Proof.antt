@@ -16,7 +16,7 @@ use Rattle.required.proofs.+collect_condition_facts.Lts-collect_conditi
 use Rattle.policy_model.proofs.condition_head.Reads as condition-head-reads
 use Rattle.required.proofs.collect_has_facts.Reads as collect-has-facts-reads
 use Rattle.required.proofs.condition_arms.Reads as condition-arms-reads
-use Rattle.required.proofs.insert.Reads as insert-reads
+use Rattle.fact_set.proofs.insert.Reads as insert-reads
 use Rattle.required.proofs.+collect_condition_facts.{statement}
 use Rattle.required.proofs.+collect_condition_facts.Tie.{close}
 

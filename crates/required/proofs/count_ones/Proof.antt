@@ -6,7 +6,7 @@ use native.Mathlib.Omega.{arith}
 use lib.ListN.{length, drop, getD}
 use lib.Count.{ones-le}
 use Rattle.model.specs.Required.{ones}
-use Rattle.required.specs.SetLaws.{ones-next, ones-end}
+use Rattle.required.specs.Counts.{ones-next, ones-end}
 use Rattle.required.proofs.count_ones.Statement.{statement}
 use Rattle.required.proofs.count_ones.Tie as tie
 

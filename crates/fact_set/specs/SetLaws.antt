@@ -1,22 +1,20 @@
--- A set of facts number by number: one fact put into it, and its one bits counted.
+-- A set of facts number by number: one fact put into it, and one asked for.
 use mathlib.Core.Path.{_≡_, refl, sym, _∙_, ap, ap₂}
-use mathlib.Core.Bool.{Bool, true, false, cond, _||_, or-false, or-true}
+use mathlib.Core.Bool.{Bool, true, false, _||_, or-false, or-true}
 use mathlib.Core.List.{List, [], _∷_, _++_}
 use Prim.Native.Nat.{ℕ, zero, suc, _+_, _-_, _*_, _/_, _%_, _^_, _≤_, _<_}
-use native.Mathlib.Nat.{one-mul, suc-mul, pow-suc, add-zero, zero-add, add-comm, div-add-mod', mod-lt}
-use native.Mathlib.Numerals.{add-one}
+use native.Mathlib.Nat.{one-mul, suc-mul, pow-suc, add-zero, zero-add, mod-eq-of-lt}
 use native.Mathlib.Omega.{arith}
 use borrow.Author.Tests.{eq-eqb, ne-eqb}
 use lib.Dec.{eqb}
-use lib.Pow.{pow-pos, pow-lt, pow-add, shl-shr, shr-lt}
+use lib.Pow.{pow-pos, pow-lt, pow-add, shl-shr, high, low, field, mod-mod-pow}
 use lib.Bits.{bitOr, or-block, or-zero-r}
-use lib.Count as count
-use lib.ListN.{length, drop, set, getD, drop-of-length-le}
-use lib.Seq.{drop-cons, drop-at}
-use Rattle.model.specs.Fields.{split, joined, packed}
-use Rattle.model.specs.Required.{oneBit, flags, factSet, total, ones}
-use Rattle.laws.specs.FieldLaws.{padded, Narrow, split-joined}
-use Rattle.required.specs.Sets.{Grown, namedFrom, howMany}
+use lib.ListN.{length, drop, set, getD, replicate}
+use lib.Seq.{drop-at}
+use Rattle.model.specs.Fields.{joined, packed}
+use Rattle.model.specs.Facts.{factCount}
+use Rattle.model.specs.Required.{oneBit, flags, factSet}
+use Rattle.fact_set.specs.Sets.{Grown, Contained}
 
 -- ---- one-bit fields
 -- Flags that agree on so many facts.
@@ -46,11 +44,7 @@ unfoldable pub numbers : (ℕ → Bool) → ℕ → ℕ → ℕ → List ℕ
 numbers named n zero from = []
 numbers named n (suc m) from = joined 1 n (flags named from n) ∷ numbers named n m (from + n)
 
-total-append : (xs ys : List ℕ) → total (xs ++ ys) ≡ total xs + total ys
-total-append [] ys = omega arith
-total-append (x ∷ xs) ys = omega (arith, total-append xs ys)
-
-flags-append : (a : ℕ → Bool) (n m from : ℕ) → flags a from (n + m) ≡ flags a from n ++ flags a (from + n) m
+pub flags-append : (a : ℕ → Bool) (n m from : ℕ) → flags a from (n + m) ≡ flags a from n ++ flags a (from + n) m
 flags-append a zero m from = ap₂ (λ f k. flags a f k) (sym (add-zero from)) (zero-add m)
 flags-append a (suc n) m from =
     ap (λ k. flags a from k) (let e : suc n + m ≡ suc (n + m) = omega arith in e)
@@ -81,6 +75,13 @@ numbers-same a b n zero from h = refl
 numbers-same a b n (suc m) from h =
     let e : suc m * n ≡ n + m * n = omega (arith, suc-mul m n) in
     ap₂ (λ vs l. joined 1 n vs ∷ l) (flags-same a b n from (λ f p q. h f p (omega arith))) (numbers-same a b n m (from + n) (λ f p q. h f (omega arith) (omega arith)))
+
+-- The empty set; and facts that are named alike make one set.
+pub empty-set : replicate 16 0 ≡ factSet (λ f. false)
+empty-set = refl
+
+pub same-set : (a b : ℕ → Bool) → ((f : ℕ) → f < factCount → a f ≡ b f) → factSet a ≡ factSet b
+same-set a b h = ap (λ l. packed 1 64 16 l) (flags-same a b factCount 0 (λ f p q. h f (omega arith)))
 
 -- ---- one fact more
 or-one : (b : Bool) → bitOr (oneBit b) 1 ≡ 1
@@ -169,71 +170,64 @@ no-fact fact before h = record {
       ∙ sym (set-numbers (λ f. named f || eqb f fact));
 }
 
--- ---- the count
-low-bit : (v : ℕ) → v < 2 → count.ones v ≡ v
-unfolding count.ones
-low-bit zero h = refl
-low-bit (suc zero) h = refl
-low-bit (suc (suc v)) h = let z : ⊥ = omega arith in absurd z
+-- ---- a fact asked for
+small-bit : (b : Bool) → oneBit b < 2
+small-bit true = omega arith
+small-bit false = omega arith
 
--- The one bits of a number are the total of its one-bit fields.
-pub ones-total : (n w : ℕ) → w < 2 ^ n → count.ones w ≡ total (split 1 n w)
-ones-total zero w h = ap count.ones (let e : w ≡ 0 = omega arith in e) ∙ low-bit 0 (omega arith)
-ones-total (suc n) w h =
-    let v = w / 2 ^ n in
-    let r = w % 2 ^ n in
-    let hv : v < 2 = shr-lt 1 n (let k : w < 2 ^ (1 + n) = rw (add-comm 1 n, add-one) h in k) in
-    ap count.ones (sym (div-add-mod' w (2 ^ n)))
-    ∙ count.ones-cat n v r (mod-lt w (pow-pos n))
-    ∙ ap₂ (λ x y. x + y) (low-bit v hv) (ones-total n r (mod-lt w (pow-pos n)))
-    ∙ ap (λ k. total (w / 2 ^ k ∷ split 1 n (w % 2 ^ k))) (sym (one-mul n))
+-- A bit below others is that of the number without them.
+bit-below : (v n k r : ℕ) → r < 2 ^ n → k < n → (v * 2 ^ n + r) / 2 ^ k % 2 ≡ r / 2 ^ k % 2
+bit-below v n k r h p =
+    let w = v * 2 ^ n + r in
+    let e : n ≡ n - (1 + k) + (1 + k) = omega arith in
+    let below : w % 2 ^ (1 + k) ≡ r % 2 ^ (1 + k) =
+    sym (mod-mod-pow w (n - (1 + k)) (1 + k)) ∙ ap (λ j. w % 2 ^ j % 2 ^ (1 + k)) (sym e) ∙ ap (λ x. x % 2 ^ (1 + k)) (low v n h) in
+    sym (field w 1 k) ∙ ap (λ x. x / 2 ^ k) below ∙ field r 1 k
 
-narrow-bit : (b : Bool) → oneBit b < 2 ^ 1
-narrow-bit true = omega arith
-narrow-bit false = omega arith
+module _ (named : ℕ → Bool) where
+  -- The i-th fact's bit in a number of n facts; and in the k-th number.
+  bit-in : (n i from : ℕ) → i < n → joined 1 n (flags named from n) / 2 ^ (n - 1 - i) % 2 ≡ oneBit (named (from + i))
+  bit-in zero i from h = let z : ⊥ = omega arith in absurd z
+  bit-in (suc n) zero from h =
+      ap₂ (λ w k. w / 2 ^ k % 2) (top-flag n (oneBit (named from)) (flags named (suc from) n)) (let k : suc n - 1 - 0 ≡ n = omega arith in k)
+      ∙ ap (λ x. x % 2) (high (oneBit (named from)) n (flags-small named n (suc from)))
+      ∙ mod-eq-of-lt (small-bit (named from))
+      ∙ ap (λ f. oneBit (named f)) (let k : from ≡ from + 0 = omega arith in k)
+  bit-in (suc n) (suc i) from h =
+      ap₂ (λ w k. w / 2 ^ k % 2) (top-flag n (oneBit (named from)) (flags named (suc from) n)) (let k : suc n - 1 - suc i ≡ n - 1 - i = omega arith in k)
+      ∙ bit-below (oneBit (named from)) n (n - 1 - i) (joined 1 n (flags named (suc from) n)) (flags-small named n (suc from)) (omega arith)
+      ∙ bit-in n i (suc from) (omega arith)
+      ∙ ap (λ f. oneBit (named f)) (let k : suc from + i ≡ from + suc i = omega arith in k)
 
-narrow-flags : (a : ℕ → Bool) (n from : ℕ) → Narrow 1 (flags a from n)
-narrow-flags a zero from = tt
-narrow-flags a (suc n) from = (narrow-bit (a from), narrow-flags a n (suc from))
+  number-bit : (n m k i from : ℕ) → k < m → i < n → getD (numbers named n m from) k 0 / 2 ^ (n - 1 - i) % 2 ≡ oneBit (named (from + k * n + i))
+  unfolding numbers
+  number-bit n zero k i from hk hi = let z : ⊥ = omega arith in absurd z
+  number-bit n (suc m) zero i from hk hi = bit-in n i from hi ∙ ap (λ f. oneBit (named f)) (let e : from + i ≡ from + 0 * n + i = omega arith in e)
+  number-bit n (suc m) (suc k) i from hk hi =
+      let s : suc k * n ≡ k * n + n = suc-mul k n in
+      number-bit n m k i (from + n) (omega arith) hi ∙ ap (λ f. oneBit (named f)) (let e : from + n + k * n + i ≡ from + suc k * n + i = omega arith in e)
 
-padded-flags : (a : ℕ → Bool) (n from : ℕ) → padded n (flags a from n) ≡ flags a from n
-padded-flags a zero from = refl
-padded-flags a (suc n) from = ap (λ l. oneBit (a from) ∷ l) (padded-flags a n (suc from))
+one-is : (b : Bool) → eqb (oneBit b) 1 ≡ b
+one-is true = refl
+one-is false = refl
 
--- Flags are as many ones as there are named facts.
-total-cond : (b : Bool) (from : ℕ) (l : List ℕ) → oneBit b + length l ≡ length (cond b (from ∷ l) l)
-total-cond true from l = omega arith
-total-cond false from l = omega arith
+-- The fact's bit tells whether the set has it.
+pub has-fact : (fact : ℕ) (set : List ℕ) → fact / 64 < length set → Contained fact set (eqb (getD set (fact / 64) 0 / 2 ^ (63 - fact % 64) % 2) 1)
+has-fact fact set h = record {
+  is-named = λ named e p.
+      ap (λ s. eqb (getD s (fact / 64) 0 / 2 ^ (63 - fact % 64) % 2) 1) (e ∙ set-numbers named)
+      ∙ ap (λ x. eqb x 1) (number-bit named 64 16 (fact / 64) (fact % 64) 0 (omega arith) (omega arith))
+      ∙ one-is (named (0 + fact / 64 * 64 + fact % 64))
+      ∙ ap named (let k : 0 + fact / 64 * 64 + fact % 64 ≡ fact = omega arith in k);
+  too-short = λ s. let z : ⊥ = omega arith in absurd z;
+}
 
-total-flags : (a : ℕ → Bool) (n from : ℕ) → total (flags a from n) ≡ length (namedFrom a from n)
-unfolding namedFrom
-total-flags a zero from = refl
-total-flags a (suc n) from = ap (λ x. oneBit (a from) + x) (total-flags a n (suc from)) ∙ total-cond (a from) from (namedFrom a (suc from) n)
-
-total-number : (a : ℕ → Bool) (n from : ℕ) → total (split 1 n (joined 1 n (flags a from n))) ≡ length (namedFrom a from n)
-total-number a n from = ap total (split-joined 1 n (flags a from n) (narrow-flags a n from) ∙ padded-flags a n from) ∙ total-flags a n from
-
-named-append : (a : ℕ → Bool) (n m from : ℕ) → length (namedFrom a from (n + m)) ≡ length (namedFrom a from n) + length (namedFrom a (from + n) m)
-named-append a n m from =
-    sym (total-flags a (n + m) from) ∙ ap total (flags-append a n m from) ∙ total-append (flags a from n) (flags a (from + n) m)
-    ∙ ap₂ (λ x y. x + y) (total-flags a n from) (total-flags a m (from + n))
-
-ones-numbers : (a : ℕ → Bool) (m from : ℕ) → ones (numbers a 64 m from) ≡ length (namedFrom a from (m * 64))
-unfolding numbers namedFrom
-ones-numbers a zero from = refl
-ones-numbers a (suc m) from =
-    ap₂ (λ x y. x + y) (total-number a 64 from) (ones-numbers a m (from + 64))
-    ∙ sym (named-append a 64 (m * 64) from)
-    ∙ ap (λ k. length (namedFrom a from k)) (let e : 64 + m * 64 ≡ suc m * 64 = omega arith in e)
-
--- The one bits of a set are as many as the facts that are named.
-pub ones-named : (named : ℕ → Bool) → ones (factSet named) ≡ howMany named
-ones-named named = ap ones (set-numbers named) ∙ ones-numbers named 16 0
-
--- The numbers of a set are counted one after the other.
-pub ones-next : (numbers : List ℕ) (i : ℕ) → i < length numbers → getD numbers i 0 < 2 ^ 64 → ones (drop i numbers) ≡ count.ones (getD numbers i 0) + ones (drop (i + 1) numbers)
-ones-next numbers i h k =
-    ap ones (drop-cons numbers i 0 h) ∙ ap₂ (λ x j. x + ones (drop j numbers)) (sym (ones-total 64 (getD numbers i 0) k)) (sym (add-one i))
-
-pub ones-end : (numbers : List ℕ) (i : ℕ) → length numbers ≤ i → ones (drop i numbers) ≡ 0
-ones-end numbers i h = ap ones (drop-of-length-le numbers h)
+-- A set that is too short for the fact has not got it.
+pub has-no-fact : (fact : ℕ) (set : List ℕ) → length set ≤ fact / 64 → Contained fact set false
+has-no-fact fact set h = record {
+  is-named = λ named e p.
+      let s : set ≡ numbers named 64 16 0 = e ∙ set-numbers named in
+      let l : length set ≡ 16 = ap length s ∙ length-numbers named 64 16 0 in
+      let z : ⊥ = omega arith in absurd z;
+  too-short = λ s. refl;
+}

@@ -1,8 +1,8 @@
--- `required::insert` meets its contract: the fact's bit in its number. Assumes nothing.
-use Rattle.required.specs.SetLaws.{put-fact, no-fact}
+-- `fact_set::insert` meets its contract: the fact's bit in its number. Assumes nothing.
+use Rattle.fact_set.specs.SetLaws.{put-fact, no-fact}
 use borrow.Author.Needs.{needs}
-use Rattle.required.proofs.insert.Statement.{statement}
-use Rattle.required.proofs.insert.Tie as tie
+use Rattle.fact_set.proofs.insert.Statement.{statement}
+use Rattle.fact_set.proofs.insert.Tie as tie
 
 cast-at : tie.Need-cast-at
 cast-at c = search needs

@@ -1,5 +1,5 @@
 -- The cycle of calls of `evaluate::eval_policy` meets its contracts: a policy by its head; the arms of a list by a loop, whose invariant is that
--- what answers for the arms that are left answers for all. The measure is the depth, and within a level the list rule, then the policy.
+-- what answers for the arms that are left answers for all. The measure is the depth, and within a level the list rule, then an arm, then the policy.
 -- Assumes nothing.
 use borrow.Author.Needs.{needs}
 use borrow.Author.Tests.{not-true, not-false}
@@ -13,22 +13,25 @@ use Rattle.policy_model.specs.declared.PolicyHead.the-variants.{Permit, Deny, G
 use Rattle.condition.specs.Listing.{lent}
 use Rattle.evaluate.specs.Evaluating.{EvaluatesBy}
 use Rattle.evaluate.proofs.Folds.{lent-folds}
-use Rattle.evaluate.proofs.Evaluating.{by-head, eval-end, eval-limit, eval-bad-kind, eval-bad-field, eval-permit, eval-deny}
+use Rattle.evaluate.proofs.Evaluating.{by-head, eval-end, eval-limit, eval-bad-kind, eval-bad-field, eval-permit, eval-permit-word, eval-deny}
 use Rattle.evaluate.proofs.Arms.{ArmsLeft, allLeft, anyLeft, arms-none, arms-passed, all-more, all-stop, any-more, all-node, any-node, or-permits, or-denies, Going}
 use borrow.Fn.Kinds.{In}
 use borrow.Fn.PlainCycle.{Measures, is, falls, and}
 use Rattle.evaluate.proofs.eval_all.Reads as eval-all
 use Rattle.evaluate.proofs.eval_all.Kinds as eval-all-kinds
-use Rattle.evaluate.proofs.+eval_all+eval_any+eval_or_else+eval_policy.Lts-eval_all as eval-all-lts
+use Rattle.evaluate.proofs.+eval_all+eval_any+eval_arm+eval_or_else+eval_policy.Lts-eval_all as eval-all-lts
 use Rattle.evaluate.proofs.eval_any.Reads as eval-any
 use Rattle.evaluate.proofs.eval_any.Kinds as eval-any-kinds
-use Rattle.evaluate.proofs.+eval_all+eval_any+eval_or_else+eval_policy.Lts-eval_any as eval-any-lts
+use Rattle.evaluate.proofs.+eval_all+eval_any+eval_arm+eval_or_else+eval_policy.Lts-eval_any as eval-any-lts
+use Rattle.evaluate.proofs.eval_arm.Reads as eval-arm
+use Rattle.evaluate.proofs.eval_arm.Kinds as eval-arm-kinds
+use Rattle.evaluate.proofs.+eval_all+eval_any+eval_arm+eval_or_else+eval_policy.Lts-eval_arm as eval-arm-lts
 use Rattle.evaluate.proofs.eval_or_else.Reads as eval-or-else
 use Rattle.evaluate.proofs.eval_or_else.Kinds as eval-or-else-kinds
-use Rattle.evaluate.proofs.+eval_all+eval_any+eval_or_else+eval_policy.Lts-eval_or_else as eval-or-else-lts
+use Rattle.evaluate.proofs.+eval_all+eval_any+eval_arm+eval_or_else+eval_policy.Lts-eval_or_else as eval-or-else-lts
 use Rattle.evaluate.proofs.eval_policy.Reads as eval-policy
 use Rattle.evaluate.proofs.eval_policy.Kinds as eval-policy-kinds
-use Rattle.evaluate.proofs.+eval_all+eval_any+eval_or_else+eval_policy.Lts-eval_policy as eval-policy-lts
+use Rattle.evaluate.proofs.+eval_all+eval_any+eval_arm+eval_or_else+eval_policy.Lts-eval_policy as eval-policy-lts
 use Rattle.decision.proofs.denied.Reads as denied-reads
 use Rattle.evaluate.proofs.denied.Reads as denied-reads′
 use Rattle.evaluate.proofs.eval_grant.Reads as eval-grant-reads
@@ -39,20 +42,23 @@ use Rattle.evaluate.proofs.stored_deny.Reads as stored-deny-reads
 use Rattle.evaluate.proofs.stored_permit.Reads as stored-permit-reads
 use Rattle.policy_model.proofs.policy_head.Reads as policy-head-reads
 use Rattle.policy_model.proofs.skip_policies.Reads as skip-policies-reads
-use Rattle.evaluate.proofs.+eval_all+eval_any+eval_or_else+eval_policy.{statement}
-use Rattle.evaluate.proofs.+eval_all+eval_any+eval_or_else+eval_policy.Tie.{close}
+use Rattle.evaluate.proofs.+eval_all+eval_any+eval_arm+eval_or_else+eval_policy.{statement}
+use Rattle.evaluate.proofs.+eval_all+eval_any+eval_arm+eval_or_else+eval_policy.Tie.{close}
 
 abbrev μ-eval-all : Measures 5 eval-all-kinds.ps ℕ
-μ-eval-all κs a = a .1 .1 .0 * 2 + 1
+μ-eval-all κs a = a .1 .1 .0 * 3 + 2
 
 abbrev μ-eval-any : Measures 5 eval-any-kinds.ps ℕ
-μ-eval-any κs a = a .1 .1 .0 * 2 + 1
+μ-eval-any κs a = a .1 .1 .0 * 3 + 2
+
+abbrev μ-eval-arm : Measures 5 eval-arm-kinds.ps ℕ
+μ-eval-arm κs a = a .1 .1 .0 * 3 + 1
 
 abbrev μ-eval-or-else : Measures 5 eval-or-else-kinds.ps ℕ
-μ-eval-or-else κs a = a .1 .1 .0 * 2 + 1
+μ-eval-or-else κs a = a .1 .1 .0 * 3 + 2
 
 abbrev μ-eval-policy : Measures 5 eval-policy-kinds.ps ℕ
-μ-eval-policy κs a = a .1 .1 .0 * 2
+μ-eval-policy κs a = a .1 .1 .0 * 3
 
 abbrev eval-all-Inv-loop : eval-all-lts.InvT-loop
 eval-all-Inv-loop words at depth arms facts entries₀ seen₀ count buf₀ sofar₀ next₀ listed₀ left₀ entries seen buf sofar next listed left =
@@ -95,6 +101,12 @@ module _ (t : ℕ) where
   abbrev eval-any-below : In 5 eval-any-kinds.ps
   eval-any-below = and 5 eval-any-kinds.ps (falls 5 eval-any-kinds.ps _<_ μ-eval-any t) eval-any.Pre
 
+  abbrev eval-arm-at : In 5 eval-arm-kinds.ps
+  eval-arm-at = and 5 eval-arm-kinds.ps (is 5 eval-arm-kinds.ps μ-eval-arm t) eval-arm.Pre
+
+  abbrev eval-arm-below : In 5 eval-arm-kinds.ps
+  eval-arm-below = and 5 eval-arm-kinds.ps (falls 5 eval-arm-kinds.ps _<_ μ-eval-arm t) eval-arm.Pre
+
   abbrev eval-or-else-at : In 5 eval-or-else-kinds.ps
   eval-or-else-at = and 5 eval-or-else-kinds.ps (is 5 eval-or-else-kinds.ps μ-eval-or-else t) eval-or-else.Pre
 
@@ -109,7 +121,7 @@ module _ (t : ℕ) where
 
   -- what `eval-all` calls
   abbrev eval-all-calls : eval-all-lts.Claims
-  eval-all-calls = (denied-reads.Asked, denied-reads.Learnt, eval-policy-below, eval-policy.Post, skip-policies-reads.Asked, skip-policies-reads.Learnt, met-reads.Asked, met-reads.Learnt)
+  eval-all-calls = (denied-reads.Asked, denied-reads.Learnt, eval-arm-below, eval-arm.Post, skip-policies-reads.Asked, skip-policies-reads.Learnt, met-reads.Asked, met-reads.Learnt)
 
   eval-all-denied-requires : eval-all-lts.Need-denied-requires eval-all-calls eval-all-at eval-all.Post eval-all-Inv-loop eval-all-μ-loop
   eval-all-denied-requires c κs = search needs
@@ -121,31 +133,30 @@ module _ (t : ℕ) where
   eval-all-loop-holds c =
       rw (c .denied .ensures)
       (record {
-        room = refl;
         entries-long = refl;
         seen-long = refl;
         buf-long = refl;
         few = omega arith;
-        goes = λ r t end e. all-node _ _ _ _ _ _ r t _ end _ refl (c .before .before .before .before .before .before .pre .1 .1) e;
+        goes = λ r t end e. all-node _ _ _ _ _ _ r t _ end _ refl (c .before .before .before .before .before .before .pre .1 .0) e;
       })
 
-  eval-all-sub-eval-policy : eval-all-lts.Need-sub-eval-policy eval-all-calls eval-all-at eval-all.Post eval-all-Inv-loop eval-all-μ-loop
-  eval-all-sub-eval-policy c = search needs
+  eval-all-sub-eval-arm : eval-all-lts.Need-sub-eval-arm eval-all-calls eval-all-at eval-all.Post eval-all-Inv-loop eval-all-μ-loop
+  eval-all-sub-eval-arm c = search needs
 
-  eval-all-part-eval-policy-start : eval-all-lts.Need-part-eval-policy-start eval-all-calls eval-all-at eval-all.Post eval-all-Inv-loop eval-all-μ-loop
-  eval-all-part-eval-policy-start c = search needs
+  eval-all-part-eval-arm-start : eval-all-lts.Need-part-eval-arm-start eval-all-calls eval-all-at eval-all.Post eval-all-Inv-loop eval-all-μ-loop
+  eval-all-part-eval-arm-start c = search needs
 
-  eval-all-part-eval-policy-end : eval-all-lts.Need-part-eval-policy-end eval-all-calls eval-all-at eval-all.Post eval-all-Inv-loop eval-all-μ-loop
-  eval-all-part-eval-policy-end c = search needs
+  eval-all-part-eval-arm-end : eval-all-lts.Need-part-eval-arm-end eval-all-calls eval-all-at eval-all.Post eval-all-Inv-loop eval-all-μ-loop
+  eval-all-part-eval-arm-end c = search needs
 
-  eval-all-eval-policy-requires : eval-all-lts.Need-eval-policy-requires eval-all-calls eval-all-at eval-all.Post eval-all-Inv-loop eval-all-μ-loop
-  eval-all-eval-policy-requires c κs = search needs
+  eval-all-eval-arm-requires : eval-all-lts.Need-eval-arm-requires eval-all-calls eval-all-at eval-all.Post eval-all-Inv-loop eval-all-μ-loop
+  eval-all-eval-arm-requires c κs = search needs
 
   eval-all-sub-left : eval-all-lts.Need-sub-left eval-all-calls eval-all-at eval-all.Post eval-all-Inv-loop eval-all-μ-loop
   eval-all-sub-left c = search needs
 
   eval-all-skip-policies-requires : eval-all-lts.Need-skip-policies-requires eval-all-calls eval-all-at eval-all.Post eval-all-Inv-loop eval-all-μ-loop
-  eval-all-skip-policies-requires c κs = c .before .before .before .before .before .before .before .before .before .before .before .before .before .before .before .before .before .before .before .before .pre .1 .4
+  eval-all-skip-policies-requires c κs = c .before .before .before .before .before .before .before .before .before .before .before .before .before .before .before .before .before .before .before .before .pre .1 .3
 
   eval-all-same-length : eval-all-lts.Need-same-length eval-all-calls eval-all-at eval-all.Post eval-all-Inv-loop eval-all-μ-loop
   eval-all-same-length c = search needs
@@ -163,8 +174,8 @@ module _ (t : ℕ) where
       let turn = call .before .before .before .before in
       let loop = turn .before in
       loop .loop .inv .goes _ _ _
-      (all-stop _ _ _ _ _ _ _ _ _ _ _ _ _ _ (turn .loop-test .taken) (call .eval-policy .ensures) _ (not-true _ (c .before .if1 .taken))
-      (arms-passed _ _ _ _ _ _ _ _ _ _ (call .eval-policy .ensures .few) (c .skip-policies .ensures)))
+      (all-stop _ _ _ _ _ _ _ _ _ _ _ _ _ _ (turn .loop-test .taken) (call .eval-arm .ensures) _ (not-true _ (c .before .if1 .taken))
+      (arms-passed _ _ _ _ _ _ _ _ _ _ (call .eval-arm .ensures .few) (c .skip-policies .ensures)))
 
   eval-all-met-requires : eval-all-lts.Need-met-requires eval-all-calls eval-all-at eval-all.Post eval-all-Inv-loop eval-all-μ-loop
   eval-all-met-requires c κs =
@@ -172,7 +183,7 @@ module _ (t : ℕ) where
       let call = back .before .before .before .before .before in
       let loop = call .before .before .before .before .before in
       let start = loop .before .before .before .before .before .before .before in
-      (loop .loop .inv .few, call .eval-policy .ensures .few, omega (arith, back .buf .given, loop .loop .inv .buf-long, start .pre))
+      (loop .loop .inv .few, call .eval-arm .ensures .few, omega (arith, back .buf .given, loop .loop .inv .buf-long, start .pre))
 
   eval-all-loop-less : eval-all-lts.Need-loop-less eval-all-calls eval-all-at eval-all.Post eval-all-Inv-loop eval-all-μ-loop
   eval-all-loop-less c = omega arith
@@ -187,14 +198,13 @@ module _ (t : ℕ) where
       let loop = turn .before in
       let start = loop .before .before .before .before .before .before .before in
       record {
-        room = call .eval-policy .ensures .room ∙ loop .loop .inv .room;
         entries-long = omega (arith, back .before .before .before .before .entries .given, loop .loop .inv .entries-long);
         seen-long = omega (arith, back .before .before .seen .given, loop .loop .inv .seen-long);
         buf-long = omega (arith, c .before .buf2 .given, back .buf .given, loop .loop .inv .buf-long);
         few = meet .met .ensures .few;
         goes = λ r t end e. loop .loop .inv .goes r t end
-            (all-more _ _ _ _ _ t _ r _ _ _ end _ _ (turn .loop-test .taken) (call .eval-policy .ensures) _ _ (not-false _ (permit .if1 .left))
-            (lent-folds _ _ _ _ _ _ _ _ (omega (arith, loop .loop .inv .buf-long, start .pre)) (loop .loop .inv .few) (omega (arith, back .buf .given, loop .loop .inv .buf-long, start .pre, call .eval-policy .ensures .few)) _
+            (all-more _ _ _ _ _ t _ r _ _ _ end _ _ (turn .loop-test .taken) (call .eval-arm .ensures) _ _ (not-false _ (permit .if1 .left))
+            (lent-folds _ _ _ _ _ _ _ _ (omega (arith, loop .loop .inv .buf-long, start .pre)) (loop .loop .inv .few) (omega (arith, back .buf .given, loop .loop .inv .buf-long, start .pre, call .eval-arm .ensures .few)) _
             (meet .met .ensures .folds (not-false _ (permit .if1 .left)))) e);
       }
 
@@ -214,7 +224,7 @@ module _ (t : ℕ) where
 
   -- what `eval-any` calls
   abbrev eval-any-calls : eval-any-lts.Claims
-  eval-any-calls = (denied-reads.Asked, denied-reads.Learnt, eval-policy-below, eval-policy.Post, joined-reads.Asked, joined-reads.Learnt)
+  eval-any-calls = (denied-reads.Asked, denied-reads.Learnt, eval-arm-below, eval-arm.Post, joined-reads.Asked, joined-reads.Learnt)
 
   eval-any-denied-requires : eval-any-lts.Need-denied-requires eval-any-calls eval-any-at eval-any.Post eval-any-Inv-loop eval-any-μ-loop
   eval-any-denied-requires c κs = search needs
@@ -226,25 +236,24 @@ module _ (t : ℕ) where
   eval-any-loop-holds c =
       rw (c .denied .ensures)
       (record {
-        room = refl;
         entries-long = refl;
         seen-long = refl;
         buf-long = refl;
         few = omega arith;
-        goes = λ r t end e. any-node _ _ _ _ _ _ r t _ end _ refl (c .before .before .before .before .before .before .pre .1 .1) e;
+        goes = λ r t end e. any-node _ _ _ _ _ _ r t _ end _ refl (c .before .before .before .before .before .before .pre .1 .0) e;
       })
 
-  eval-any-sub-eval-policy : eval-any-lts.Need-sub-eval-policy eval-any-calls eval-any-at eval-any.Post eval-any-Inv-loop eval-any-μ-loop
-  eval-any-sub-eval-policy c = search needs
+  eval-any-sub-eval-arm : eval-any-lts.Need-sub-eval-arm eval-any-calls eval-any-at eval-any.Post eval-any-Inv-loop eval-any-μ-loop
+  eval-any-sub-eval-arm c = search needs
 
-  eval-any-part-eval-policy-start : eval-any-lts.Need-part-eval-policy-start eval-any-calls eval-any-at eval-any.Post eval-any-Inv-loop eval-any-μ-loop
-  eval-any-part-eval-policy-start c = search needs
+  eval-any-part-eval-arm-start : eval-any-lts.Need-part-eval-arm-start eval-any-calls eval-any-at eval-any.Post eval-any-Inv-loop eval-any-μ-loop
+  eval-any-part-eval-arm-start c = search needs
 
-  eval-any-part-eval-policy-end : eval-any-lts.Need-part-eval-policy-end eval-any-calls eval-any-at eval-any.Post eval-any-Inv-loop eval-any-μ-loop
-  eval-any-part-eval-policy-end c = search needs
+  eval-any-part-eval-arm-end : eval-any-lts.Need-part-eval-arm-end eval-any-calls eval-any-at eval-any.Post eval-any-Inv-loop eval-any-μ-loop
+  eval-any-part-eval-arm-end c = search needs
 
-  eval-any-eval-policy-requires : eval-any-lts.Need-eval-policy-requires eval-any-calls eval-any-at eval-any.Post eval-any-Inv-loop eval-any-μ-loop
-  eval-any-eval-policy-requires c κs = search needs
+  eval-any-eval-arm-requires : eval-any-lts.Need-eval-arm-requires eval-any-calls eval-any-at eval-any.Post eval-any-Inv-loop eval-any-μ-loop
+  eval-any-eval-arm-requires c κs = search needs
 
   eval-any-sub-left : eval-any-lts.Need-sub-left eval-any-calls eval-any-at eval-any.Post eval-any-Inv-loop eval-any-μ-loop
   eval-any-sub-left c = search needs
@@ -255,7 +264,7 @@ module _ (t : ℕ) where
       let call = back .before .before .before .before .before in
       let loop = call .before .before .before .before .before in
       let start = loop .before .before .before .before .before .before .before in
-      (loop .loop .inv .few, call .eval-policy .ensures .few, omega (arith, back .buf .given, loop .loop .inv .buf-long, start .pre))
+      (loop .loop .inv .few, call .eval-arm .ensures .few, omega (arith, back .buf .given, loop .loop .inv .buf-long, start .pre))
 
   eval-any-loop-less : eval-any-lts.Need-loop-less eval-any-calls eval-any-at eval-any.Post eval-any-Inv-loop eval-any-μ-loop
   eval-any-loop-less c = omega arith
@@ -269,14 +278,13 @@ module _ (t : ℕ) where
       let loop = turn .before in
       let start = loop .before .before .before .before .before .before .before in
       record {
-        room = call .eval-policy .ensures .room ∙ loop .loop .inv .room;
         entries-long = omega (arith, back .before .before .before .before .entries .given, loop .loop .inv .entries-long);
         seen-long = omega (arith, back .before .before .seen .given, loop .loop .inv .seen-long);
         buf-long = omega (arith, c .before .buf2 .given, back .buf .given, loop .loop .inv .buf-long);
         few = join .joined .ensures .few;
         goes = λ r t end e. loop .loop .inv .goes r t end
-            (any-more _ _ _ _ _ t _ r _ _ _ end _ _ (turn .loop-test .taken) (call .eval-policy .ensures) (loop .loop .begun) _ _
-            (lent-folds _ _ _ _ _ _ _ _ (omega (arith, loop .loop .inv .buf-long, start .pre)) (loop .loop .inv .few) (omega (arith, back .buf .given, loop .loop .inv .buf-long, start .pre, call .eval-policy .ensures .few)) _
+            (any-more _ _ _ _ _ t _ r _ _ _ end _ _ (turn .loop-test .taken) (call .eval-arm .ensures) (loop .loop .begun) _ _
+            (lent-folds _ _ _ _ _ _ _ _ (omega (arith, loop .loop .inv .buf-long, start .pre)) (loop .loop .inv .few) (omega (arith, back .buf .given, loop .loop .inv .buf-long, start .pre, call .eval-arm .ensures .few)) _
             (join .joined .ensures)) e);
       }
 
@@ -293,6 +301,51 @@ module _ (t : ℕ) where
   eval-any-returns c =
       let loop = c .before in
       loop .loop .inv .goes _ _ _ (arms-none _ _ _ _ _ _ _ _ _ _ _ (c .loop-test .left) (loop .loop .inv .few) refl (λ l. refl))
+
+  -- what `eval-arm` calls
+  abbrev eval-arm-calls : eval-arm-lts.Claims
+  eval-arm-calls = (denied-reads′.Asked, denied-reads′.Learnt, permitted-reads.Asked, permitted-reads.Learnt, eval-policy-below, eval-policy.Post)
+
+  eval-arm-denied-requires : eval-arm-lts.Need-denied-requires eval-arm-calls eval-arm-at eval-arm.Post
+  eval-arm-denied-requires c κs = search needs
+
+  eval-arm-returns : eval-arm-lts.Need-returns eval-arm-calls eval-arm-at eval-arm.Post
+  eval-arm-returns c = rw (c .denied .ensures) (eval-end _ _ _ _ _ _ _ _ _ (c .before .if1 .taken))
+
+  eval-arm-mul-word : eval-arm-lts.Need-mul-word eval-arm-calls eval-arm-at eval-arm.Post
+  eval-arm-mul-word c = search needs
+
+  eval-arm-shared-slice-read-word : eval-arm-lts.Need-shared-slice-read-word eval-arm-calls eval-arm-at eval-arm.Post
+  eval-arm-shared-slice-read-word c = search needs
+
+  eval-arm-cast-permitted : eval-arm-lts.Need-cast-permitted eval-arm-calls eval-arm-at eval-arm.Post
+  eval-arm-cast-permitted c = search needs
+
+  eval-arm-add-permitted : eval-arm-lts.Need-add-permitted eval-arm-calls eval-arm-at eval-arm.Post
+  eval-arm-add-permitted c = search needs
+
+  eval-arm-permitted-requires : eval-arm-lts.Need-permitted-requires eval-arm-calls eval-arm-at eval-arm.Post
+  eval-arm-permitted-requires c κs = search needs
+
+  eval-arm-returns-2 : eval-arm-lts.Need-returns-2 eval-arm-calls eval-arm-at eval-arm.Post
+  eval-arm-returns-2 c =
+      let permit = c .before in
+      rw (c .permitted .ensures) (eval-permit-word _ _ _ _ _ _ _ _ (permit .before .before .if1 .left) (permit .if2 .taken))
+
+  eval-arm-eval-policy-requires : eval-arm-lts.Need-eval-policy-requires eval-arm-calls eval-arm-at eval-arm.Post
+  eval-arm-eval-policy-requires c κs = search needs
+
+  eval-arm-same-length : eval-arm-lts.Need-same-length eval-arm-calls eval-arm-at eval-arm.Post
+  eval-arm-same-length c = search needs
+
+  eval-arm-same-length-2 : eval-arm-lts.Need-same-length-2 eval-arm-calls eval-arm-at eval-arm.Post
+  eval-arm-same-length-2 c = search needs
+
+  eval-arm-same-length-3 : eval-arm-lts.Need-same-length-3 eval-arm-calls eval-arm-at eval-arm.Post
+  eval-arm-same-length-3 c = search needs
+
+  eval-arm-returns-3 : eval-arm-lts.Need-returns-3 eval-arm-calls eval-arm-at eval-arm.Post
+  eval-arm-returns-3 c = c .before .before .before .before .before .before .eval-policy .ensures
 
   -- what `eval-or-else` calls
   abbrev eval-or-else-calls : eval-or-else-lts.Claims
@@ -320,7 +373,7 @@ module _ (t : ℕ) where
   eval-or-else-returns c =
       let call = c .before .before .before .before .before .before .before .before .before in
       let start = call .before .before .before .before .before .before .before .before .before in
-      or-permits _ _ _ _ _ _ _ _ (start .pre .1 .1) (call .eval-policy .ensures) _ (c .before .if1 .taken) (c .skip-policies .ensures)
+      or-permits _ _ _ _ _ _ _ _ (start .pre .1 .0) (call .eval-policy .ensures) _ (c .before .if1 .taken) (c .skip-policies .ensures)
 
   eval-or-else-eval-policy-requires-2 : eval-or-else-lts.Need-eval-policy-requires-2 eval-or-else-calls eval-or-else-at eval-or-else.Post
   eval-or-else-eval-policy-requires-2 c κs = search needs
@@ -340,7 +393,7 @@ module _ (t : ℕ) where
       let deny = second .before .before .before .before in
       let call = deny .before .before .before .before .before .before .before .before in
       let start = call .before .before .before .before .before .before .before .before .before in
-      or-denies _ _ _ _ _ _ _ _ (start .pre .1 .1) (call .eval-policy .ensures) _ _ _ (deny .if1 .left) (second .eval-policy2 .ensures)
+      or-denies _ _ _ _ _ _ _ _ (start .pre .1 .0) (call .eval-policy .ensures) _ _ _ (deny .if1 .left) (second .eval-policy2 .ensures)
 
   -- what `eval-policy` calls
   abbrev eval-policy-calls : eval-policy-lts.Claims
@@ -534,17 +587,17 @@ module _ (t : ℕ) where
       (by-head _ _ _ _ _ _ _ _ BadField (head .before .before .if2 .left) (sym (c .before .enum-told6 .given .1) ∙ head .policy-head .ensures)
       (eval-bad-field _ _ _ _ _ _ _ _ _ (head .before .before .before .if1 .left)))
 
-pub +eval-all+eval-any+eval-or-else+eval-policy-spec : {M : Type 1} → statement M
-+eval-all+eval-any+eval-or-else+eval-policy-spec =
-    close μ-eval-all μ-eval-any μ-eval-or-else μ-eval-policy
+pub +eval-all+eval-any+eval-arm+eval-or-else+eval-policy-spec : {M : Type 1} → statement M
++eval-all+eval-any+eval-arm+eval-or-else+eval-policy-spec =
+    close μ-eval-all μ-eval-any μ-eval-arm μ-eval-or-else μ-eval-policy
     (λ t. eval-all-lts.spec (eval-all-calls t) (eval-all-at t) eval-all.Post eval-all-Inv-loop eval-all-μ-loop
     (eval-all-denied-requires t)
     (eval-all-add-next t)
     (eval-all-loop-holds t)
-    (eval-all-sub-eval-policy t)
-    (eval-all-part-eval-policy-start t)
-    (eval-all-part-eval-policy-end t)
-    (eval-all-eval-policy-requires t)
+    (eval-all-sub-eval-arm t)
+    (eval-all-part-eval-arm-start t)
+    (eval-all-part-eval-arm-end t)
+    (eval-all-eval-arm-requires t)
     (eval-all-sub-left t)
     (eval-all-skip-policies-requires t)
     (eval-all-same-length t)
@@ -562,10 +615,10 @@ pub +eval-all+eval-any+eval-or-else+eval-policy-spec : {M : Type 1} → statemen
     (eval-any-denied-requires t)
     (eval-any-add-next t)
     (eval-any-loop-holds t)
-    (eval-any-sub-eval-policy t)
-    (eval-any-part-eval-policy-start t)
-    (eval-any-part-eval-policy-end t)
-    (eval-any-eval-policy-requires t)
+    (eval-any-sub-eval-arm t)
+    (eval-any-part-eval-arm-start t)
+    (eval-any-part-eval-arm-end t)
+    (eval-any-eval-arm-requires t)
     (eval-any-sub-left t)
     (eval-any-joined-requires t)
     (eval-any-loop-less t)
@@ -574,6 +627,20 @@ pub +eval-all+eval-any+eval-or-else+eval-policy-spec : {M : Type 1} → statemen
     (eval-any-same-length-2 t)
     (eval-any-same-length-3 t)
     (eval-any-returns t))
+    (λ t. eval-arm-lts.spec (eval-arm-calls t) (eval-arm-at t) eval-arm.Post
+    (eval-arm-denied-requires t)
+    (eval-arm-returns t)
+    (eval-arm-mul-word t)
+    (eval-arm-shared-slice-read-word t)
+    (eval-arm-cast-permitted t)
+    (eval-arm-add-permitted t)
+    (eval-arm-permitted-requires t)
+    (eval-arm-returns-2 t)
+    (eval-arm-eval-policy-requires t)
+    (eval-arm-same-length t)
+    (eval-arm-same-length-2 t)
+    (eval-arm-same-length-3 t)
+    (eval-arm-returns-3 t))
     (λ t. eval-or-else-lts.spec (eval-or-else-calls t) (eval-or-else-at t) eval-or-else.Post
     (eval-or-else-add-eval-policy t)
     (eval-or-else-eval-policy-requires t)

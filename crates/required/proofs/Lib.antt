@@ -2,5 +2,6 @@
 pub mod Arms
 pub mod Conditions
 pub mod Policies
+pub mod Nodes
 pub mod Sheets
 pub mod Records

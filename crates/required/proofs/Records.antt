@@ -2,12 +2,12 @@
 use mathlib.Core.Path.{_≡_, refl, sym, _∙_, ap, ap₂, subst}
 use mathlib.Core.Bool.{Bool, true, false}
 use mathlib.Core.List.{List, [], _∷_, map}
-use Prim.Native.Nat.{ℕ, zero, suc, _+_, _-_, _/_, _%_}
+use Prim.Native.Nat.{ℕ, zero, suc, _+_, _-_}
 use native.Mathlib.Omega.{arith}
 use lib.Dec.{ltb, leb}
 use lib.ListN.{length, drop, replicate, length-map}
 use lib.Seq.{drop-drop}
-use Rattle.model.specs.Fields.{wordsFor, perWord, pack}
+use Rattle.model.specs.Fields.{wordsFor, pack}
 use Rattle.model.specs.Outcome.{productSets}
 use Rattle.model.specs.Decision.{Decision}
 use Rattle.model.specs.Policy.{Policy, names}

@@ -1,14 +1,16 @@
 -- The answer for a sheet, from its check and from the facts of its policy. Assumes nothing.
-use mathlib.Core.Path.{_≡_, refl, _∙_}
+use mathlib.Core.Path.{_≡_, refl, _∙_, subst}
 use mathlib.Core.Bool.{Bool, true, false}
 use mathlib.Core.Option.{none, some}
 use mathlib.Core.List.{List, [], _∷_}
 use Prim.Native.Nat.{ℕ}
 use native.Mathlib.Omega.{arith}
 use lib.ListN.{replicate}
+use Rattle.model.specs.Outcome.{productSets}
 use Rattle.model.specs.Policy.{Policy, names}
-use Rattle.model.specs.Reading.{Parsed, refuse, got, unless, whole}
-use Rattle.model.specs.Required.{requiredOf}
+use Rattle.model.specs.Reading.{Parsed, refuse, got, unless, whole, levels, sheetLength, readPolicy, readSheet}
+use Rattle.model.specs.Required.{requiredOf, requiredFacts}
+use Rattle.laws.specs.Deeper.{Follows, deeper}
 use Rattle.policy_model.specs.Answers.{refusal}
 use Rattle.required.specs.declared.Required.the-variants.{Facts, Refused}
 use Rattle.required.specs.Counts.{ones-named}
@@ -20,13 +22,26 @@ never n e = let z : _≡_ {A = ℕ} 0 1 = cc in let b : ⊥ = omega arith in abs
 never-some : (n : ℕ) {G : Type 0} → some n ≡ none → G
 never-some n e = let z : _≡_ {A = ℕ} 0 1 = cc in let b : ⊥ = omega arith in absurd b
 
-pub accepted : (b : Bool) (q : Parsed (Policy ℕ)) (before after : List ℕ) (count : ℕ) → none ≡ refusal (unless b 1 (whole q)) → FactsOf q before after count →
+-- A sheet reads where residuals do.
+sheet-facts : (p q : Parsed (Policy ℕ)) (before after : List ℕ) (count : ℕ) → Follows p q → FactsOf q before after count → FactsOf p before after count
+unfolding FactsOf
+sheet-facts (refuse n) q before after count f g = tt
+sheet-facts (got t []) q before after count f g = subst (λ x. FactsOf x before after count) (f .it) g
+sheet-facts (got t (w ∷ ws)) q before after count f g = tt
+
+accepted-at : (b : Bool) (q : Parsed (Policy ℕ)) (before after : List ℕ) (count : ℕ) → none ≡ refusal (unless b 1 (whole q)) → FactsOf q before after count →
     Answered (requiredOf (unless b 1 (whole q)) (λ t f. names f t)) (unless b 1 (whole q)) before after (Facts count)
 unfolding FactsOf
-accepted false q before after count e g = never 1 e
-accepted true (refuse n) before after count e g = never n e
-accepted true (got t []) before after count e g = record { number-is = refl; count-is = g .counted; named-is = g .counted ∙ ones-named (λ f. names f t); set-is = g .set-is }
-accepted true (got t (w ∷ ws)) before after count e g = never 10 e
+accepted-at false q before after count e g = never 1 e
+accepted-at true (refuse n) before after count e g = never n e
+accepted-at true (got t []) before after count e g = record { number-is = refl; count-is = g .counted; named-is = g .counted ∙ ones-named (λ f. names f t); set-is = g .set-is }
+accepted-at true (got t (w ∷ ws)) before after count e g = never 10 e
+
+pub accepted : (sheet before after : List ℕ) (count : ℕ) → none ≡ refusal (readSheet (productSets .value) sheet) → FactsOf (readPolicy (productSets .value) true levels sheet) before after count →
+    Answered (requiredFacts productSets sheet) (readSheet (productSets .value) sheet) before after (Facts count)
+accepted sheet before after count e g =
+    accepted-at (sheetLength sheet) (readPolicy (productSets .value) false levels sheet) before after count e
+    (sheet-facts (readPolicy (productSets .value) false levels sheet) (readPolicy (productSets .value) true levels sheet) before after count (deeper (productSets .value) false levels levels sheet (omega arith)) g)
 
 pub refused : (number : ℕ) (q : Parsed (Policy ℕ)) (before after : List ℕ) → some number ≡ refusal q → after ≡ setAfter before (replicate 16 0) →
     Answered (requiredOf q (λ t f. names f t)) q before after (Refused number)

@@ -1,7 +1,7 @@
 -- What an answer stands for: document 01's number, and how many facts; and the set afterwards.
 use mathlib.Core.Path.{_≡_}
 use mathlib.Core.Bool.{cond}
-use mathlib.Core.List.{List}
+use mathlib.Core.List.{List, [], _∷_}
 use Prim.Native.Nat.{ℕ}
 use lib.Dec.{eqb}
 use lib.ListN.{length}
@@ -43,11 +43,21 @@ pub record Answered (m : model.Required) (read : Parsed (Policy ℕ)) (before af
   pub named-is : countOf r ≡ namedIn read
   pub set-is : after ≡ setAfter before (m .set)
 
--- The facts of a policy that was read, in a set, and their count. Of words that don't read nothing is said.
+-- The facts of a policy that was read to the last word: a set of them, and their count; and the set that becomes theirs. Of other words nothing is said.
+pub record Filling (facts after : List ℕ) (count : ℕ) : Type 0 where
+  pub counted : count ≡ model.ones facts
+  pub filled : after ≡ facts
+
+unfoldable pub Filled : Parsed (Policy ℕ) → List ℕ → ℕ → Type 0
+Filled (refuse n) after count = Unit {0}
+Filled (got t []) after count = Filling (model.factSet (λ f. names f t)) after count
+Filled (got t (w ∷ ws)) after count = Unit {0}
+
 pub record Given (facts : List ℕ) (before after : List ℕ) (count : ℕ) : Type 0 where
   pub counted : count ≡ model.ones facts
   pub set-is : after ≡ setAfter before facts
 
 unfoldable pub FactsOf : Parsed (Policy ℕ) → List ℕ → List ℕ → ℕ → Type 0
 FactsOf (refuse n) before after count = Unit {0}
-FactsOf (got t ws) before after count = Given (model.factSet (λ f. names f t)) before after count
+FactsOf (got t []) before after count = Given (model.factSet (λ f. names f t)) before after count
+FactsOf (got t (w ∷ ws)) before after count = Unit {0}

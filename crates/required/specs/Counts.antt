@@ -85,5 +85,8 @@ pub ones-next : (numbers : List ℕ) (i : ℕ) → i < length numbers → getD n
 ones-next numbers i h k =
     ap ones (drop-cons numbers i 0 h) ∙ ap₂ (λ x j. x + ones (drop j numbers)) (sym (ones-total 64 (getD numbers i 0) k)) (sym (add-one i))
 
+pub ones-zero : (number : ℕ) → number ≡ 0 → count.ones number ≡ 0
+ones-zero number e = ap count.ones e ∙ low-bit 0 (omega arith)
+
 pub ones-end : (numbers : List ℕ) (i : ℕ) → length numbers ≤ i → ones (drop i numbers) ≡ 0
 ones-end numbers i h = ap ones (drop-of-length-le numbers h)

@@ -2,11 +2,12 @@
 use mathlib.Core.Path.{_≡_}
 use mathlib.Core.Bool.{false}
 use mathlib.Core.List.{List}
-use Prim.Native.Nat.{ℕ, _+_}
+use Prim.Native.Nat.{ℕ, _+_, _≤_, _<_}
+use lib.ListN.{length, getD}
 use Rattle.model.specs.Condition.{Condition}
 use Rattle.model.specs.Decision.{Decision}
 use Rattle.model.specs.Policy.{names}
-use Rattle.model.specs.Reading.{Parsed, refuse, got}
+use Rattle.model.specs.Reading.{Parsed, refuse, got, kindOf}
 use Rattle.laws.specs.Size.{wordsD, words}
 use Rattle.policy_model.specs.declared.ConditionHead.{ConditionHead}
 use Rattle.policy_model.specs.declared.ConditionHead.the-variants.{Always, Never, Has, Not}
@@ -39,6 +40,11 @@ policyArms (PermitWithTrace n o) = 0
 policyArms (DenyWithTrace hidden denied o) = 0
 policyArms policy.BadKind = 0
 policyArms policy.BadField = 0
+
+-- A word from kind 12 on.
+pub record StoredAt (sheet : List ℕ) (at : ℕ) : Type 0 where
+  pub inside : at < length sheet
+  pub stored : 12 ≤ kindOf (getD sheet at 0)
 
 -- Where a node 12 or 13 ends.
 unfoldable pub Ended : ℕ → Parsed (Decision ℕ) → ℕ → Type 0

@@ -18,6 +18,12 @@ unfoldable pub Collected : {A : Type 0} → (A → ℕ) → (ℕ → A → Bool)
 Collected size names at before after (refuse n) next = Unit {0}
 Collected size names at before after (got a ws) next = Walked at (size a) next (λ f. names f a) before after
 
+-- A walk to the last word. Of words that don't read, or that go on after what was read, it says nothing.
+unfoldable pub ToTheEnd : {A : Type 0} → (ℕ → A → Bool) → Parsed A → List ℕ → List ℕ → Type 0
+ToTheEnd names (refuse n) before after = Unit {0}
+ToTheEnd names (got a []) before after = Grown (λ f. names f a) before after
+ToTheEnd names (got a (w ∷ ws)) before after = Unit {0}
+
 -- The facts that are named among the n from `from` on, in order; and how many of the 1,024 facts are.
 unfoldable pub namedFrom : (ℕ → Bool) → ℕ → ℕ → List ℕ
 namedFrom named from zero = []

@@ -2,24 +2,24 @@
 // fact, fact 0 the top bit of the first. The walks are lent the set and add to it, and return the index of the next word: so the grown set comes back
 // without being copied at each level.
 use policy_model::ConditionHead;
-use policy_model::PolicyHead;
 use policy_model::RecordCheck;
 use policy_model::SheetCheck;
 ghost use mathlib.Core.Path.{_≡_};
-ghost use mathlib.Core.Bool.{Bool};
+ghost use mathlib.Core.Bool.{Bool, true};
+ghost use mathlib.Core.List.{List};
 ghost use Prim.Native.Nat.{ℕ, _+_, _≤_, _<_};
-ghost use lib.ListN.{length, drop, replicate};
+ghost use lib.ListN.{length, drop, getD, replicate};
 ghost use Rattle.model.specs.Outcome.{productSets};
-ghost use Rattle.model.specs.Condition.{namesC};
+ghost use Rattle.model.specs.Condition.{Condition, namesC};
 ghost use Rattle.model.specs.Policy.{names};
-ghost use Rattle.model.specs.Reading.{levels, readCondition, readPolicy, readSheet, readRecord};
+ghost use Rattle.model.specs.Reading.{Parsed, levels, readCondition, readPolicy, readSheet, readRecord};
 ghost use Rattle.model.specs.Required.{ones, requiredFacts, requiredResidualFacts};
-ghost use Rattle.laws.specs.Size.{wordsC, words as wordsP};
-ghost use Rattle.policy_model.specs.Heads.{permitTraceNode, denyTraceNode};
-ghost use Rattle.required.specs.Sets.{Collected};
-ghost use Rattle.required.specs.Nodes.{conditionArms, policyArms, Ended, OwnFacts};
-ghost use Rattle.required.specs.Arms.{PassedHas, PassedPermits};
-ghost use Rattle.required.specs.Answers.{setAfter, FactsOf, Answered, treeOf};
+ghost use Rattle.laws.specs.Size.{wordsC};
+ghost use Rattle.policy_model.specs.Heads.{permitTraceNode, denyTraceNode, policyHead};
+ghost use Rattle.required.specs.Sets.{Collected, ToTheEnd};
+ghost use Rattle.required.specs.Nodes.{conditionArms, Ended, StoredAt, OwnFacts};
+ghost use Rattle.required.specs.Arms.{PassedHas};
+ghost use Rattle.required.specs.Answers.{setAfter, Filled, FactsOf, Answered, treeOf};
 
 // How many conditions follow a condition's first word as its arms.
 fn condition_arms(head: ConditionHead) -> u32
@@ -136,131 +136,65 @@ fn deny_trace_end(words: &[u32], at: usize) -> usize
     at + 3 + (facts + 1) / 2
 }
 
+// Where a stored decision ends: kind 12, or 13.
+fn stored_end(words: &[u32], at: usize) -> usize
+    requires { ⌜ StoredAt (now words) at ⌝ }
+    ensures { λ r. ⌜ ((pc : List ℕ → Parsed Condition) (s : List ℕ) → OwnFacts pc (policyHead (getD (now (words .entry)) at 0) true) (drop (at + 1) (now (words .entry))) at s s r) ⌝ }
+{
+    let word = words[at];
+    if word / 268435456 == 12 {
+        return permit_trace_end(words, at, word / 1048576 % 128);
+    }
+    deny_trace_end(words, at)
+}
+
 // Adds the facts of what stands in a policy before its arms, and returns the index of the word after that. Stored decisions name nothing.
-fn collect_own_facts(
-    words: &[u32],
-    at: usize,
-    depth: usize,
-    head: PolicyHead,
-    set: &mut [u64],
-) -> usize
+fn collect_own_facts(words: &[u32], at: usize, set: &mut [u64]) -> usize
     requires { ⌜ at < length (now words) ⌝ }
-    ensures { λ r. ⌜ OwnFacts (λ ws. readCondition depth ws) head (drop (at + 1) (now (words .entry))) at (now (set .entry)) (now (set .exit)) r ⌝ }
+    ensures { λ r. ⌜ OwnFacts (λ ws. readCondition 31 ws) (policyHead (getD (now (words .entry)) at 0) true) (drop (at + 1) (now (words .entry))) at (now (set .entry)) (now (set .exit)) r ⌝ }
 {
-    match head {
-        PolicyHead::Permit(_) => at + 1,
-        PolicyHead::Deny => at + 1,
-        PolicyHead::Grant {
-            hidden: _,
-            obligations,
-            outcome: _,
-        } => collect_grant_facts(words, at + 2 + (obligations as usize + 3) / 4, depth, set),
-        PolicyHead::All(_) => at + 1,
-        PolicyHead::Any(_) => at + 1,
-        PolicyHead::OrElse => at + 1,
-        PolicyHead::PermitWithTrace {
-            obligations,
-            outcome: _,
-        } => permit_trace_end(words, at, obligations),
-        PolicyHead::DenyWithTrace {
-            hidden: _,
-            denied: _,
-            outcome: _,
-        } => deny_trace_end(words, at),
-        PolicyHead::BadKind => at + 1,
-        PolicyHead::BadField => at + 1,
+    let word = words[at];
+    let kind = word / 268435456;
+    if kind == 8 {
+        return collect_grant_facts(
+            words,
+            at + 2 + ((word / 1048576 % 128) as usize + 3) / 4,
+            31,
+            set,
+        );
     }
+    if kind < 12 {
+        return at + 1;
+    }
+    stored_end(words, at)
 }
 
-// How many policies follow a policy's own words as its arms.
-fn policy_arms(head: PolicyHead) -> u32
-    ensures { λ r. ⌜ r ≡ policyArms head ⌝ }
-{
-    match head {
-        PolicyHead::Permit(_) => 0,
-        PolicyHead::Deny => 0,
-        PolicyHead::Grant {
-            hidden: _,
-            obligations: _,
-            outcome: _,
-        } => 0,
-        PolicyHead::All(count) => count,
-        PolicyHead::Any(count) => count,
-        PolicyHead::OrElse => 2,
-        PolicyHead::PermitWithTrace {
-            obligations: _,
-            outcome: _,
-        } => 0,
-        PolicyHead::DenyWithTrace {
-            hidden: _,
-            denied: _,
-            outcome: _,
-        } => 0,
-        PolicyHead::BadKind => 0,
-        PolicyHead::BadField => 0,
-    }
-}
-
-// Passes over the Permits that come first among `count` arms from `at` on.
-fn pass_permits(words: &[u32], at: usize, count: u32) -> Passed
-    ensures { λ r. ⌜ PassedPermits (now (words .entry)) at count r ⌝ }
+// Adds the facts of the policy at `at`, which ends with the words. These were checked before, so its nodes need no level: each is seen as it comes.
+fn collect_policy_facts(words: &[u32], at: usize, set: &mut [u64])
+    ensures { λ r. ⌜ ToTheEnd names (readPolicy (productSets .value) true levels (drop at (now (words .entry)))) (now (set .entry)) (now (set .exit)) ⌝ }
 {
     let mut next = at;
-    let mut left = count;
-    while left != 0 {
-        if words.len() <= next {
-            return Passed { next, left };
+    while next < words.len() {
+        let after = collect_own_facts(words, next, set);
+        if after <= next {
+            return;
         }
-        if words[next] / 65536 != 24576 {
-            return Passed { next, left };
-        }
-        next += 1;
-        left -= 1;
+        next = after;
     }
-    Passed { next, left }
 }
 
-// Adds the facts of the policy at `at`, of at most `depth` levels, and returns the index of the word after it.
-fn collect_policy_facts(
-    words: &[u32],
-    at: usize,
-    depth: usize,
-    residual: bool,
-    set: &mut [u64],
-) -> usize
-    ensures { λ r. ⌜ Collected wordsP names at (now (set .entry)) (now (set .exit)) (readPolicy (productSets .value) residual depth (drop at (now (words .entry)))) r ⌝ }
-{
-    if words.len() <= at {
-        return at;
-    }
-    if depth == 0 {
-        return at;
-    }
-    let head = policy_model::policy_head(words[at], residual);
-    let mut next = collect_own_facts(words, at, depth - 1, head, set);
-    let mut left = policy_arms(head);
-    while left != 0 {
-        let passed = pass_permits(words, next, left);
-        next = passed.next;
-        left = passed.left;
-        if left == 0 {
-            return next;
-        }
-        next = collect_policy_facts(words, next, depth - 1, residual, set);
-        left -= 1;
-    }
-    next
-}
-
-// How many bits of the set are one.
+// How many bits of the set are one. Most numbers of a set are zero.
 fn count_ones(set: &[u64]) -> u32
-    requires { ⌜ length (now set) ≤ 16 ⌝ }
+    requires { ⌜ length (now set) ≡ 16 ⌝ }
     ensures { λ r. ⌜ r ≡ ones (now (set .entry)) ⌝ }
 {
     let mut count = 0;
     let mut i = 0;
-    while i < set.len() {
-        count += u64::count_ones(set[i]);
+    while i < 16 {
+        let number = set[i];
+        if number != 0 {
+            count += u64::count_ones(number);
+        }
         i += 1;
     }
     count
@@ -272,37 +206,46 @@ pub enum Required {
     Refused(u32),
 }
 
-// Makes `set`, if it has sixteen numbers, the set `by`.
-fn replace(set: &mut [u64], by: &[u64])
-    requires { ⌜ length (now by) ≡ 16 ⌝ }
-    ensures { λ r. ⌜ now (set .exit) ≡ setAfter (now (set .entry)) (now (by .entry)) ⌝ }
+// Makes a set of sixteen numbers empty.
+fn clear(set: &mut [u64])
+    requires { ⌜ length (now set) ≡ 16 ⌝ }
+    ensures { λ r. ⌜ now (set .exit) ≡ replicate 16 0 ⌝ }
 {
-    if set.len() != 16 {
-        return;
-    }
     let mut i = 0;
     while i < 16 {
-        set[i] = by[i];
+        set[i] = 0;
         i += 1;
     }
 }
 
-// The facts of the policy at `at`, in a set of their own that then replaces `set`, and their count.
-fn facts_at(words: &[u32], at: usize, residual: bool, set: &mut [u64]) -> u32
-    ensures { λ r. ⌜ FactsOf (readPolicy (productSets .value) residual levels (drop at (now (words .entry)))) (now (set .entry)) (now (set .exit)) r ⌝ }
+// Makes a set of sixteen numbers that of the facts of the policy at `at`, and counts them.
+fn fill(words: &[u32], at: usize, set: &mut [u64]) -> u32
+    requires { ⌜ length (now set) ≡ 16 ⌝ }
+    ensures { λ r. ⌜ Filled (readPolicy (productSets .value) true levels (drop at (now (words .entry)))) (now (set .exit)) r ⌝ }
 {
-    let mut facts = [0u64; 16];
-    collect_policy_facts(words, at, 32, residual, &mut facts);
-    replace(set, &facts);
-    count_ones(&facts)
+    clear(set);
+    collect_policy_facts(words, at, set);
+    count_ones(set)
 }
 
-// Refused: an empty set.
+// The facts of the policy at `at`, and their count. Where `set` does not have sixteen numbers they are counted in a set of their own.
+fn facts_at(words: &[u32], at: usize, set: &mut [u64]) -> u32
+    ensures { λ r. ⌜ FactsOf (readPolicy (productSets .value) true levels (drop at (now (words .entry)))) (now (set .entry)) (now (set .exit)) r ⌝ }
+{
+    if set.len() != 16 {
+        let mut facts = [0u64; 16];
+        return fill(words, at, &mut facts);
+    }
+    fill(words, at, set)
+}
+
+// No fact: an empty set.
 fn no_facts(set: &mut [u64])
     ensures { λ r. ⌜ now (set .exit) ≡ setAfter (now (set .entry)) (replicate 16 0) ⌝ }
 {
-    let none = [0u64; 16];
-    replace(set, &none)
+    if set.len() == 16 {
+        clear(set);
+    }
 }
 
 // The facts that a sheet names: their set, and their count. Refused, the set is empty. A set that does not have sixteen numbers is left as it was.
@@ -310,7 +253,7 @@ pub fn required_facts(sheet: &[u32], set: &mut [u64]) -> Required
     ensures { λ r. ⌜ Answered (requiredFacts productSets (now (sheet .entry))) (readSheet (productSets .value) (now (sheet .entry))) (now (set .entry)) (now (set .exit)) r ⌝ }
 {
     match policy_model::check_sheet(sheet) {
-        SheetCheck::Accepted => Required::Facts(facts_at(sheet, 0, false, set)),
+        SheetCheck::Accepted => Required::Facts(facts_at(sheet, 0, set)),
         SheetCheck::Refused(number) => {
             no_facts(set);
             Required::Refused(number)
@@ -331,12 +274,7 @@ pub fn required_residual_facts(words: &[u32], set: &mut [u64]) -> Required
             no_facts(set);
             Required::Facts(0)
         }
-        RecordCheck::Pending { consulted: _, tree } => Required::Facts(facts_at(
-            words,
-            tree,
-            true,
-            set,
-        )),
+        RecordCheck::Pending { consulted: _, tree } => Required::Facts(facts_at(words, tree, set)),
         RecordCheck::Refused(number) => {
             no_facts(set);
             Required::Refused(number)

@@ -1,8 +1,7 @@
 -- `required::required_facts` meets its contract: by the check of the sheet. Assumes nothing.
 use mathlib.Core.Path.{sym, _∙_, ap}
-use mathlib.Core.Bool.{false}
 use Rattle.model.specs.Outcome.{productSets}
-use Rattle.model.specs.Reading.{levels, sheetLength, readPolicy, readSheet}
+use Rattle.model.specs.Reading.{readSheet}
 use Rattle.policy_model.specs.Answers.{sheetRefusal}
 use Rattle.required.proofs.Sheets.{accepted, refused}
 use borrow.Author.Needs.{needs}
@@ -33,7 +32,7 @@ returns c =
     let told = facts .before .before in
     let check = told .before .before in
     let sheet = check .before .before .before .args .sheet .now in
-    accepted (sheetLength sheet) (readPolicy (productSets .value) false levels sheet) _ _ _ (ap sheetRefusal (sym (told .enum-told .given .1)) ∙ check .check-sheet .ensures) (facts .facts-at .ensures)
+    accepted sheet _ _ _ (ap sheetRefusal (sym (told .enum-told .given .1)) ∙ check .check-sheet .ensures) (facts .facts-at .ensures)
 
 same-length-2 : tie.Need-same-length-2
 same-length-2 c = search needs

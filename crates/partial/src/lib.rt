@@ -243,7 +243,7 @@ fn reduce_large(words: &[u32], consulted: usize, at: usize, facts: &[u8], out: &
     )
 }
 
-// The same of any that were checked. Its lists take 160 KiB of stack, so the calls see to short words apart from it.
+// The same of any that were checked. Every page of its 164 KiB of stack is touched when it is called, so the calls see to short words apart from it.
 fn reduce_long(words: &[u32], consulted: usize, at: usize, facts: &[u8], out: &mut [u32]) -> Answer
     requires { ⌜ length (now words) ≤ 16384 ⌝ }
     ensures { λ r. ⌜ ReducesFrom (tableOf (now (facts .entry))) (now (words .entry)) consulted at (now (out .entry)) (now (out .exit)) r ⌝ }

@@ -100,7 +100,7 @@ fn eval_grant(
     if none - at < before {
         return denied(none, at, count);
     }
-    let condition = condition::eval_condition(
+    let condition = condition::eval_arm(
         words,
         at + before,
         depth,

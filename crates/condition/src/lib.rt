@@ -139,7 +139,7 @@ fn eval_has(
 }
 
 // The condition at `at`, of at most `depth` levels.
-pub fn eval_condition(
+fn eval_condition(
     words: &[u32],
     at: usize,
     depth: usize,
@@ -177,8 +177,8 @@ pub fn eval_condition(
     }
 }
 
-// The same of an arm. A Has, the commonest arm, is seen here, so that the list rule reads it with no call.
-fn eval_arm(
+// The same of an arm, or of a grant's condition. Most are a Has, which is seen here, so that whoever asks reads it with no call of the cycle.
+pub fn eval_arm(
     words: &[u32],
     at: usize,
     depth: usize,

@@ -2,21 +2,22 @@
 -- Assumes nothing.
 use mathlib.Core.Path.{_≡_, refl, sym, _∙_, ap, ap₂, subst}
 use mathlib.Core.Bool.{false, cond}
-use mathlib.Core.List.{List, _++_}
-use Prim.Native.Nat.{ℕ, zero, suc, _-_, _≤_}
+use mathlib.Core.List.{List, [], _++_}
+use Prim.Native.Nat.{ℕ, zero, suc, _-_, _≤_, _<_}
 use native.Mathlib.Omega.{arith}
 use borrow.Author.Tests.{eq-eqb, ne-eqb}
 use lib.Dec.{eqb, eqb·suc-zero}
-use lib.ListN.{length, take, drop, length-drop}
+use lib.ListN.{length, take, drop, getD, length-drop}
 use lib.Seq.{length-take-le, take-all, take-append-le, take-take, drop-at}
 use Rattle.model.specs.Facts.{Table}
 use Rattle.model.specs.Decision.{permits, denies, unionObligations}
+use Rattle.laws.specs.FieldLaws.{padded}
 use Rattle.laws.specs.Form.{FormO}
 use Rattle.decision.specs.declared.Decision.{Decision}
-use Rattle.decision.specs.Nodes.{clauseAt, obligationsAt}
-use Rattle.decision.specs.Meaning.{permittedAt, obligationsIn, permitOf, decisionOf, Sound}
-use Rattle.decision.specs.Answers.{Loaded, United, Held, Both, Kept}
-use Rattle.decision.proofs.Nodes.{none-held}
+use Rattle.decision.specs.Nodes.{clauseAt, obligationsAt, fieldsOf, obligationCountOf}
+use Rattle.decision.specs.Meaning.{permittedAt, obligationsIn, permitOf, decisionOf, Names, Sound}
+use Rattle.decision.specs.Answers.{Loaded, United, Held, Unobliged, Both, Kept}
+use Rattle.decision.proofs.Nodes.{none-held, obligations-there}
 
 -- ---- a decision stands for the same where its bytes are the same
 module _ (words before after : List ℕ) (d : Decision) (e : take (d .count) after ≡ take (d .count) before) where
@@ -80,6 +81,18 @@ held-node words before after d n e l =
       front = λ names. l .front names ∙ sym (ap (λ b. cond b (obligationsAt words (d .held)) (take (d .count) before)) (eq-eqb (d .count) 0 e));
       rest = l .rest;
     }
+
+-- No bytes, and a node without obligations.
+pub unobliged-node : (words : List ℕ) (d : Decision) → d .count ≡ 0 → (Names words (d .held) → obligationsAt words (d .held) ≡ []) → Unobliged words d
+unfolding obligationsIn
+unobliged-node words d e h = record { none = λ names buf. ap (λ b. cond b (obligationsAt words (d .held)) (take (d .count) buf)) (eq-eqb (d .count) 0 e) ∙ h names }
+
+pub unobliged-past : (words : List ℕ) (d : Decision) → d .count ≡ 0 → length words ≤ d .held → Unobliged words d
+unobliged-past words d e h = unobliged-node words d e (λ _. none-held words (d .held) h)
+
+pub unobliged-there : (words : List ℕ) (d : Decision) (n : ℕ) → d .count ≡ 0 → d .held < length words → n ≡ obligationCountOf (getD words (d .held) 0) → n ≡ 0 → Unobliged words d
+unobliged-there words d n e h c z =
+    unobliged-node words d e (λ names. sym (obligations-there words (d .held) h names) ∙ ap (λ k. padded k (fieldsOf 8 4 (drop 2 (drop (d .held) words)))) (sym c ∙ z))
 
 -- Two decisions' obligations, the second one's brought to the front of its own buffer, are united.
 module _ (words before mid tail rest after : List ℕ) (sofar incoming : Decision) (count more r : ℕ) (room : 128 ≤ length mid) (long : length tail ≡ length mid - 64)

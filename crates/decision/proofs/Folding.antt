@@ -14,7 +14,7 @@ use Rattle.laws.specs.Form.{FormO}
 use Rattle.decision.specs.declared.Decision.{Decision}
 use Rattle.decision.specs.Nodes.{clauseAt}
 use Rattle.decision.specs.Meaning.{permittedAt, obligationsIn, permitOf, decisionOf, Names, past, Sound}
-use Rattle.decision.specs.Answers.{Both, Kept, Folded}
+use Rattle.decision.specs.Answers.{Unobliged, Both, Kept, Folded}
 use Rattle.decision.proofs.Lists.{form-union}
 use Rattle.decision.proofs.Nodes.{no-clause}
 use Rattle.decision.proofs.Standing.{as-permit, permit-is, permitted-is, sound-permitted}
@@ -142,6 +142,18 @@ module _ (words before : List ℕ) (sofar incoming : Decision) (o : ℕ) (is : o
             ∙ sym (joins T true true (eq-eqb o (sofar .outcome) m) (eq-eqb o (incoming .outcome) k));
       } in
       subst (Folded (joinPermit productSets) words before after sofar incoming) (sym e) it
+
+  pub join-unobliged : sofar .count ≤ 64 → o ≡ sofar .outcome → o ≡ incoming .outcome → Unobliged words incoming → Folded (joinPermit productSets) words before before sofar incoming sofar
+  unfolding permitOf
+  join-unobliged few m k u =
+      record {
+        few = few;
+        permit = λ p _. p;
+        sound = λ s _. s;
+        folded = λ s t T.
+            sym (joins T true true (eq-eqb o (sofar .outcome) m) (eq-eqb o (incoming .outcome) k)
+            ∙ ap (λ os. withObligations (permitOf words T before sofar) (unionObligations (obligationsIn words before sofar) os)) (u .none (t .held) (drop 64 before)));
+      }
 
   pub join-neither : (after : List ℕ) (n : ℕ) (r : Decision) → r ≡ permittedAt o (length words) (length words) n → Both words sofar incoming before after n →
       (o ≡ sofar .outcome → ⊥) → (o ≡ incoming .outcome → ⊥) → Folded (joinPermit productSets) words before after sofar incoming r

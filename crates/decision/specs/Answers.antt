@@ -1,7 +1,7 @@
 -- What the functions over decisions and their obligations answer, before and after being the buffer's bytes at entry and at exit.
 use mathlib.Core.Path.{_≡_}
 use mathlib.Core.Bool.{true}
-use mathlib.Core.List.{List}
+use mathlib.Core.List.{List, []}
 use Prim.Native.Nat.{ℕ, _≤_, _<_}
 use lib.ListN.{take, drop}
 use Rattle.model.specs.Facts.{Table}
@@ -40,6 +40,10 @@ pub record Held (words : List ℕ) (d : Decision) (before after : List ℕ) (r :
   pub few : r ≤ 64
   pub front : Names words (d .held) → take r after ≡ obligationsIn words before d
   pub rest : drop 64 after ≡ drop 64 before
+
+-- A decision has no obligations, whatever its buffer holds.
+pub record Unobliged (words : List ℕ) (d : Decision) : Type 0 where
+  pub none : Names words (d .held) → (buf : List ℕ) → obligationsIn words buf d ≡ []
 
 -- Those of two decisions, the second one's buffer from 64 on, stand united at the front.
 pub record Both (words : List ℕ) (sofar incoming : Decision) (before after : List ℕ) (r : ℕ) : Type 0 where

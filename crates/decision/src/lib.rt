@@ -3,13 +3,14 @@
 use outcome::Products;
 use policy_model::PolicyHead;
 ghost use mathlib.Core.Path.{_≡_};
+ghost use mathlib.Core.Bool.{true};
 ghost use Prim.Native.Nat.{_≤_, _<_};
 ghost use lib.ListN.{length, take, drop, getD};
 ghost use Rattle.model.specs.Outcome.{productSets};
 ghost use Rattle.model.specs.Decision.{held, meetPermit, joinPermit};
 ghost use Rattle.decision.specs.Nodes.{obligationCountOf, obligationFields};
 ghost use Rattle.decision.specs.Meaning.{deniedAt, permittedAt};
-ghost use Rattle.decision.specs.Answers.{Listed, Loaded, Inserted, United, Held, Both, Kept, Folded};
+ghost use Rattle.decision.specs.Answers.{Listed, Loaded, Inserted, United, Held, Unobliged, Both, Kept, Folded};
 
 // What was decided. A position is that of a grant or of a stored decision, or the number of words for none.
 pub struct Decision {
@@ -192,6 +193,20 @@ pub fn obligations(words: &[u32], decision: Decision, buf: &mut [u8]) -> usize
     load_obligations(words, decision.held, buf)
 }
 
+// Whether a permit is known to have no obligations, so that there is nothing to unite.
+fn unobliged(words: &[u32], decision: Decision) -> bool
+    ensures { λ r. ⌜ (r ≡ true → Unobliged (now (words .entry)) decision) ⌝ }
+{
+    let at = decision.held;
+    if decision.count != 0 {
+        return false;
+    }
+    if words.len() <= at {
+        return true;
+    }
+    obligation_count(words[at]) == 0
+}
+
 // Unites the obligations of two permits at the front of the buffer, those of the permit so far first, and returns how many there are.
 fn unite(words: &[u32], sofar: Decision, incoming: Decision, buf: &mut [u8]) -> usize
     requires { ⌜ (sofar .count ≤ 64) × (incoming .count ≤ 64) × (128 ≤ length (now buf)) ⌝ }
@@ -249,8 +264,12 @@ pub fn join(words: &[u32], sofar: Decision, incoming: Decision, buf: &mut [u8]) 
     let none = words.len();
     if either.bits == sofar.outcome {
         if either.bits == incoming.outcome {
-            let united = unite(words, sofar, incoming, buf);
-            with_united(either.bits, sofar.clause, none, united)
+            if unobliged(words, incoming) {
+                sofar
+            } else {
+                let united = unite(words, sofar, incoming, buf);
+                with_united(either.bits, sofar.clause, none, united)
+            }
         } else {
             sofar
         }

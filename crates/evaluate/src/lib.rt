@@ -100,15 +100,7 @@ fn eval_grant(
     if none - at < before {
         return denied(none, at, count);
     }
-    let condition = condition::eval_condition(
-        words,
-        at + before,
-        depth,
-        facts,
-        entries,
-        seen,
-        count,
-    );
+    let condition = condition::eval_arm(words, at + before, depth, facts, entries, seen, count);
     let next = condition.next;
     let listed = condition.count;
     let satisfied = condition.satisfied;

@@ -3,7 +3,7 @@ use mathlib.Core.Path.{_≡_, _∙_, ap₂}
 use native.Mathlib.Omega.{arith}
 use borrow.Author.Needs.{needs}
 use Rattle.model.specs.Outcome.{productSets}
-use Rattle.decision.proofs.Folding.{join-first, join-second, join-both, join-neither}
+use Rattle.decision.proofs.Folding.{join-first, join-second, join-both, join-unobliged, join-neither}
 use Rattle.decision.proofs.join.Statement.{statement}
 use Rattle.decision.proofs.join.Tie as tie
 
@@ -19,6 +19,9 @@ products-requires-2 c κs = search needs
 
 join-requires : tie.Need-join-requires
 join-requires c κs = search needs
+
+unobliged-requires : tie.Need-unobliged-requires
+unobliged-requires c κs = search needs
 
 unite-requires : tie.Need-unite-requires
 unite-requires c κs = search needs
@@ -40,35 +43,41 @@ same-length c = search needs
 
 returns : tie.Need-returns
 returns c =
-    let united = c .before .before .before in
-    let second = united .before .before in
+    let second = c .before .before in
     let first = second .before .before .before in
-    join-both _ _ _ _ _ (outcome-is (first .before .before .before)) _ _ _ (c .with-united .ensures) (united .unite .ensures) (first .if1 .taken) (second .if2 .taken)
+    join-unobliged _ _ _ _ _ (outcome-is (first .before .before .before)) (omega (arith, first)) (first .if1 .taken) (second .if2 .taken) (c .before .unobliged .ensures (c .if3 .taken))
 
 returns-2 : tie.Need-returns-2
 returns-2 c =
+    let united = c .before .before .before in
+    let second = united .before .before .before .before in
+    let first = second .before .before .before in
+    join-both _ _ _ _ _ (outcome-is (first .before .before .before)) _ _ _ (c .with-united .ensures) (united .unite .ensures) (first .if1 .taken) (second .if2 .taken)
+
+returns-3 : tie.Need-returns-3
+returns-3 c =
     let first = c .before .before .before in
     join-first _ _ _ _ _ (outcome-is (first .before .before .before)) (omega (arith, first)) (first .if1 .taken) (c .if2 .left)
 
 same-length-2 : tie.Need-same-length-2
 same-length-2 c = search needs
 
-returns-3 : tie.Need-returns-3
-returns-3 c =
+returns-4 : tie.Need-returns-4
+returns-4 c =
     let kept = c .before .before in
     let second = kept .before .before in
     let first = second .before .before .before in
-    join-second _ _ _ _ _ (outcome-is (first .before .before .before)) _ _ (omega (arith, first)) (kept .keep .ensures) (first .if1 .left) (second .if3 .taken)
+    join-second _ _ _ _ _ (outcome-is (first .before .before .before)) _ _ (omega (arith, first)) (kept .keep .ensures) (first .if1 .left) (second .if4 .taken)
 
 same-length-3 : tie.Need-same-length-3
 same-length-3 c = search needs
 
-returns-4 : tie.Need-returns-4
-returns-4 c =
+returns-5 : tie.Need-returns-5
+returns-5 c =
     let united = c .before .before .before in
     let second = united .before .before in
     let first = second .before .before .before in
-    join-neither _ _ _ _ _ (outcome-is (first .before .before .before)) _ _ _ (c .with-united2 .ensures) (united .unite2 .ensures) (first .if1 .left) (second .if3 .left)
+    join-neither _ _ _ _ _ (outcome-is (first .before .before .before)) _ _ _ (c .with-united2 .ensures) (united .unite2 .ensures) (first .if1 .left) (second .if4 .left)
 
 pub join-spec : {M : Type 1} → statement M
 join-spec =
@@ -77,15 +86,17 @@ join-spec =
     products-requires
     products-requires-2
     join-requires
+    unobliged-requires
     unite-requires
     with-united-requires
     keep-requires
     unite-requires-2
     with-united-requires-2
-    same-length
     returns
+    same-length
     returns-2
-    same-length-2
     returns-3
+    same-length-2
+    returns-4
     same-length-3
-    returns-4)
+    returns-5)

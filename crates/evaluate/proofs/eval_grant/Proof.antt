@@ -26,11 +26,11 @@ returns c =
     (grant-by-word hidden n o
     (grant-short _ _ _ _ hidden _ _ (start .pre .0) (start .pre .1) _ _ buf (omega arith) (omega (arith, c .before .if1 .taken, found .before-condition-in .ensures))))
 
-add-eval-condition : tie.Need-add-eval-condition
-add-eval-condition c = search needs
+add-eval-arm : tie.Need-add-eval-arm
+add-eval-arm c = search needs
 
-eval-condition-requires : tie.Need-eval-condition-requires
-eval-condition-requires c κs = search needs
+eval-arm-requires : tie.Need-eval-arm-requires
+eval-arm-requires c κs = search needs
 
 outcome-in-requires : tie.Need-outcome-in-requires
 outcome-in-requires c κs = search needs
@@ -55,7 +55,7 @@ returns-2 c =
     let start = found .before .before .before .before .before in
     λ hidden n o buf. rw (c .permitted-by .ensures, outcome .outcome-in .ensures)
     (grant-by-word hidden n o
-    (grant-permits _ _ _ _ hidden _ _ (start .pre .0) (start .pre .1) _ _ _ buf (rw (found .before-condition-in .ensures) at (call .eval-condition .ensures)) (outcome .before .if2 .taken)))
+    (grant-permits _ _ _ _ hidden _ _ (start .pre .0) (start .pre .1) _ _ _ buf (rw (found .before-condition-in .ensures) at (call .eval-arm .ensures)) (outcome .before .if2 .taken)))
 
 denied-by-requires : tie.Need-denied-by-requires
 denied-by-requires c κs = search needs
@@ -73,7 +73,7 @@ returns-3 c =
     let start = found .before .before .before .before .before in
     λ hidden n o buf. rw (c .denied-by .ensures)
     (grant-by-word hidden n o
-    (grant-denies _ _ _ _ hidden _ _ (start .pre .0) (start .pre .1) _ _ _ buf (rw (found .before-condition-in .ensures) at (call .eval-condition .ensures)) (c .before .if2 .left)))
+    (grant-denies _ _ _ _ hidden _ _ (start .pre .0) (start .pre .1) _ _ _ buf (rw (found .before-condition-in .ensures) at (call .eval-arm .ensures)) (c .before .if2 .left)))
 
 pub eval-grant-spec : {M : Type 1} → statement M
 eval-grant-spec =
@@ -84,8 +84,8 @@ eval-grant-spec =
     sub-if1
     denied-requires
     returns
-    add-eval-condition
-    eval-condition-requires
+    add-eval-arm
+    eval-arm-requires
     outcome-in-requires
     cast-permitted-by
     permitted-by-requires

@@ -68,7 +68,7 @@ fn the_readme_shows_what_is_printed() {
     let (_, example) = README.split_once("\n    $ ").expect("an example");
     let (typed, rest) = example.split_once('\n').expect("a line");
     let printed = rest.lines().map_while(|line| line.strip_prefix("    "));
-    let printed: String = printed.map(|line| format!("{line}\n")).collect();
+    let printed: String = printed.flat_map(|line| [line, "\n"]).collect();
     let shown = shell(&typed.replace("./run", "vierskof"), &folder("readme"));
     assert_eq!(shown, printed);
 }

@@ -93,7 +93,7 @@ fn arms_of_word(word: u32) -> usize
     ensures arms { λ r. ⌜ r ≡ armsOfWord word ⌝ }
     ensures small { λ r. ⌜ r < 4096 ⌝ }
 {
-    match word / 268435456 {
+    match word / policy_model::KIND {
         3 => 1,
         4 => (word % 4096) as usize,
         5 => (word % 4096) as usize,
@@ -193,7 +193,7 @@ pub fn eval_arm(
         return answer(false, at, count);
     }
     let word = words[at];
-    if word / 1024 == 524288 {
+    if word / policy_model::FACTS == policy_model::HAS {
         return eval_has(word % 1024, at + 1, facts, entries, seen, count);
     }
     eval_condition(words, at, depth, facts, entries, seen, count)

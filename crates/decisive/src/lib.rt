@@ -56,10 +56,10 @@ fn negated(inner: Named) -> Named
 fn arms_of_word(word: u32) -> u32
     ensures { λ r. ⌜ r ≡ armsOfWord word ⌝ }
 {
-    match word / 268435456 {
+    match word / policy_model::KIND {
         3 => 1,
-        4 => word % 268435456,
-        5 => word % 268435456,
+        4 => word % policy_model::KIND,
+        5 => word % policy_model::KIND,
         _ => 0,
     }
 }
@@ -142,7 +142,7 @@ fn decisive_arm(words: &[u32], at: usize, depth: usize, facts: &[u8], out: &mut 
         return nothing(false, at);
     }
     let word = words[at];
-    if word / 1024 == 524288 {
+    if word / policy_model::FACTS == policy_model::HAS {
         return name_fact(word % 1024, at + 1, facts, out);
     }
     decisive_facts(words, at, depth, facts, out)

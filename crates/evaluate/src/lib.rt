@@ -239,7 +239,7 @@ fn eval_arm(
         return denied(none, at, count);
     }
     let word = words[at];
-    if word / 65536 == 24576 {
+    if word / policy_model::HALF == policy_model::PERMIT {
         return permitted((word % 65536) as u16, none, at + 1, count);
     }
     eval_policy(words, at, depth, facts, entries, seen, count, buf)

@@ -184,7 +184,7 @@ fn reduce_arm(
         return known(false, at, count);
     }
     let word = words[at];
-    if word / 1024 == 524288 {
+    if word / policy_model::FACTS == policy_model::HAS {
         return reduce_has(word % 1024, at + 1, facts, entries, seen, count, out);
     }
     reduce_condition(words, at, depth, facts, entries, seen, count, out)

@@ -15,6 +15,25 @@ ghost use Rattle.policy_model.specs.Lists.{seenOne, seenAll, entryFits, 
 ghost use Rattle.policy_model.specs.Answers.{checked, atEnd, refusal, sheetRefusal, bodyAt, wordsB, leadOf, recordLead, recordOf};
 ghost use Rattle.policy_model.specs.Span.{armsOf, ownOf, span, Skipped};
 
+// A word's kind stands above its other 28 bits.
+pub const KIND: u32 = 268435456;
+
+// Facts, 10 bits; counts of arms and facts, 12 bits; outcomes, entries, labels and reasons, half a word.
+pub const FACTS: u32 = 1024;
+
+pub const COUNTS: u32 = 4096;
+
+pub const HALF: u32 = 65536;
+
+// What stands above a Has's fact, a Permit's outcome, and an All's or an Any's count: the kind, and zero bits.
+pub const HAS: u32 = 524288;
+
+pub const PERMIT: u32 = 24576;
+
+const ALL: u32 = 589824;
+
+const ANY: u32 = 655360;
+
 // What the first word of a condition says.
 pub enum ConditionHead {
     Always,
@@ -60,12 +79,12 @@ pub enum PolicyHead {
 pub fn condition_head(word: u32) -> ConditionHead
     ensures { λ r. ⌜ r ≡ conditionHead word ⌝ }
 {
-    let rest = word % 268435456;
+    let rest = word % KIND;
     // a Has first, since most nodes are
-    if word / 1024 == 524288 {
+    if word / FACTS == HAS {
         return ConditionHead::Has(rest);
     }
-    match word / 268435456 {
+    match word / KIND {
         0 => if rest == 0 {
             ConditionHead::Always
         } else {
@@ -76,7 +95,7 @@ pub fn condition_head(word: u32) -> ConditionHead
         } else {
             ConditionHead::BadField
         },
-        2 => if rest < 1024 {
+        2 => if rest < FACTS {
             ConditionHead::Has(rest)
         } else {
             ConditionHead::BadField
@@ -86,12 +105,12 @@ pub fn condition_head(word: u32) -> ConditionHead
         } else {
             ConditionHead::BadField
         },
-        4 => if rest < 4096 {
+        4 => if rest < COUNTS {
             ConditionHead::All(rest)
         } else {
             ConditionHead::BadField
         },
-        5 => if rest < 4096 {
+        5 => if rest < COUNTS {
             ConditionHead::Any(rest)
         } else {
             ConditionHead::BadField
@@ -104,8 +123,8 @@ pub fn condition_head(word: u32) -> ConditionHead
 fn permit_head(rest: u32) -> PolicyHead
     ensures { λ r. ⌜ r ≡ permitHead rest ⌝ }
 {
-    if rest / 65536 == 0 {
-        PolicyHead::Permit((rest % 65536) as u16)
+    if rest / HALF == 0 {
+        PolicyHead::Permit((rest % HALF) as u16)
     } else {
         PolicyHead::BadField
     }
@@ -118,13 +137,13 @@ fn grant_head(rest: u32) -> PolicyHead
     if rest / 1048576 % 128 > 64 {
         return PolicyHead::BadField;
     }
-    if rest / 65536 % 16 != 0 {
+    if rest / HALF % 16 != 0 {
         return PolicyHead::BadField;
     }
     PolicyHead::Grant {
         hidden: rest / 134217728 == 1,
         obligations: rest / 1048576 % 128,
-        outcome: (rest % 65536) as u16,
+        outcome: (rest % HALF) as u16,
     }
 }
 
@@ -138,12 +157,12 @@ fn permit_trace_head(rest: u32) -> PolicyHead
     if rest / 1048576 % 128 > 64 {
         return PolicyHead::BadField;
     }
-    if rest / 65536 % 16 != 0 {
+    if rest / HALF % 16 != 0 {
         return PolicyHead::BadField;
     }
     PolicyHead::PermitWithTrace {
         obligations: rest / 1048576 % 128,
-        outcome: (rest % 65536) as u16,
+        outcome: (rest % HALF) as u16,
     }
 }
 
@@ -152,8 +171,8 @@ fn deny_trace_head(rest: u32) -> PolicyHead
     ensures { λ r. ⌜ r ≡ denyTraceHead rest ⌝ }
 {
     let hidden = rest / 134217728 == 1;
-    let outcome = (rest % 65536) as u16;
-    if rest / 65536 % 1024 != 0 {
+    let outcome = (rest % HALF) as u16;
+    if rest / HALF % 1024 != 0 {
         return PolicyHead::BadField;
     }
     if rest / 67108864 % 2 == 1 {
@@ -178,8 +197,8 @@ fn deny_trace_head(rest: u32) -> PolicyHead
 fn head_by_kind(word: u32, residual: bool) -> PolicyHead
     ensures { λ r. ⌜ r ≡ policyHead word residual ⌝ }
 {
-    let rest = word % 268435456;
-    match word / 268435456 {
+    let rest = word % KIND;
+    match word / KIND {
         6 => permit_head(rest),
         7 => if rest == 0 {
             PolicyHead::Deny
@@ -187,12 +206,12 @@ fn head_by_kind(word: u32, residual: bool) -> PolicyHead
             PolicyHead::BadField
         },
         8 => grant_head(rest),
-        9 => if rest < 4096 {
+        9 => if rest < COUNTS {
             PolicyHead::All(rest)
         } else {
             PolicyHead::BadField
         },
-        10 => if rest < 4096 {
+        10 => if rest < COUNTS {
             PolicyHead::Any(rest)
         } else {
             PolicyHead::BadField
@@ -220,17 +239,17 @@ fn head_by_kind(word: u32, residual: bool) -> PolicyHead
 pub fn policy_head(word: u32, residual: bool) -> PolicyHead
     ensures { λ r. ⌜ r ≡ policyHead word residual ⌝ }
 {
-    if word / 65536 == 24576 {
-        return PolicyHead::Permit((word % 65536) as u16);
+    if word / HALF == PERMIT {
+        return PolicyHead::Permit((word % HALF) as u16);
     }
-    if word / 268435456 == 8 {
-        return grant_head(word % 268435456);
+    if word / KIND == 8 {
+        return grant_head(word % KIND);
     }
-    if word / 4096 == 589824 {
-        return PolicyHead::All(word % 4096);
+    if word / COUNTS == ALL {
+        return PolicyHead::All(word % COUNTS);
     }
-    if word / 4096 == 655360 {
-        return PolicyHead::Any(word % 4096);
+    if word / COUNTS == ANY {
+        return PolicyHead::Any(word % COUNTS);
     }
     head_by_kind(word, residual)
 }
@@ -280,8 +299,8 @@ fn with_word(seen: Obligations, word: u32) -> Obligations
     ensures { λ r. ⌜ r ≡ seenAll seen (split obligationBits 4 word) ⌝ }
 {
     let first = with_field(seen, word / 16777216);
-    let second = with_field(first, word % 16777216 / 65536);
-    let third = with_field(second, word % 65536 / 256);
+    let second = with_field(first, word % 16777216 / HALF);
+    let third = with_field(second, word % HALF / 256);
     with_field(third, word % 256)
 }
 
@@ -316,7 +335,7 @@ fn entry_fits(field: u32, presences: u32) -> bool
     ensures { λ r. ⌜ r ≡ entryFits presences field ⌝ }
 {
     if field / 16384 < presences {
-        field % 16384 < 1024
+        field % 16384 < FACTS
     } else {
         false
     }
@@ -326,13 +345,13 @@ fn entry_fits(field: u32, presences: u32) -> bool
 fn pair_fits(word: u32, left: u32, presences: u32) -> bool
     ensures { λ r. ⌜ r ≡ pairFits presences left word ⌝ }
 {
-    if !entry_fits(word / 65536, presences) {
+    if !entry_fits(word / HALF, presences) {
         return false;
     }
     if left == 1 {
-        word % 65536 == 0
+        word % HALF == 0
     } else {
-        entry_fits(word % 65536, presences)
+        entry_fits(word % HALF, presences)
     }
 }
 
@@ -386,8 +405,8 @@ fn mark_fits(half: u32) -> bool
 fn marks_fit(word: u32) -> bool
     ensures { λ r. ⌜ r ≡ marksFit word ⌝ }
 {
-    if mark_fits(word / 65536) {
-        mark_fits(word % 65536)
+    if mark_fits(word / HALF) {
+        mark_fits(word % HALF)
     } else {
         false
     }
@@ -442,7 +461,7 @@ fn check_arm(words: &[u32], at: usize, depth: usize) -> Checked
     if words.len() <= at {
         return Checked::Refused(6);
     }
-    if words[at] / 1024 == 524288 {
+    if words[at] / FACTS == HAS {
         return Checked::Next(at + 1);
     }
     check_condition(words, at, depth)
@@ -493,11 +512,11 @@ fn check_permit_with_trace(words: &[u32], at: usize, obligations: u32) -> Checke
     if words.len() <= second {
         return Checked::Refused(6);
     }
-    if !mark_fits(words[second] / 65536) {
+    if !mark_fits(words[second] / HALF) {
         return Checked::Refused(8);
     }
-    let facts = words[second] % 65536;
-    if facts >= 4096 {
+    let facts = words[second] % HALF;
+    if facts >= COUNTS {
         return Checked::Refused(8);
     }
     match check_obligations(words, second + 1, obligations) {
@@ -523,7 +542,7 @@ fn check_deny_with_trace(words: &[u32], at: usize) -> Checked
         return Checked::Refused(6);
     }
     let facts = words[third];
-    if facts >= 4096 {
+    if facts >= COUNTS {
         return Checked::Refused(8);
     }
     check_facts(words, third + 1, facts)
@@ -604,7 +623,7 @@ fn check_policy_arm(words: &[u32], at: usize, depth: usize, residual: bool) -> C
     if words.len() <= at {
         return Checked::Refused(6);
     }
-    if words[at] / 65536 == 24576 {
+    if words[at] / HALF == PERMIT {
         return Checked::Next(at + 1);
     }
     check_policy(words, at, depth, residual)
@@ -678,7 +697,7 @@ fn check_resolved(words: &[u32], at: usize) -> Checked
     if words.len() <= at {
         return Checked::Refused(6);
     }
-    if words[at] / 268435456 < 12 {
+    if words[at] / KIND < 12 {
         return Checked::Refused(5);
     }
     check_policy(words, at, 1, true)
@@ -727,12 +746,12 @@ pub fn check_record(words: &[u32]) -> RecordCheck
     if words.len() > 16384 {
         return RecordCheck::Refused(1);
     }
-    let kind = words[0] / 268435456;
+    let kind = words[0] / KIND;
     if kind < 14 {
         return RecordCheck::Refused(5);
     }
-    let count = words[0] % 268435456;
-    if count >= 4096 {
+    let count = words[0] % KIND;
+    if count >= COUNTS {
         return RecordCheck::Refused(8);
     }
     match check_entries(words, 1, count) {
@@ -751,13 +770,13 @@ fn arms_of(word: u32) -> u32
     ensures arms { λ r. ⌜ r ≡ armsOf word ⌝ }
     ensures few { λ r. ⌜ r ≤ 4095 ⌝ }
 {
-    match word / 268435456 {
+    match word / KIND {
         3 => 1,
-        4 => word % 4096,
-        5 => word % 4096,
+        4 => word % COUNTS,
+        5 => word % COUNTS,
         8 => 1,
-        9 => word % 4096,
-        10 => word % 4096,
+        9 => word % COUNTS,
+        10 => word % COUNTS,
         11 => 2,
         _ => 0,
     }
@@ -771,7 +790,7 @@ fn facts_at(words: &[u32], at: usize) -> usize
     if words.len() <= at {
         return 0;
     }
-    ((words[at] % 4096 + 1) / 2) as usize
+    ((words[at] % COUNTS + 1) / 2) as usize
 }
 
 // The words of the node at `at` itself after its first one.
@@ -781,7 +800,7 @@ fn own_of(words: &[u32], at: usize) -> usize
     ensures few { λ r. ⌜ r ≤ 4096 ⌝ }
 {
     let word = words[at];
-    match word / 268435456 {
+    match word / KIND {
         8 => (word / 1048576 % 128 + 3) as usize / 4 + 1,
         12 => (word / 1048576 % 128 + 3) as usize / 4 + facts_at(words, at + 1) + 1,
         13 => facts_at(words, at + 2) + 2,

@@ -50,7 +50,7 @@ fn top_kind(words: &[u32], at: usize) -> u32
     requires { ⌜ SomeTree (now words) at ⌝ }
     ensures { λ r. ⌜ ((t : Policy ℕ) → Stands (now (words .entry)) at t → r ≡ kindAt t) ⌝ }
 {
-    words[at] / 268435456
+    words[at] / policy_model::KIND
 }
 
 // Whether the record's tree is a permit: its top node is 6 or 12.
@@ -80,14 +80,14 @@ fn obligation_at(word: u32) -> bool
     if word / 1048576 % 128 == 0 {
         return false;
     }
-    either(word / 268435456, 8, 12)
+    either(word / policy_model::KIND, 8, 12)
 }
 
 // How many policies are the arms of a policy with this first word.
 fn arms_at(word: u32) -> u32
     ensures { λ r. ⌜ r ≡ armsAt word ⌝ }
 {
-    let kind = word / 268435456;
+    let kind = word / policy_model::KIND;
     if either(kind, 9, 10) {
         return word % 4096;
     }

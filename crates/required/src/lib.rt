@@ -54,7 +54,7 @@ fn collect_has_facts(words: &[u32], at: usize, count: u32, set: &mut [u64]) -> P
             return Passed { next, left };
         }
         let word = words[next];
-        if word / 1024 != 524288 {
+        if word / policy_model::FACTS != policy_model::HAS {
             return Passed { next, left };
         }
         fact_set::insert(set, word % 1024);
@@ -76,7 +76,7 @@ fn collect_condition_facts(words: &[u32], at: usize, depth: usize, set: &mut [u6
     }
     let word = words[at];
     // a Has first, since most nodes are
-    if word / 1024 == 524288 {
+    if word / policy_model::FACTS == policy_model::HAS {
         fact_set::insert(set, word % 1024);
         return at + 1;
     }
@@ -103,7 +103,7 @@ fn collect_grant_facts(words: &[u32], at: usize, depth: usize, set: &mut [u64]) 
         return at;
     }
     let word = words[at];
-    if word / 1024 == 524288 {
+    if word / policy_model::FACTS == policy_model::HAS {
         fact_set::insert(set, word % 1024);
         return at + 1;
     }
@@ -142,7 +142,7 @@ fn stored_end(words: &[u32], at: usize) -> usize
     ensures { λ r. ⌜ ((pc : List ℕ → Parsed Condition) (s : List ℕ) → OwnFacts pc (policyHead (getD (now (words .entry)) at 0) true) (drop (at + 1) (now (words .entry))) at s s r) ⌝ }
 {
     let word = words[at];
-    if word / 268435456 == 12 {
+    if word / policy_model::KIND == 12 {
         return permit_trace_end(words, at, word / 1048576 % 128);
     }
     deny_trace_end(words, at)
@@ -154,7 +154,7 @@ fn collect_own_facts(words: &[u32], at: usize, set: &mut [u64]) -> usize
     ensures { λ r. ⌜ OwnFacts (λ ws. readCondition 31 ws) (policyHead (getD (now (words .entry)) at 0) true) (drop (at + 1) (now (words .entry))) at (now (set .entry)) (now (set .exit)) r ⌝ }
 {
     let word = words[at];
-    let kind = word / 268435456;
+    let kind = word / policy_model::KIND;
     if kind == 8 {
         return collect_grant_facts(
             words,

@@ -11,3 +11,4 @@ pub mod Canon
 pub mod Products
 pub mod Folds
 pub mod Deeper
+pub mod Numbers

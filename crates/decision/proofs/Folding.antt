@@ -13,11 +13,11 @@ use Rattle.model.specs.Decision.{Permit, Denial, permits, combined, unionObliga
 use Rattle.laws.specs.Form.{FormO}
 use Rattle.decision.specs.declared.Decision.{Decision}
 use Rattle.decision.specs.Nodes.{clauseAt}
-use Rattle.decision.specs.Meaning.{permittedAt, obligationsIn, permitOf, decisionOf, Names, past, Sound}
+use Rattle.decision.specs.Meaning.{permittedAt, obligationsIn, permitOf, Names, past, Sound}
 use Rattle.decision.specs.Answers.{Unobliged, Both, Kept, Folded}
 use Rattle.decision.proofs.Lists.{form-union}
 use Rattle.decision.proofs.Nodes.{no-clause}
-use Rattle.decision.proofs.Standing.{as-permit, permit-is, permitted-is, sound-permitted}
+use Rattle.decision.proofs.Standing.{permitted-is, sound-permitted}
 use Rattle.decision.proofs.Buffers.{same-permit, same-sound, united-are}
 
 -- ---- a fold that keeps one of the two, or makes a permit with nothing but its outcome
@@ -170,11 +170,3 @@ module _ (words before : List ℕ) (sofar incoming : Decision) (o : ℕ) (is : o
             ∙ sym (joins T false false (ne-eqb o (sofar .outcome) m) (ne-eqb o (incoming .outcome) k));
       } in
       subst (Folded (joinPermit productSets) words before after sofar incoming) (sym e) it
-
--- ---- the fold of two decisions that are permits, for whoever calls it
-pub folded-decision : (fold : Permit ℕ → Permit ℕ → Permit ℕ) (words before after : List ℕ) (sofar incoming r : Decision) (T : Table) (p q : Permit ℕ) →
-    Folded fold words before after sofar incoming r → sofar .permit ≡ true → incoming .permit ≡ true → Sound words before sofar → Sound words (drop 64 before) incoming →
-    decisionOf words T before sofar ≡ permits p → decisionOf words T (drop 64 before) incoming ≡ permits q → decisionOf words T after r ≡ permits (fold p q)
-folded-decision fold words before after sofar incoming r T p q f a b s t e g =
-    as-permit words T after r (f .permit a b)
-    ∙ ap permits (f .folded s t T ∙ ap₂ fold (permit-is words T before sofar p a e) (permit-is words T (drop 64 before) incoming q b g))

@@ -240,7 +240,7 @@ fn eval_arm(
     }
     let word = words[at];
     if word / policy_model::HALF == policy_model::PERMIT {
-        return permitted((word % 65536) as u16, none, at + 1, count);
+        return permitted((word % policy_model::HALF) as u16, none, at + 1, count);
     }
     eval_policy(words, at, depth, facts, entries, seen, count, buf)
 }

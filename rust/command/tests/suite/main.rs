@@ -11,7 +11,7 @@ mod statuses;
 use std::fs;
 use std::io::Write;
 use std::path::PathBuf;
-use std::process::{Command, Output, Stdio};
+use std::process::{Child, Command, Output, Stdio};
 
 use command::text::assemble;
 
@@ -41,14 +41,19 @@ fn command(arguments: &str) -> Command {
     command
 }
 
-/// Runs the command with these bytes on standard input.
-fn run(arguments: &str, input: &[u8]) -> Output {
-    let mut child = command(arguments)
+/// The command with these arguments, running with a pipe at each end.
+fn piped(arguments: &str) -> Child {
+    command(arguments)
         .stdin(Stdio::piped())
         .stdout(Stdio::piped())
         .stderr(Stdio::piped())
         .spawn()
-        .expect("the command runs");
+        .expect("the command runs")
+}
+
+/// Runs the command with these bytes on standard input.
+fn run(arguments: &str, input: &[u8]) -> Output {
+    let mut child = piped(arguments);
     let mut stdin = child.stdin.take().expect("a pipe");
     // A command that stops early, for a usage fault say, leaves the rest unread.
     let _ = stdin.write_all(input);

@@ -4,7 +4,7 @@ use std::fs::{self, File};
 use std::io::Write;
 use std::process::Stdio;
 
-use super::{accepted, answer, command, failure, folder, run};
+use super::{accepted, answer, command, failure, folder, piped, run};
 
 const SHEET: &str = "grant 0003 hidden\n  has 5\n";
 
@@ -145,12 +145,7 @@ fn a_closed_pipe_is_no_fault() {
     let record = long_record();
     assert!(accepted("show", &record).len() > 1 << 17);
     for arguments in ["show", "show --to binary", "--help"] {
-        let mut child = command(arguments)
-            .stdin(Stdio::piped())
-            .stdout(Stdio::piped())
-            .stderr(Stdio::piped())
-            .spawn()
-            .expect("the command runs");
+        let mut child = piped(arguments);
         drop(child.stdout.take());
         let mut stdin = child.stdin.take().expect("a pipe");
         // The help reads nothing.

@@ -72,7 +72,7 @@ pub fn clause_facts(words: &[u32], at: usize, facts: &[u8], out: &mut [u16]) -> 
             outcome: _,
         } => {
             let start = at + 2 + (obligations as usize + 3) / 4;
-            let named = decisive::decisive_facts(words, start, CONDITION_LEVELS, facts, out);
+            let named = decisive::decisive_arm(words, start, CONDITION_LEVELS, facts, out);
             named.count
         }
         PolicyHead::PermitWithTrace {

@@ -33,8 +33,8 @@ add-start-2 c = search needs
 add-start-3 : tie.Need-add-start-3
 add-start-3 c = search needs
 
-decisive-facts-requires : tie.Need-decisive-facts-requires
-decisive-facts-requires c κs = search needs
+decisive-arm-requires : tie.Need-decisive-arm-requires
+decisive-arm-requires c κs = search needs
 
 enum-known-obligations-2 : tie.Need-enum-known-obligations-2
 enum-known-obligations-2 c = search needs
@@ -87,7 +87,7 @@ same-length c = search needs
 returns-2 : tie.Need-returns-2
 returns-2 c =
     let head = c .before .before .before .before .before .before .before in
-    facts-grant _ _ _ _ _ _ _ _ _ (head .before .before .if1 .left) (sym (c .before .before .before .before .before .obligations .given .1) ∙ head .policy-head .ensures) refl (c .before .before .decisive-facts .ensures)
+    facts-grant _ _ _ _ _ _ _ _ _ (head .before .before .if1 .left) (sym (c .before .before .before .before .before .obligations .given .1) ∙ head .policy-head .ensures) refl (c .before .before .decisive-arm .ensures)
 
 same-length-2 : tie.Need-same-length-2
 same-length-2 c = search needs
@@ -123,7 +123,7 @@ clause-facts-spec =
     cast-start
     add-start-2
     add-start-3
-    decisive-facts-requires
+    decisive-arm-requires
     enum-known-obligations-2
     add-start-4
     cast-start-2

@@ -97,13 +97,7 @@ fn slide(out: &mut [u16], from: usize, count: usize)
 
 // The decisive facts of the condition at `at`, with `depth` levels left: they stand first in `out`, and what stands after them is spent.
 // A condition names no more facts than it has words, so room for the words that are left is enough.
-fn decisive_facts(
-    words: &[u32],
-    at: usize,
-    depth: usize,
-    facts: &[u8],
-    out: &mut [u16],
-) -> Named
+fn decisive_facts(words: &[u32], at: usize, depth: usize, facts: &[u8], out: &mut [u16]) -> Named
     requires { ⌜ length (now words) ≤ at + length (now out) ⌝ }
     ensures { λ r. ⌜ Decisive (tableOf (now (facts .entry))) at (readCondition depth (drop at (now (words .entry)))) (now (out .exit)) r ⌝ }
 {
@@ -134,13 +128,7 @@ fn decisive_facts(
 }
 
 // The same of an arm, or of a grant's condition. Most are a Has, which is seen here, so that whoever asks has it with no call of the cycle.
-pub fn decisive_arm(
-    words: &[u32],
-    at: usize,
-    depth: usize,
-    facts: &[u8],
-    out: &mut [u16],
-) -> Named
+pub fn decisive_arm(words: &[u32], at: usize, depth: usize, facts: &[u8], out: &mut [u16]) -> Named
     requires { ⌜ length (now words) ≤ at + length (now out) ⌝ }
     ensures { λ r. ⌜ Decisive (tableOf (now (facts .entry))) at (readCondition depth (drop at (now (words .entry)))) (now (out .exit)) r ⌝ }
 {

@@ -92,7 +92,7 @@ fn writes(
     table: &[u8],
     original: impl FnMut(),
 ) -> Timed {
-    same_answers(call, words, table);
+    let case = same_answers(call, words, table);
     let mut out = vec![0; RECORD_WORDS];
     by_turns(
         || {
@@ -100,12 +100,13 @@ fn writes(
             black_box(written).expect("accepted");
         },
         original,
+        || from_words(&case),
     )
 }
 
 fn required_facts(sheet: &Sheet) -> Timed {
     let words = &sheet.words;
-    same_answers(Call::RequiredFacts, words, &[]);
+    let case = same_answers(Call::RequiredFacts, words, &[]);
     let policy = to_policy(&read::sheet(words).expect("a sheet"));
     by_turns(
         || {
@@ -115,13 +116,14 @@ fn required_facts(sheet: &Sheet) -> Timed {
         || {
             black_box(gatekeep::required_facts(black_box(&policy)));
         },
+        || from_words(&case),
     )
 }
 
 /// Of the record whose tree is the sheet.
 fn required_residual_facts(sheet: &Sheet) -> Timed {
     let words = record(sheet);
-    same_answers(Call::RequiredResidualFacts, &words, &[]);
+    let case = same_answers(Call::RequiredResidualFacts, &words, &[]);
     let Ok(Record::Pending { residual, .. }) = read::record(&words) else {
         unreachable!("a record with a tree");
     };
@@ -134,11 +136,17 @@ fn required_residual_facts(sheet: &Sheet) -> Timed {
         || {
             black_box(gatekeep::required_residual_facts(black_box(&policy)));
         },
+        || from_words(&case),
     )
 }
 
+/// The original, with the words and the table read into its types and its answer written as words.
+fn from_words(case: &Case) {
+    black_box(black_box(case).answer()).expect("accepted");
+}
+
 /// What is timed is the same work: both sides give the same answer.
-fn same_answers(call: Call, words: &[u32], table: &[u8]) {
+fn same_answers(call: Call, words: &[u32], table: &[u8]) -> Case {
     let case = Case {
         call,
         table: table.to_vec(),
@@ -146,4 +154,5 @@ fn same_answers(call: Call, words: &[u32], table: &[u8]) {
         room: RECORD_WORDS,
     };
     assert!(agrees(&case), "{} differs from the original", call.name());
+    case
 }

@@ -1,8 +1,10 @@
 //! The time of each proved call beside the original's, in one run.
 //!
-//! A proved call reads and checks words and bytes and writes words. The original's policy and facts
-//! are made beforehand, and its answer is dropped and not brought to words: its time is that of its
-//! function alone. `1,365 by 256` is an Any of 1,365 grants on fact 0 with a table of 256 bytes.
+//! A proved call reads and checks words and bytes and writes words. The original stands beside it
+//! twice. `original` is its function alone: its policy and facts are made beforehand, and its answer
+//! is dropped. `from words` is the original for the same job, with the comparison's reader before it
+//! and the comparison's writer after it. `1,365 by 256` is an Any of 1,365 grants on fact 0 with a
+//! table of 256 bytes.
 
 mod calls;
 mod sheets;
@@ -13,10 +15,10 @@ use sheets::Sheet;
 use timing::Timed;
 
 fn main() {
-    println!("nanoseconds a call, medians; ratio: proved to original\n");
+    println!("nanoseconds a call, medians; ratio: proved to the column before it\n");
     println!(
-        "{:24} {:>14} {:>6} {:>10} {:>10} {:>7}",
-        "call", "sheet", "words", "proved", "original", "ratio"
+        "{:24} {:>14} {:>6} {:>10} {:>10} {:>7} {:>11} {:>7}",
+        "call", "sheet", "words", "proved", "original", "ratio", "from words", "ratio"
     );
     for (name, call) in CALLS {
         for sheet in sheets::cases() {
@@ -28,12 +30,18 @@ fn main() {
     growth("levels", &sheets::depths());
 }
 
-fn row(call: &str, sheet: &Sheet, Timed { proved, original }: &Timed) {
+fn row(call: &str, sheet: &Sheet, timed: &Timed) {
+    let Timed {
+        proved,
+        original,
+        from_words,
+    } = timed;
     println!(
-        "{call:24} {:>14} {:>6} {proved:>10.0} {original:>10.0} {:>7.2}",
+        "{call:24} {:>14} {:>6} {proved:>10.0} {original:>10.0} {:>7.3} {from_words:>11.0} {:>7.3}",
         sheet.name,
         sheet.words.len(),
         proved / original,
+        proved / from_words,
     );
 }
 

@@ -1,4 +1,4 @@
-//! Medians of batches, the two sides by turns, so that what slows the machine slows both.
+//! Medians of batches, the sides by turns, so that what slows the machine slows all of them.
 
 use std::time::{Duration, Instant};
 
@@ -8,24 +8,38 @@ const WARM_UP: Duration = Duration::from_millis(20);
 
 /// Nanoseconds a call.
 pub struct Timed {
+    /// The proved call: words and bytes to words.
     pub proved: f64,
+    /// The original's function alone, on its own types.
     pub original: f64,
+    /// The original for the same job: words and bytes to words.
+    pub from_words: f64,
 }
 
-/// Times both sides.
-pub fn by_turns(mut proved: impl FnMut(), mut original: impl FnMut()) -> Timed {
-    let (proved_calls, original_calls) = (calls(&mut proved), calls(&mut original));
-    let mut times: [Vec<f64>; 2] = [Vec::new(), Vec::new()];
+/// Times each side.
+pub fn by_turns(
+    mut proved: impl FnMut(),
+    mut original: impl FnMut(),
+    mut from_words: impl FnMut(),
+) -> Timed {
+    let mut sides: [&mut dyn FnMut(); 3] = [&mut proved, &mut original, &mut from_words];
+    let calls = sides.each_mut().map(|side| calls(*side));
+    let mut times: [Vec<f64>; 3] = Default::default();
     for _ in 0..BATCHES {
-        times[0].push(batch(&mut proved, proved_calls));
-        times[1].push(batch(&mut original, original_calls));
+        for ((side, calls), times) in sides.iter_mut().zip(calls).zip(&mut times) {
+            times.push(batch(*side, calls));
+        }
     }
-    let [proved, original] = times.map(median);
-    Timed { proved, original }
+    let [proved, original, from_words] = times.map(median);
+    Timed {
+        proved,
+        original,
+        from_words,
+    }
 }
 
 /// Warms up, and says how many calls fill a batch.
-fn calls(call: &mut impl FnMut()) -> u32 {
+fn calls(call: &mut dyn FnMut()) -> u32 {
     let start = Instant::now();
     let mut done: u32 = 0;
     while start.elapsed() < WARM_UP || done == 0 {
@@ -36,7 +50,7 @@ fn calls(call: &mut impl FnMut()) -> u32 {
     u32::try_from(calls).map_or(done, |calls| calls.max(1))
 }
 
-fn batch(call: &mut impl FnMut(), calls: u32) -> f64 {
+fn batch(call: &mut dyn FnMut(), calls: u32) -> f64 {
     let start = Instant::now();
     for _ in 0..calls {
         call();

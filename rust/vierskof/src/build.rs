@@ -107,6 +107,7 @@ pub struct Grant<'t> {
 /// assert_eq!(out, [1, 2]);
 /// ```
 #[derive(Clone, Copy, Debug, PartialEq, Eq, Hash)]
+#[non_exhaustive]
 pub enum Unwritable {
     /// A node stands on a 33rd level.
     Levels,

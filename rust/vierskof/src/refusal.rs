@@ -21,6 +21,7 @@ use crate::OutOfRange;
 /// assert_eq!(Refusal::try_from(10), Ok(refusal));
 /// ```
 #[derive(Clone, Copy, Debug, PartialEq, Eq, PartialOrd, Ord, Hash)]
+#[non_exhaustive]
 #[repr(u32)]
 pub enum Refusal {
     /// A sheet is 1 to 4,096 words long, a record 1 to 16,384.
@@ -49,7 +50,7 @@ pub enum Refusal {
 
 impl Refusal {
     /// Every refusal, in the order of their numbers.
-    pub const ALL: [Self; 11] = [
+    pub const ALL: &[Self] = &[
         Self::Length,
         Self::TableLength,
         Self::TableField,
@@ -104,9 +105,8 @@ impl TryFrom<u32> for Refusal {
     type Error = OutOfRange;
 
     fn try_from(number: u32) -> Result<Self, OutOfRange> {
-        Self::ALL
-            .into_iter()
-            .find(|refusal| refusal.number() == number)
+        let mut all = Self::ALL.iter().copied();
+        all.find(|refusal| refusal.number() == number)
             .ok_or(OutOfRange::new("a refusal is a number from 1 to 11"))
     }
 }

@@ -103,7 +103,7 @@ fn room_is_11() {
 
 #[test]
 fn numbers_and_refusals_belong_together() {
-    for (number, refusal) in (1..).zip(Refusal::ALL) {
+    for (number, &refusal) in (1..).zip(Refusal::ALL) {
         assert_eq!(refusal.number(), number);
         assert_eq!(u32::from(refusal), number);
         assert_eq!(Refusal::try_from(number), Ok(refusal));

@@ -4,7 +4,7 @@ use denote.Ref.{now}
 use Rattle.policy_model.specs.declared.ConditionHead.the-variants.{Has}
 use Rattle.policy_model.specs.Answers.{checked}
 use Rattle.policy_model.specs.Heads.{conditionNode}
-use Rattle.policy_model.proofs.Words.{has-word}
+use Rattle.policy_model.specs.HeadLaws.{has-word}
 use Rattle.policy_model.proofs.Conditions.{by-head}
 use Rattle.policy_model.proofs.check_arm.Statement.{statement}
 use Rattle.policy_model.proofs.check_arm.Tie as tie

@@ -81,20 +81,6 @@ module _ {A B : Type 0} (sizeA : A → ℕ) (sizeB : B → ℕ) (nil : B) (cons 
   many-first count at f =
       first-then at (p (drop at words)) (many nil cons p (count - 1)) (leaves (drop at words)) ∙ ap (checked sizeB at) (sym (more-than-none count (drop at words) f))
 
-  pub many-more : (count at after : ℕ) → (count ≡ 0 → ⊥) → Next after ≡ checked sizeA at (p (drop at words)) →
-      checked sizeB after (many nil cons p (count - 1) (drop after words)) ≡ checked sizeB at (many nil cons p count (drop at words))
-  many-more count at after f e =
-      let rest = many nil cons p (count - 1) in
-      go-on sizeA sizeB words at at after (p (drop at words)) (λ a vs. next (rest vs) (λ b ts. got (cons a b) ts)) (checked sizeB after (rest (drop after words)))
-      (leaves (drop at words)) e
-      (λ a ends. end-with sizeB sizeB after at (cons a) (rest (drop after words)) (λ b. omega (arith, size-cons a b)))
-      ∙ ap (checked sizeB at) (sym (more-than-none count (drop at words) f))
-
-  pub many-refused : (count at n : ℕ) → (count ≡ 0 → ⊥) → Refused n ≡ checked sizeA at (p (drop at words)) → Refused n ≡ checked sizeB at (many nil cons p count (drop at words))
-  many-refused count at n f e =
-      give-up sizeA sizeB words at at n (p (drop at words)) (λ a vs. next (many nil cons p (count - 1) vs) (λ b ts. got (cons a b) ts)) e
-      ∙ ap (checked sizeB at) (sym (more-than-none count (drop at words) f))
-
   pub many-none : (count at : ℕ) → count ≡ 0 → Next at ≡ checked sizeB at (many nil cons p count (drop at words))
   unfolding checked
   many-none count at e = rw e (ap Next (omega (arith, size-nil)))

@@ -36,6 +36,11 @@ Stepped ws at depth asked arms (Leaf after) = (Next after ≡ asked) × (at < le
 Stepped ws at depth asked arms (Arms n) = (arms n ≡ asked) × (at < length ws) × (0 < depth)
 Stepped ws at depth asked arms (step.Refused n) = Refused n ≡ asked
 
+-- The check of a whole node, as a step.
+abbrev pub stepOf : Checked → Step
+stepOf (Next n) = Leaf n
+stepOf (Refused n) = step.Refused n
+
 -- Words after what was checked: 10.
 unfoldable pub atEnd : ℕ → Checked → Checked
 atEnd length (Refused n) = Refused n

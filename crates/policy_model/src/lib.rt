@@ -13,7 +13,7 @@ ghost use Rattle.laws.specs.Size.{quads, pairs, wordsC, wordsCs, wordsD, words 
 ghost use Rattle.policy_model.specs.Heads.{conditionHead, deepCondition, permitHead, grantHead, permitTraceHead, denyTraceHead, policyHead, deepPolicy, grantNode, permitTraceNode, denyTraceNode};
 ghost use Rattle.policy_model.specs.Plain.{plainGrant};
 ghost use Rattle.policy_model.specs.Lists.{seenOne, seenAll, entryFits, pairFits, markFits, marksFit, checkedPairs};
-ghost use Rattle.policy_model.specs.Answers.{checked, Stepped, atEnd, refusal, sheetRefusal, bodyAt, wordsB, leadOf, recordLead, recordOf};
+ghost use Rattle.policy_model.specs.Answers.{checked, Stepped, stepOf, atEnd, refusal, sheetRefusal, bodyAt, wordsB, leadOf, recordLead, recordOf};
 ghost use Rattle.policy_model.specs.Span.{armsOf, ownOf, span, Skipped};
 
 // A word's kind stands above its other 28 bits.
@@ -498,20 +498,20 @@ fn check_condition(words: &[u32], at: usize, depth: usize) -> Checked
             }
             level -= 1;
             left = above[level];
-        } else {
-            match condition_step(words, next, depth - level) {
-                Step::Leaf(after) => {
-                    next = after;
-                    left -= 1;
-                }
-                Step::Arms(count) => {
-                    above[level] = left - 1;
-                    level += 1;
-                    next += 1;
-                    left = count;
-                }
-                Step::Refused(number) => return Checked::Refused(number),
+            continue;
+        }
+        match condition_step(words, next, depth - level) {
+            Step::Leaf(after) => {
+                next = after;
+                left -= 1;
             }
+            Step::Arms(count) => {
+                above[level] = left - 1;
+                level += 1;
+                next += 1;
+                left = count;
+            }
+            Step::Refused(number) => return Checked::Refused(number),
         }
     }
 }
@@ -624,77 +624,104 @@ fn deep_policy(head: PolicyHead) -> u32
     }
 }
 
-// Checks the policy at `at`, of at most `depth` levels, its conditions among them.
-fn check_policy(words: &[u32], at: usize, depth: usize, residual: bool) -> Checked
+// The check of a whole node, as a step.
+fn step_of(found: Checked) -> Step
+    ensures { λ r. ⌜ r ≡ stepOf found ⌝ }
+{
+    match found {
+        Checked::Next(next) => Step::Leaf(next),
+        Checked::Refused(number) => Step::Refused(number),
+    }
+}
+
+// Checks the policy at `at` up to its arms. A Grant's condition is no arm.
+fn policy_step(words: &[u32], at: usize, depth: usize, residual: bool) -> Step
     requires { ⌜ depth ≤ 32 ⌝ }
-    ensures { λ r. ⌜ r ≡ checked wordsT at (readPolicy (productSets .value) residual depth (drop at (now (words .entry)))) ⌝ }
+    ensures { λ r. ⌜ Stepped (now (words .entry)) at depth (checked wordsT at (readPolicy (productSets .value) residual depth (drop at (now (words .entry))))) (λ n. checked wordsTs (at + 1) (many pnil pcons (readPolicy (productSets .value) residual (depth - 1)) n (drop (at + 1) (now (words .entry))))) r ⌝ }
 {
     if words.len() <= at {
-        return Checked::Refused(6);
+        return Step::Refused(6);
     }
     if depth == 0 {
-        return Checked::Refused(deep_policy(head_by_kind(words[at], residual)));
+        return Step::Refused(deep_policy(head_by_kind(words[at], residual)));
     }
     let head = policy_head(words[at], residual);
     match head {
-        PolicyHead::Permit(_) => Checked::Next(at + 1),
-        PolicyHead::Deny => Checked::Next(at + 1),
+        PolicyHead::Permit(_) => Step::Leaf(at + 1),
+        PolicyHead::Deny => Step::Leaf(at + 1),
         PolicyHead::Grant {
             hidden: _,
             obligations,
             outcome: _,
-        } => check_grant(words, at, depth - 1, obligations),
-        PolicyHead::All(count) => check_policies(words, at + 1, depth - 1, residual, count),
-        PolicyHead::Any(count) => check_policies(words, at + 1, depth - 1, residual, count),
-        PolicyHead::OrElse => check_policies(words, at + 1, depth - 1, residual, 2),
+        } => step_of(check_grant(words, at, depth - 1, obligations)),
+        PolicyHead::All(count) => Step::Arms(count),
+        PolicyHead::Any(count) => Step::Arms(count),
+        PolicyHead::OrElse => Step::Arms(2),
         PolicyHead::PermitWithTrace {
             obligations,
             outcome: _,
-        } => check_permit_with_trace(words, at, obligations),
+        } => step_of(check_permit_with_trace(words, at, obligations)),
         PolicyHead::DenyWithTrace {
             hidden: _,
             denied: _,
             outcome: _,
-        } => check_deny_with_trace(words, at),
-        PolicyHead::BadKind => Checked::Refused(5),
-        PolicyHead::BadField => Checked::Refused(8),
+        } => step_of(check_deny_with_trace(words, at)),
+        PolicyHead::BadKind => Step::Refused(5),
+        PolicyHead::BadField => Step::Refused(8),
     }
 }
 
-// Checks the policy at `at` as `check_policy` does. A Permit is seen here, so the list rule passes it with no call.
-fn check_policy_arm(words: &[u32], at: usize, depth: usize, residual: bool) -> Checked
+// The words of a Permit at `at`, of at most `depth` levels; 0 if another policy stands there. A Permit is told with no step made of it.
+fn short_policy(words: &[u32], at: usize, depth: usize) -> usize
+    ensures { λ r. ⌜ ((r ≡ 0 → ⊥) → (at + r ≤ length (now (words .entry))) × ((residual : Bool) → Checked.Next (at + r) ≡ checked wordsT at (readPolicy (productSets .value) residual depth (drop at (now (words .entry)))))) ⌝ }
+{
+    if words.len() <= at {
+        return 0;
+    }
+    if words[at] / HALF == PERMIT {
+        return if depth == 0 { 0 } else { 1 };
+    }
+    0
+}
+
+// Checks the policy at `at`, of at most `depth` levels, its conditions among them, in one loop as `check_condition` does.
+fn check_policy(words: &[u32], at: usize, depth: usize, residual: bool) -> Checked
     requires { ⌜ depth ≤ 32 ⌝ }
     ensures { λ r. ⌜ r ≡ checked wordsT at (readPolicy (productSets .value) residual depth (drop at (now (words .entry)))) ⌝ }
 {
-    if depth == 0 {
-        return check_policy(words, at, depth, residual);
-    }
-    if words.len() <= at {
-        return Checked::Refused(6);
-    }
-    if words[at] / HALF == PERMIT {
-        return Checked::Next(at + 1);
-    }
-    check_policy(words, at, depth, residual)
-}
-
-// Checks `count` policies, one after the other, from `at`.
-fn check_policies(words: &[u32], at: usize, depth: usize, residual: bool, count: u32) -> Checked
-    requires { ⌜ depth ≤ 32 ⌝ }
-    ensures { λ r. ⌜ r ≡ checked wordsTs at (many pnil pcons (readPolicy (productSets .value) residual depth) count (drop at (now (words .entry)))) ⌝ }
-{
+    let mut above = [0u32; 32];
+    let mut level = 0;
+    let mut left: u32 = 1;
     let mut next = at;
-    let mut left = count;
-    while left != 0 {
-        match check_policy_arm(words, next, depth, residual) {
-            Checked::Next(after) => {
+    loop {
+        if left == 0 {
+            if level == 0 {
+                return Checked::Next(next);
+            }
+            level -= 1;
+            left = above[level];
+            continue;
+        }
+        let short = short_policy(words, next, depth - level);
+        if short != 0 {
+            next += short;
+            left -= 1;
+            continue;
+        }
+        match policy_step(words, next, depth - level, residual) {
+            Step::Leaf(after) => {
                 next = after;
                 left -= 1;
             }
-            Checked::Refused(number) => return Checked::Refused(number),
+            Step::Arms(count) => {
+                above[level] = left - 1;
+                level += 1;
+                next += 1;
+                left = count;
+            }
+            Step::Refused(number) => return Checked::Refused(number),
         }
     }
-    Checked::Next(next)
 }
 
 // Whether words hold a sheet, or the number of the refusal.

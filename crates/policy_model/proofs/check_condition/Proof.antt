@@ -24,11 +24,14 @@ Inv-loop words at depth above₀ level₀ left₀ next₀ above level left next 
 abbrev μ-loop : tie.MeasureT-loop
 μ-loop words at depth above₀ level₀ left₀ next₀ above level left next = 2 * (length words - next) + level
 
--- where the loop begins, and what a step says there
-abbrev Looping : Type 0
-Looping = lts.At-loop (condition-step-reads.Asked, condition-step-reads.Learnt) reads.Pre reads.Post Inv-loop μ-loop
+-- what it calls; where the loop begins, and what a step says there
+abbrev calls : lts.Claims
+calls = (condition-step-reads.Asked, condition-step-reads.Learnt)
 
-abbrev start : Looping → lts.Start (condition-step-reads.Asked, condition-step-reads.Learnt) reads.Pre reads.Post Inv-loop μ-loop
+abbrev Looping : Type 0
+Looping = lts.At-loop calls reads.Pre reads.Post Inv-loop μ-loop
+
+abbrev start : Looping → lts.Start calls reads.Pre reads.Post Inv-loop μ-loop
 start c = c .before .before
 
 abbrev Found : Looping → Step → Type 0
@@ -37,7 +40,7 @@ Found c r =
     let levels = start c .args .depth - c .loop .level in
     Stepped words (c .loop .next) levels (Asked words (c .loop .next) levels) (AskedAll words (levels - 1) (c .loop .next + 1)) r
 
-found : (c : lts.After-condition-step (condition-step-reads.Asked, condition-step-reads.Learnt) reads.Pre reads.Post Inv-loop μ-loop) (r : Step) → c .condition-step .result ≡ r → Found (c .before .before) r
+found : (c : lts.After-condition-step calls reads.Pre reads.Post Inv-loop μ-loop) (r : Step) → c .condition-step .result ≡ r → Found (c .before .before) r
 found c r e = subst (Found (c .before .before)) e (c .condition-step .ensures)
 
 loop-holds : tie.Need-loop-holds Inv-loop μ-loop
@@ -81,11 +84,13 @@ loop-less-2 : tie.Need-loop-less-2 Inv-loop μ-loop
 loop-less-2 c = let s = found (c .before .before .before) (Leaf _) (c .before .after .given .1) in omega arith
 
 loop-again-2 : tie.Need-loop-again-2 Inv-loop μ-loop
-loop-again-2 c = (
-  passed (condition-lists _) _ _ _ _ _ _ (c .before .before .before .before .if1 .left) (found (c .before .before .before) (Leaf _) (c .before .after .given .1) .0) ∙ c .before .before .before .before .before .loop .inv .0,
-  c .before .before .before .before .before .loop .inv .1,
-  c .before .before .before .before .before .loop .inv .2,
-)
+loop-again-2 c =
+    let step = c .before .before .before in
+    let l = step .before .before in (
+      passed (condition-lists _) _ _ _ _ _ _ (step .before .if1 .left) (found step (Leaf _) (c .before .after .given .1) .0) ∙ l .loop .inv .0,
+      l .loop .inv .1,
+      l .loop .inv .2,
+    )
 
 enum-known-count : tie.Need-enum-known-count Inv-loop μ-loop
 enum-known-count c = search needs
@@ -109,18 +114,22 @@ loop-less-3 : tie.Need-loop-less-3 Inv-loop μ-loop
 loop-less-3 c = let s = found (c .before .before .before) (Arms _) (c .before .count .given .1) in omega arith
 
 loop-again-3 : tie.Need-loop-again-3 Inv-loop μ-loop
-loop-again-3 c = (
-  opened (condition-lists _) _ _ _ _ _ (c .before .count .given .0 .0) (c .before .before .before .before .if1 .left) (let s = found (c .before .before .before) (Arms _) (c .before .count .given .1) in omega arith) (found (c .before .before .before) (Arms _) (c .before .count .given .1) .0) ∙ c .before .before .before .before .before .loop .inv .0,
-  let s = found (c .before .before .before) (Arms _) (c .before .count .given .1) in omega arith,
-  simp length-set (c .before .before .before .before .before .loop .inv .2),
-)
+loop-again-3 c =
+    let step = c .before .before .before in
+    let l = step .before .before in
+    let s = found step (Arms _) (c .before .count .given .1) in (
+      opened (condition-lists _) _ _ _ _ _ (c .before .count .given .0 .0) (step .before .if1 .left) (omega arith) (s .0) ∙ l .loop .inv .0,
+      omega arith,
+      simp length-set (l .loop .inv .2),
+    )
 
 enum-known-number : tie.Need-enum-known-number Inv-loop μ-loop
 enum-known-number c = search needs
 
 returns-2 : tie.Need-returns-2 Inv-loop μ-loop
-returns-2 c = turned-back (condition-lists _) _ _ _ _ _ _ (c .before .before .before .before .if1 .left) (found (c .before .before .before) (Refused _) (c .before .number .given .1))
-    ∙ c .before .before .before .before .before .loop .inv .0
+returns-2 c =
+    let step = c .before .before .before in
+    turned-back (condition-lists _) _ _ _ _ _ _ (step .before .if1 .left) (found step (Refused _) (c .before .number .given .1)) ∙ step .before .before .loop .inv .0
 
 pub check-condition-spec : {M : Type 1} → statement M
 check-condition-spec =

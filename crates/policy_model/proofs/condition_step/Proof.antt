@@ -1,7 +1,6 @@
 -- `policy_model::condition_step` meets its contract: by the head of the word. Assumes nothing.
 use mathlib.Core.Path.{_≡_, sym, _∙_}
 use Prim.Native.Nat.{_+_, _-_}
-use native.Mathlib.Omega.{arith}
 use borrow.Author.Needs.{needs}
 use denote.Ref.{now}
 use lib.ListN.{drop}
@@ -81,11 +80,14 @@ enum-told-5 c = search needs
 enum-told-6 : tie.Need-enum-told-6
 enum-told-6 c = search needs
 
--- where the match on the head begins
-abbrev Matching : Type 0
-Matching = lts.After-condition-head2 (condition-head-reads.Asked, condition-head-reads.Learnt, deep-condition-reads.Asked, deep-condition-reads.Learnt) reads.Pre reads.Post
+-- what it calls, and where the match on the head begins
+abbrev calls : lts.Claims
+calls = (condition-head-reads.Asked, condition-head-reads.Learnt, deep-condition-reads.Asked, deep-condition-reads.Learnt)
 
-abbrev start : Matching → lts.Start (condition-head-reads.Asked, condition-head-reads.Learnt, deep-condition-reads.Asked, deep-condition-reads.Learnt) reads.Pre reads.Post
+abbrev Matching : Type 0
+Matching = lts.After-condition-head2 calls reads.Pre reads.Post
+
+abbrev start : Matching → lts.Start calls reads.Pre reads.Post
 start c = c .before .before .before .before .before
 
 by-the-head : (c : Matching) (h : ConditionHead) → c .condition-head2 .result ≡ h →

@@ -26,6 +26,7 @@ use Rattle.policy_model.specs.declared.Step.{Step}
 use Rattle.policy_model.specs.Answers.{checked, Stepped, stepOf}
 use Rattle.policy_model.specs.Heads.{policyHead, policyNode, permitTraceNode, denyTraceNode, deepPolicy}
 use Rattle.policy_model.specs.HeadLaws.{policy-node, policy-deep}
+use Rattle.policy_model.specs.Plain.{plainGrant, plain-reads}
 use Rattle.policy_model.proofs.Checking.{word-at, no-word, clash, Leaves, leaves-of, end-with, many-first, many-none}
 use Rattle.policy_model.proofs.Levels.{Lists}
 
@@ -142,3 +143,10 @@ pub whole-node : (ws : List ℕ) (at depth : ℕ) (res : Bool) (c : Checked) (r 
     Stepped ws at depth (Asked ws at depth res) (AskedAll ws (depth - 1) res (at + 1)) r
 whole-node ws at depth res (Next after) r lt e f = rw f (e, lt, ends-later at after (readPolicy (productSets .value) res depth (drop at ws)) e)
 whole-node ws at depth res (Refused n) r lt e f = rw f e
+
+-- A plain grant is passed, with a level below it for its condition.
+pub plain-passed : (ws : List ℕ) (at depth : ℕ) (res : Bool) → plainGrant (drop at ws) ≡ true → 2 ≤ depth → Next (at + 3) ≡ Asked ws at depth res
+unfolding checked
+plain-passed ws at zero res plain h = absurd (omega arith)
+plain-passed ws at (suc zero) res plain h = absurd (omega arith)
+plain-passed ws at (suc (suc d)) res plain h = sym (ap (checked words at) (plain-reads ws at plain res d))

@@ -671,7 +671,7 @@ fn policy_step(words: &[u32], at: usize, depth: usize, residual: bool) -> Step
     }
 }
 
-// The words of a Permit at `at`, of at most `depth` levels; 0 if another policy stands there. A Permit is told with no step made of it.
+// The words of the policy at `at`, of at most `depth` levels, if it is a Permit or a plain grant, the commonest; 0 if it is another. So these are passed with no step.
 fn short_policy(words: &[u32], at: usize, depth: usize) -> usize
     ensures { λ r. ⌜ ((r ≡ 0 → ⊥) → (at + r ≤ length (now (words .entry))) × ((residual : Bool) → Checked.Next (at + r) ≡ checked wordsT at (readPolicy (productSets .value) residual depth (drop at (now (words .entry)))))) ⌝ }
 {
@@ -681,7 +681,10 @@ fn short_policy(words: &[u32], at: usize, depth: usize) -> usize
     if words[at] / HALF == PERMIT {
         return if depth == 0 { 0 } else { 1 };
     }
-    0
+    if depth < 2 {
+        return 0;
+    }
+    if plain_grant(words, at) { 3 } else { 0 }
 }
 
 // Checks the policy at `at`, of at most `depth` levels, its conditions among them, in one loop as `check_condition` does.

@@ -67,23 +67,24 @@ module _ {one : ℕ → ℕ → Checked} {all : ℕ → ℕ → ℕ → Checked}
       ∙ ap (λ d. one d at) whole
 
   module _ (above : List ℕ) (level left next : ℕ) where
+    -- One of the nodes, and then the others.
+    one-then : (c : Checked) → (left ≡ 0 → ⊥) → c ≡ one (depth - level) next →
+        onward all depth above level (andThen c (λ at. all (depth - level) at (left - 1))) ≡ Due all depth above level left next
+    one-then c f e = ap (onward all depth above level) (ap (λ x. andThen x (λ at. all (depth - level) at (left - 1))) e ∙ lists .first (depth - level) left next f)
+
     -- A node that is passed, one that opens a level, and one that is refused.
     pub passed : (after : ℕ) → (left ≡ 0 → ⊥) → Next after ≡ one (depth - level) next → Due all depth above level (left - 1) after ≡ Due all depth above level left next
-    passed after f e =
-        ap (onward all depth above level) (ap (λ c. andThen c (λ at. all (depth - level) at (left - 1))) e ∙ lists .first (depth - level) left next f)
+    passed after f e = one-then (Next after) f e
 
     pub opened : (n : ℕ) → (left ≡ 0 → ⊥) → level < length above → all (depth - level - 1) (next + 1) n ≡ one (depth - level) next →
         Due all depth (set above level (left - 1)) (level + 1) n (next + 1) ≡ Due all depth above level left next
     opened n f lt e =
         let down : depth - (level + 1) ≡ depth - level - 1 = omega arith in
-        level-begins all depth above level (left - 1) (all (depth - (level + 1)) (next + 1) n) lt
-        ∙ ap (onward all depth above level)
-        (ap (λ c. andThen c (λ at. all (depth - level) at (left - 1))) (ap (λ d. all d (next + 1) n) down ∙ e) ∙ lists .first (depth - level) left next f)
+        let arms = all (depth - (level + 1)) (next + 1) n in
+        level-begins all depth above level (left - 1) arms lt ∙ one-then arms f (ap (λ d. all d (next + 1) n) down ∙ e)
 
     pub turned-back : (n : ℕ) → (left ≡ 0 → ⊥) → Refused n ≡ one (depth - level) next → Refused n ≡ Due all depth above level left next
-    turned-back n f e =
-        refused-stands all depth above level n
-        ∙ ap (onward all depth above level) (ap (λ c. andThen c (λ at. all (depth - level) at (left - 1))) e ∙ lists .first (depth - level) left next f)
+    turned-back n f e = refused-stands all depth above level n ∙ one-then (Refused n) f e
 
     -- None is due: the level above goes on, or all is done.
     pub level-done : left ≡ 0 → (level ≡ 0 → ⊥) → Due all depth above (level - 1) (getD above (level - 1) 0) next ≡ Due all depth above level left next

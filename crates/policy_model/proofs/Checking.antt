@@ -24,6 +24,11 @@ no-word words at h = drop-of-length-le words h
 pub clash : {A : Type 0} (after number : ℕ) → Next after ≡ Refused number → A
 clash after number e = let z : _≡_ {A = ℕ} 0 1 = cc in absurd (omega arith)
 
+-- What is asked next, unless the check refuses.
+abbrev pub andThen : Checked → (ℕ → Checked) → Checked
+andThen (Refused n) k = Refused n
+andThen (Next at) k = k at
+
 -- What reading leaves is what stands after what was read.
 abbrev pub Leaves : {A : Type 0} → (A → ℕ) → List ℕ → Parsed A → Type 0
 Leaves size us q = Holds (λ a vs. drop (size a) us ≡ vs) q
@@ -62,19 +67,19 @@ module _ {A B : Type 0} (sizeA : A → ℕ) (sizeB : B → ℕ) (nil : B) (cons 
   more-than-none zero us f = absurd (f refl)
   more-than-none (suc count) us f = rw sub-one
 
-  pub many-more : (count at after : ℕ) → (count ≡ 0 → ⊥) → Next after ≡ checked sizeA at (p (drop at words)) →
-      checked sizeB after (many nil cons p (count - 1) (drop after words)) ≡ checked sizeB at (many nil cons p count (drop at words))
-  many-more count at after f e =
-      let rest = many nil cons p (count - 1) in
-      go-on sizeA sizeB words at at after (p (drop at words)) (λ a vs. next (rest vs) (λ b ts. got (cons a b) ts)) (checked sizeB after (rest (drop after words)))
-      (leaves (drop at words)) e
-      (λ a ends. end-with sizeB sizeB after at (cons a) (rest (drop after words)) (λ b. omega (arith, size-cons a b)))
-      ∙ ap (checked sizeB at) (sym (more-than-none count (drop at words) f))
+  -- The first part, and then the others.
+  first-then : (at : ℕ) (q : Parsed A) (rest : List ℕ → Parsed B) → Leaves sizeA (drop at words) q →
+      andThen (checked sizeA at q) (λ after. checked sizeB after (rest (drop after words))) ≡ checked sizeB at (next q (λ a vs. next (rest vs) (λ b ts. got (cons a b) ts)))
+  unfolding checked
+  first-then at (refuse n) rest l = refl
+  first-then at (got a vs) rest l =
+      ap (λ us. checked sizeB (at + sizeA a) (rest us)) (sym (drop-drop (sizeA a) at words) ∙ l .it)
+      ∙ end-with sizeB sizeB (at + sizeA a) at (cons a) (rest vs) (λ b. omega (arith, size-cons a b))
 
-  pub many-refused : (count at n : ℕ) → (count ≡ 0 → ⊥) → Refused n ≡ checked sizeA at (p (drop at words)) → Refused n ≡ checked sizeB at (many nil cons p count (drop at words))
-  many-refused count at n f e =
-      give-up sizeA sizeB words at at n (p (drop at words)) (λ a vs. next (many nil cons p (count - 1) vs) (λ b ts. got (cons a b) ts)) e
-      ∙ ap (checked sizeB at) (sym (more-than-none count (drop at words) f))
+  pub many-first : (count at : ℕ) → (count ≡ 0 → ⊥) →
+      andThen (checked sizeA at (p (drop at words))) (λ after. checked sizeB after (many nil cons p (count - 1) (drop after words))) ≡ checked sizeB at (many nil cons p count (drop at words))
+  many-first count at f =
+      first-then at (p (drop at words)) (many nil cons p (count - 1)) (leaves (drop at words)) ∙ ap (checked sizeB at) (sym (more-than-none count (drop at words) f))
 
   pub many-none : (count at : ℕ) → count ≡ 0 → Next at ≡ checked sizeB at (many nil cons p count (drop at words))
   unfolding checked

@@ -18,7 +18,8 @@ use Rattle.policy_model.specs.declared.ConditionHead.the-variants.{Not, 
 use Rattle.policy_model.specs.Answers.{checked}
 use Rattle.policy_model.specs.Heads.{conditionHead, conditionNode, deepCondition}
 use Rattle.policy_model.specs.HeadLaws.{condition-node, condition-deep}
-use Rattle.policy_model.proofs.Checking.{word-at, no-word, Leaves, leaves-of, end-with, many-more, many-refused, many-none}
+use Rattle.policy_model.proofs.Checking.{word-at, no-word, Leaves, leaves-of, end-with, many-first, many-none}
+use Rattle.policy_model.proofs.Levels.{Lists}
 
 pub condition-leaves : (d : ℕ) (us : List ℕ) → Leaves wordsC us (readCondition d us)
 condition-leaves d us = leaves-of encodeC wordsC length-encodeC us (readCondition d us) (same-C d us)
@@ -53,9 +54,15 @@ module _ (words : List ℕ) (at depth : ℕ) where
 
 -- What follows the first word of a Not, an All, an Any.
 module _ (p : List ℕ → Parsed Condition) (at : ℕ) (us : List ℕ) where
-  pub after-not : checked wordsC (at + 1) (p us) ≡ checked wordsC at (conditionNode p Not us)
+  -- The arm of a Not is read as a list of one.
+  one-arm : (q : Parsed Condition) → checked wordsCs (at + 1) (next q (λ c vs. got (ccons c cnil) vs)) ≡ checked wordsC at (next q (λ c vs. got (notC c) vs))
+  unfolding checked
+  one-arm (refuse n) = refl
+  one-arm (got c vs) = ap Next (omega arith)
+
+  pub after-not : checked wordsCs (at + 1) (many cnil ccons p 1 us) ≡ checked wordsC at (conditionNode p Not us)
   unfolding conditionNode
-  after-not = end-with wordsC wordsC (at + 1) at notC (p us) (λ c. omega arith)
+  after-not = one-arm (p us)
 
   pub after-all : (n : ℕ) → checked wordsCs (at + 1) (many cnil ccons p n us) ≡ checked wordsC at (conditionNode p (All n) us)
   unfolding conditionNode
@@ -70,11 +77,9 @@ module _ (words : List ℕ) (depth : ℕ) where
   abbrev pub AskedAll : ℕ → ℕ → Checked
   AskedAll at count = checked wordsCs at (many cnil ccons (readCondition depth) count (drop at words))
 
-  pub one-more : (count at after : ℕ) → (count ≡ 0 → ⊥) → Next after ≡ checked wordsC at (readCondition depth (drop at words)) → AskedAll after (count - 1) ≡ AskedAll at count
-  one-more = many-more wordsC wordsCs cnil ccons (readCondition depth) refl (λ a b. refl) (condition-leaves depth) words
-
-  pub one-refused : (count at n : ℕ) → (count ≡ 0 → ⊥) → Refused n ≡ checked wordsC at (readCondition depth (drop at words)) → Refused n ≡ AskedAll at count
-  one-refused = many-refused wordsC wordsCs cnil ccons (readCondition depth) refl (λ a b. refl) (condition-leaves depth) words
-
-  pub none-left : (count at : ℕ) → count ≡ 0 → Next at ≡ AskedAll at count
-  none-left = many-none wordsC wordsCs cnil ccons (readCondition depth) refl (λ a b. refl) (condition-leaves depth) words
+pub condition-lists : (words : List ℕ) → Lists (λ d at. Asked words at d) (AskedAll words)
+condition-lists words =
+    record {
+      first = λ d. many-first wordsC wordsCs cnil ccons (readCondition d) refl (λ a b. refl) (condition-leaves d) words;
+      none = λ d. many-none wordsC wordsCs cnil ccons (readCondition d) refl (λ a b. refl) (condition-leaves d) words;
+    }

@@ -1,5 +1,6 @@
 pub mod Words
 pub mod Checking
+pub mod Levels
 pub mod Fields
 pub mod Masks
 pub mod Pairs

@@ -10,8 +10,8 @@ use lib.Dec.{ltb}
 use lib.ListN.{length, drop, getD}
 use Rattle.model.specs.Outcome.{productSets}
 use Rattle.model.specs.Condition.{Condition}
-use Rattle.model.specs.Decision.{Decision}
-use Rattle.model.specs.Policy.{Policy, all, any, orElse, stored, Policies, pnil, pcons}
+use Rattle.model.specs.Decision.{Decision, permits, denies}
+use Rattle.model.specs.Policy.{Policy, permit, deny, grant, all, any, orElse, stored, Policies, pnil, pcons}
 use Rattle.model.specs.Writing.{encode}
 use Rattle.model.specs.Reading.{Parsed, refuse, got, next, many, readCondition, readPolicy}
 use Rattle.laws.specs.Size.{wordsD, words, wordss}
@@ -22,10 +22,13 @@ use Rattle.policy_model.specs.declared.Checked.{Checked}
 use Rattle.policy_model.specs.declared.Checked.the-variants.{Next, Refused}
 use Rattle.policy_model.specs.declared.PolicyHead.{PolicyHead}
 use Rattle.policy_model.specs.declared.PolicyHead.the-variants.{All, Any, OrElse, PermitWithTrace, DenyWithTrace}
-use Rattle.policy_model.specs.Answers.{checked}
+use Rattle.policy_model.specs.declared.Step.{Step}
+use Rattle.policy_model.specs.Answers.{checked, Stepped, stepOf}
 use Rattle.policy_model.specs.Heads.{policyHead, policyNode, permitTraceNode, denyTraceNode, deepPolicy}
 use Rattle.policy_model.specs.HeadLaws.{policy-node, policy-deep}
-use Rattle.policy_model.proofs.Checking.{word-at, no-word, Leaves, leaves-of, end-with, many-more, many-refused, many-none}
+use Rattle.policy_model.specs.Plain.{plainGrant, plain-reads}
+use Rattle.policy_model.proofs.Checking.{word-at, no-word, clash, Leaves, leaves-of, end-with, many-first, many-none}
+use Rattle.policy_model.proofs.Levels.{Lists}
 
 -- A number below 2^16 stands for the outcome of that number.
 only-at : (v : ℕ) (t : Bool) → IfThere (λ o. o ≡ v) (cond t (some v) none)
@@ -109,11 +112,41 @@ module _ (ws : List ℕ) (depth : ℕ) (res : Bool) where
   abbrev pub AskedAll : ℕ → ℕ → Checked
   AskedAll at count = checked wordss at (many pnil pcons (readPolicy (productSets .value) res depth) count (drop at ws))
 
-  pub one-more : (count at after : ℕ) → (count ≡ 0 → ⊥) → Next after ≡ checked words at (readPolicy (productSets .value) res depth (drop at ws)) → AskedAll after (count - 1) ≡ AskedAll at count
-  one-more = many-more words wordss pnil pcons (readPolicy (productSets .value) res depth) refl (λ a b. refl) (policy-leaves res depth) ws
+pub policy-lists : (ws : List ℕ) (res : Bool) → Lists (λ d at. Asked ws at d res) (λ d. AskedAll ws d res)
+policy-lists ws res =
+    record {
+      first = λ d. many-first words wordss pnil pcons (readPolicy (productSets .value) res d) refl (λ a b. refl) (policy-leaves res d) ws;
+      none = λ d. many-none words wordss pnil pcons (readPolicy (productSets .value) res d) refl (λ a b. refl) (policy-leaves res d) ws;
+    }
 
-  pub one-refused : (count at n : ℕ) → (count ≡ 0 → ⊥) → Refused n ≡ checked words at (readPolicy (productSets .value) res depth (drop at ws)) → Refused n ≡ AskedAll at count
-  one-refused = many-refused words wordss pnil pcons (readPolicy (productSets .value) res depth) refl (λ a b. refl) (policy-leaves res depth) ws
+-- Every policy takes a word, so a node that is passed ends later than it begins.
+some-words : (t : Policy ℕ) → 0 < words t
+some-words (permit o) = omega arith
+some-words deny = omega arith
+some-words (grant g c) = omega arith
+some-words (all ts) = omega arith
+some-words (any ts) = omega arith
+some-words (orElse a b) = omega arith
+some-words (stored (permits p)) = omega arith
+some-words (stored (denies d)) = omega arith
 
-  pub none-left : (count at : ℕ) → count ≡ 0 → Next at ≡ AskedAll at count
-  none-left = many-none words wordss pnil pcons (readPolicy (productSets .value) res depth) refl (λ a b. refl) (policy-leaves res depth) ws
+ends-later : (at after : ℕ) (q : Parsed (Policy ℕ)) → Next after ≡ checked words at q → at < after
+unfolding checked
+ends-later at after (refuse n) e = clash after n e
+ends-later at after (got t vs) e =
+    let long = some-words t in
+    let ends : after ≡ at + words t = cc in
+    omega arith
+
+-- The check of a whole node is a step.
+pub whole-node : (ws : List ℕ) (at depth : ℕ) (res : Bool) (c : Checked) (r : Step) → at < length ws → c ≡ Asked ws at depth res → r ≡ stepOf c →
+    Stepped ws at depth (Asked ws at depth res) (AskedAll ws (depth - 1) res (at + 1)) r
+whole-node ws at depth res (Next after) r lt e f = rw f (e, lt, ends-later at after (readPolicy (productSets .value) res depth (drop at ws)) e)
+whole-node ws at depth res (Refused n) r lt e f = rw f e
+
+-- A plain grant is passed, with a level below it for its condition.
+pub plain-passed : (ws : List ℕ) (at depth : ℕ) (res : Bool) → plainGrant (drop at ws) ≡ true → 2 ≤ depth → Next (at + 3) ≡ Asked ws at depth res
+unfolding checked
+plain-passed ws at zero res plain h = absurd (omega arith)
+plain-passed ws at (suc zero) res plain h = absurd (omega arith)
+plain-passed ws at (suc (suc d)) res plain h = sym (ap (checked words at) (plain-reads ws at plain res d))

@@ -1,8 +1,9 @@
 -- What the checks answer, from what is read of the words. Document 01, "How a request is turned back".
+use mathlib.Core.Path.{_≡_}
 use mathlib.Core.Bool.{Bool, true, false, cond}
 use mathlib.Core.Option.{Option, none, some}
 use mathlib.Core.List.{List, []}
-use Prim.Native.Nat.{ℕ, _+_}
+use Prim.Native.Nat.{ℕ, _+_, _<_}
 use lib.Dec.{ltb}
 use lib.ListN.{length}
 use Rattle.model.specs.Outcome.{productSets}
@@ -13,6 +14,9 @@ use Rattle.model.specs.Reading.{Parsed, refuse, got, parse14, parse15}
 use Rattle.laws.specs.Size.{pairs, words}
 use Rattle.policy_model.specs.declared.Checked.{Checked}
 use Rattle.policy_model.specs.declared.Checked.the-variants.{Next, Refused}
+use Rattle.policy_model.specs.declared.Step.{Step}
+use Rattle.policy_model.specs.declared.Step.the-variants.{Leaf, Arms}
+use Rattle.policy_model.specs.declared.Step.the-variants as step
 use Rattle.policy_model.specs.declared.SheetCheck.{SheetCheck}
 use Rattle.policy_model.specs.declared.SheetCheck.the-variants.{Accepted}
 use Rattle.policy_model.specs.declared.SheetCheck.the-variants as sheet
@@ -24,6 +28,18 @@ use Rattle.policy_model.specs.declared.RecordCheck.the-variants as recor
 unfoldable pub checked : {A : Type 0} → (A → ℕ) → ℕ → Parsed A → Checked
 checked size at (refuse n) = Refused n
 checked size at (got a ws) = Next (at + size a)
+
+-- A step says what is asked of the node at `at` of the words, at so many levels: that it goes on after a word or more, that it is what is asked of n arms
+-- a level below, or the refusal.
+abbrev pub Stepped : List ℕ → ℕ → ℕ → Checked → (ℕ → Checked) → Step → Type 0
+Stepped ws at depth asked arms (Leaf after) = (Next after ≡ asked) × (at < length ws) × (at < after)
+Stepped ws at depth asked arms (Arms n) = (arms n ≡ asked) × (at < length ws) × (0 < depth)
+Stepped ws at depth asked arms (step.Refused n) = Refused n ≡ asked
+
+-- The check of a whole node, as a step.
+abbrev pub stepOf : Checked → Step
+stepOf (Next n) = Leaf n
+stepOf (Refused n) = step.Refused n
 
 -- Words after what was checked: 10.
 unfoldable pub atEnd : ℕ → Checked → Checked

@@ -1,7 +1,7 @@
 // Policies as words, after gatekeep's policy_model.rs: what one word says, whether words hold a sheet or a record, and how far a tree reaches.
 ghost use mathlib.Core.Path.{_≡_};
 ghost use mathlib.Core.Bool.{Bool};
-ghost use Prim.Native.Nat.{ℕ, _+_, _%_, _<_, _≤_};
+ghost use Prim.Native.Nat.{ℕ, _+_, _-_, _%_, _<_, _≤_};
 ghost use lib.ListN.{length, drop, getD};
 ghost use Rattle.model.specs.Fields.{split, wordsFor};
 ghost use Rattle.model.specs.Outcome.{productSets};
@@ -11,8 +11,9 @@ ghost use Rattle.model.specs.Writing.{obligationBits, entryBits};
 ghost use Rattle.model.specs.Reading.{many, readList, obligation, listed, consulted, readCondition, readPolicy, whole, readSheet, parse14, readRecord};
 ghost use Rattle.laws.specs.Size.{quads, pairs, wordsC, wordsCs, wordsD, words as wordsT, wordss as wordsTs};
 ghost use Rattle.policy_model.specs.Heads.{conditionHead, deepCondition, permitHead, grantHead, permitTraceHead, denyTraceHead, policyHead, deepPolicy, grantNode, permitTraceNode, denyTraceNode};
+ghost use Rattle.policy_model.specs.Plain.{plainGrant};
 ghost use Rattle.policy_model.specs.Lists.{seenOne, seenAll, entryFits, pairFits, markFits, marksFit, checkedPairs};
-ghost use Rattle.policy_model.specs.Answers.{checked, atEnd, refusal, sheetRefusal, bodyAt, wordsB, leadOf, recordLead, recordOf};
+ghost use Rattle.policy_model.specs.Answers.{checked, Stepped, stepOf, atEnd, refusal, sheetRefusal, bodyAt, wordsB, leadOf, recordLead, recordOf};
 ghost use Rattle.policy_model.specs.Span.{armsOf, ownOf, span, Skipped};
 
 // A word's kind stands above its other 28 bits.
@@ -254,6 +255,28 @@ pub fn policy_head(word: u32, residual: bool) -> PolicyHead
     head_by_kind(word, residual)
 }
 
+// Whether a Grant without label, reason and obligations, on one fact, stands at `at`: the commonest policy, told by its three words.
+pub fn plain_grant(words: &[u32], at: usize) -> bool
+    requires { ⌜ at < length (now words) ⌝ }
+    ensures { λ r. ⌜ r ≡ plainGrant (drop at (now (words .entry))) ⌝ }
+{
+    if words.len() - at < 3 {
+        return false;
+    }
+    let word = words[at];
+    if word / KIND != 8 {
+        return false;
+    }
+    // neither obligations nor a bit that must be 0
+    if word / HALF % 2048 != 0 {
+        return false;
+    }
+    if words[at + 1] != 0 {
+        return false;
+    }
+    words[at + 2] / FACTS == HAS
+}
+
 // What a check finds: the position after what was checked, or the number of the refusal.
 pub enum Checked {
     Next(usize),
@@ -428,66 +451,90 @@ fn deep_condition(head: ConditionHead) -> u32
     }
 }
 
-// Checks the condition at `at`, of at most `depth` levels.
-fn check_condition(words: &[u32], at: usize, depth: usize) -> Checked
-    ensures { λ r. ⌜ r ≡ checked wordsC at (readCondition depth (drop at (now (words .entry)))) ⌝ }
+// What a check finds at one node: it ends at a position, its first word opens so many arms, or the number of the refusal.
+enum Step {
+    Leaf(usize),
+    Arms(u32),
+    Refused(u32),
+}
+
+// Checks the condition at `at` up to its arms.
+fn condition_step(words: &[u32], at: usize, depth: usize) -> Step
+    ensures { λ r. ⌜ Stepped (now (words .entry)) at depth (checked wordsC at (readCondition depth (drop at (now (words .entry))))) (λ n. checked wordsCs (at + 1) (many cnil ccons (readCondition (depth - 1)) n (drop (at + 1) (now (words .entry))))) r ⌝ }
 {
     if words.len() <= at {
-        return Checked::Refused(6);
+        return Step::Refused(6);
+    }
+    if depth == 0 {
+        return Step::Refused(deep_condition(condition_head(words[at])));
     }
     let head = condition_head(words[at]);
-    if depth == 0 {
-        return Checked::Refused(deep_condition(head));
-    }
     match head {
-        ConditionHead::Always => Checked::Next(at + 1),
-        ConditionHead::Never => Checked::Next(at + 1),
-        ConditionHead::Has(_) => Checked::Next(at + 1),
-        ConditionHead::Not => check_condition(words, at + 1, depth - 1),
-        ConditionHead::All(count) => check_conditions(words, at + 1, depth - 1, count),
-        ConditionHead::Any(count) => check_conditions(words, at + 1, depth - 1, count),
-        ConditionHead::BadKind => Checked::Refused(5),
-        ConditionHead::BadField => Checked::Refused(8),
+        ConditionHead::Always => Step::Leaf(at + 1),
+        ConditionHead::Never => Step::Leaf(at + 1),
+        ConditionHead::Has(_) => Step::Leaf(at + 1),
+        ConditionHead::Not => Step::Arms(1),
+        ConditionHead::All(count) => Step::Arms(count),
+        ConditionHead::Any(count) => Step::Arms(count),
+        ConditionHead::BadKind => Step::Refused(5),
+        ConditionHead::BadField => Step::Refused(8),
     }
 }
 
-// Checks the condition at `at` as `check_condition` does. A Has, the commonest arm, is seen here, so the list rule passes it with no call.
-fn check_arm(words: &[u32], at: usize, depth: usize) -> Checked
+// Checks the condition at `at`, of at most `depth` levels. One loop, since a call for each level costs more than the level: `left` nodes are due at `level`,
+// and `above` says how many at each level above it.
+fn check_condition(words: &[u32], at: usize, depth: usize) -> Checked
+    requires { ⌜ depth ≤ 32 ⌝ }
     ensures { λ r. ⌜ r ≡ checked wordsC at (readCondition depth (drop at (now (words .entry)))) ⌝ }
 {
-    if depth == 0 {
-        return check_condition(words, at, depth);
-    }
-    if words.len() <= at {
-        return Checked::Refused(6);
-    }
-    if words[at] / FACTS == HAS {
-        return Checked::Next(at + 1);
-    }
-    check_condition(words, at, depth)
-}
-
-// Checks `count` conditions, one after the other, from `at`.
-fn check_conditions(words: &[u32], at: usize, depth: usize, count: u32) -> Checked
-    ensures { λ r. ⌜ r ≡ checked wordsCs at (many cnil ccons (readCondition depth) count (drop at (now (words .entry)))) ⌝ }
-{
+    let mut above = [0u32; 32];
+    let mut level = 0;
+    let mut left: u32 = 1;
     let mut next = at;
-    let mut left = count;
-    while left != 0 {
-        match check_arm(words, next, depth) {
-            Checked::Next(after) => {
+    loop {
+        if left == 0 {
+            if level == 0 {
+                return Checked::Next(next);
+            }
+            level -= 1;
+            left = above[level];
+            continue;
+        }
+        match condition_step(words, next, depth - level) {
+            Step::Leaf(after) => {
                 next = after;
                 left -= 1;
             }
-            Checked::Refused(number) => return Checked::Refused(number),
+            Step::Arms(count) => {
+                above[level] = left - 1;
+                level += 1;
+                next += 1;
+                left = count;
+            }
+            Step::Refused(number) => return Checked::Refused(number),
         }
     }
-    Checked::Next(next)
+}
+
+// Checks the condition at `at` as `check_condition` does. A Has, the commonest, is seen here, with no array to fill.
+fn check_arm(words: &[u32], at: usize, depth: usize) -> Checked
+    requires { ⌜ depth ≤ 32 ⌝ }
+    ensures { λ r. ⌜ r ≡ checked wordsC at (readCondition depth (drop at (now (words .entry)))) ⌝ }
+{
+    if depth != 0 {
+        if at < words.len() {
+            if words[at] / FACTS == HAS {
+                return Checked::Next(at + 1);
+            }
+        }
+    }
+    check_condition(words, at, depth)
 }
 
 // Checks what follows the first word of a Grant at `at`: label and reason, `obligations`, and one condition of at most `depth` levels.
 fn check_grant(words: &[u32], at: usize, depth: usize, obligations: u32) -> Checked
     requires { ⌜ at < length (now words) ⌝ }
+    requires { ⌜ depth ≤ 32 ⌝ }
     ensures { λ r. ⌜ ((hidden : Bool) (outcome : ℕ) → r ≡ checked wordsT at (grantNode (readCondition depth) hidden obligations outcome (drop (at + 1) (now (words .entry))))) ⌝ }
 {
     let second = at + 1;
@@ -577,74 +624,107 @@ fn deep_policy(head: PolicyHead) -> u32
     }
 }
 
-// Checks the policy at `at`, of at most `depth` levels, its conditions among them.
-fn check_policy(words: &[u32], at: usize, depth: usize, residual: bool) -> Checked
-    ensures { λ r. ⌜ r ≡ checked wordsT at (readPolicy (productSets .value) residual depth (drop at (now (words .entry)))) ⌝ }
+// The check of a whole node, as a step.
+fn step_of(found: Checked) -> Step
+    ensures { λ r. ⌜ r ≡ stepOf found ⌝ }
+{
+    match found {
+        Checked::Next(next) => Step::Leaf(next),
+        Checked::Refused(number) => Step::Refused(number),
+    }
+}
+
+// Checks the policy at `at` up to its arms. A Grant's condition is no arm.
+fn policy_step(words: &[u32], at: usize, depth: usize, residual: bool) -> Step
+    requires { ⌜ depth ≤ 32 ⌝ }
+    ensures { λ r. ⌜ Stepped (now (words .entry)) at depth (checked wordsT at (readPolicy (productSets .value) residual depth (drop at (now (words .entry))))) (λ n. checked wordsTs (at + 1) (many pnil pcons (readPolicy (productSets .value) residual (depth - 1)) n (drop (at + 1) (now (words .entry))))) r ⌝ }
 {
     if words.len() <= at {
-        return Checked::Refused(6);
+        return Step::Refused(6);
     }
     if depth == 0 {
-        return Checked::Refused(deep_policy(head_by_kind(words[at], residual)));
+        return Step::Refused(deep_policy(head_by_kind(words[at], residual)));
     }
     let head = policy_head(words[at], residual);
     match head {
-        PolicyHead::Permit(_) => Checked::Next(at + 1),
-        PolicyHead::Deny => Checked::Next(at + 1),
+        PolicyHead::Permit(_) => Step::Leaf(at + 1),
+        PolicyHead::Deny => Step::Leaf(at + 1),
         PolicyHead::Grant {
             hidden: _,
             obligations,
             outcome: _,
-        } => check_grant(words, at, depth - 1, obligations),
-        PolicyHead::All(count) => check_policies(words, at + 1, depth - 1, residual, count),
-        PolicyHead::Any(count) => check_policies(words, at + 1, depth - 1, residual, count),
-        PolicyHead::OrElse => check_policies(words, at + 1, depth - 1, residual, 2),
+        } => step_of(check_grant(words, at, depth - 1, obligations)),
+        PolicyHead::All(count) => Step::Arms(count),
+        PolicyHead::Any(count) => Step::Arms(count),
+        PolicyHead::OrElse => Step::Arms(2),
         PolicyHead::PermitWithTrace {
             obligations,
             outcome: _,
-        } => check_permit_with_trace(words, at, obligations),
+        } => step_of(check_permit_with_trace(words, at, obligations)),
         PolicyHead::DenyWithTrace {
             hidden: _,
             denied: _,
             outcome: _,
-        } => check_deny_with_trace(words, at),
-        PolicyHead::BadKind => Checked::Refused(5),
-        PolicyHead::BadField => Checked::Refused(8),
+        } => step_of(check_deny_with_trace(words, at)),
+        PolicyHead::BadKind => Step::Refused(5),
+        PolicyHead::BadField => Step::Refused(8),
     }
 }
 
-// Checks the policy at `at` as `check_policy` does. A Permit is seen here, so the list rule passes it with no call.
-fn check_policy_arm(words: &[u32], at: usize, depth: usize, residual: bool) -> Checked
-    ensures { λ r. ⌜ r ≡ checked wordsT at (readPolicy (productSets .value) residual depth (drop at (now (words .entry)))) ⌝ }
+// The words of the policy at `at`, of at most `depth` levels, if it is a Permit or a plain grant, the commonest; 0 if it is another. So these are passed with no step.
+fn short_policy(words: &[u32], at: usize, depth: usize) -> usize
+    ensures { λ r. ⌜ ((r ≡ 0 → ⊥) → (at + r ≤ length (now (words .entry))) × ((residual : Bool) → Checked.Next (at + r) ≡ checked wordsT at (readPolicy (productSets .value) residual depth (drop at (now (words .entry)))))) ⌝ }
 {
-    if depth == 0 {
-        return check_policy(words, at, depth, residual);
-    }
     if words.len() <= at {
-        return Checked::Refused(6);
+        return 0;
     }
     if words[at] / HALF == PERMIT {
-        return Checked::Next(at + 1);
+        return if depth == 0 { 0 } else { 1 };
     }
-    check_policy(words, at, depth, residual)
+    if depth < 2 {
+        return 0;
+    }
+    if plain_grant(words, at) { 3 } else { 0 }
 }
 
-// Checks `count` policies, one after the other, from `at`.
-fn check_policies(words: &[u32], at: usize, depth: usize, residual: bool, count: u32) -> Checked
-    ensures { λ r. ⌜ r ≡ checked wordsTs at (many pnil pcons (readPolicy (productSets .value) residual depth) count (drop at (now (words .entry)))) ⌝ }
+// Checks the policy at `at`, of at most `depth` levels, its conditions among them, in one loop as `check_condition` does.
+fn check_policy(words: &[u32], at: usize, depth: usize, residual: bool) -> Checked
+    requires { ⌜ depth ≤ 32 ⌝ }
+    ensures { λ r. ⌜ r ≡ checked wordsT at (readPolicy (productSets .value) residual depth (drop at (now (words .entry)))) ⌝ }
 {
+    let mut above = [0u32; 32];
+    let mut level = 0;
+    let mut left: u32 = 1;
     let mut next = at;
-    let mut left = count;
-    while left != 0 {
-        match check_policy_arm(words, next, depth, residual) {
-            Checked::Next(after) => {
+    loop {
+        if left == 0 {
+            if level == 0 {
+                return Checked::Next(next);
+            }
+            level -= 1;
+            left = above[level];
+            continue;
+        }
+        let short = short_policy(words, next, depth - level);
+        if short != 0 {
+            next += short;
+            left -= 1;
+            continue;
+        }
+        match policy_step(words, next, depth - level, residual) {
+            Step::Leaf(after) => {
                 next = after;
                 left -= 1;
             }
-            Checked::Refused(number) => return Checked::Refused(number),
+            Step::Arms(count) => {
+                above[level] = left - 1;
+                level += 1;
+                next += 1;
+                left = count;
+            }
+            Step::Refused(number) => return Checked::Refused(number),
         }
     }
-    Checked::Next(next)
 }
 
 // Whether words hold a sheet, or the number of the refusal.

@@ -5,7 +5,7 @@ use Prim.Native.Nat.{ℕ, zero, suc, _+_, _-_, _≤_, _<_}
 use native.Mathlib.Numerals.{sub-one}
 use native.Mathlib.Omega.{arith}
 use lib.ListN.{length, drop, getD}
-use Rattle.model.specs.Condition.{Condition, notC, allC, anyC, Conditions, cnil, ccons}
+use Rattle.model.specs.Condition.{Condition, notC, allC, anyC, cnil, ccons}
 use Rattle.model.specs.Writing.{encodeC}
 use Rattle.model.specs.Reading.{Parsed, refuse, got, next, many, readCondition}
 use Rattle.laws.specs.Size.{wordsC, wordsCs}

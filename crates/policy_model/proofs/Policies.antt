@@ -10,8 +10,8 @@ use lib.Dec.{ltb}
 use lib.ListN.{length, drop, getD}
 use Rattle.model.specs.Outcome.{productSets}
 use Rattle.model.specs.Condition.{Condition}
-use Rattle.model.specs.Decision.{Decision, permits, denies}
-use Rattle.model.specs.Policy.{Policy, permit, deny, grant, all, any, orElse, stored, Policies, pnil, pcons}
+use Rattle.model.specs.Decision.{permits, denies}
+use Rattle.model.specs.Policy.{Policy, permit, deny, grant, all, any, orElse, stored, pnil, pcons}
 use Rattle.model.specs.Writing.{encode}
 use Rattle.model.specs.Reading.{Parsed, refuse, got, next, many, readCondition, readPolicy}
 use Rattle.laws.specs.Size.{wordsD, words, wordss}

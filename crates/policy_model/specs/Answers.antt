@@ -29,8 +29,7 @@ unfoldable pub checked : {A : Type 0} → (A → ℕ) → ℕ → Parsed A → C
 checked size at (refuse n) = Refused n
 checked size at (got a ws) = Next (at + size a)
 
--- A step says what is asked of the node at `at` of the words, at so many levels: that it goes on after a word or more, that it is what is asked of n arms
--- a level below, or the refusal.
+-- What a step says of the node at `at`, with so many levels left: the check goes on after a word or more; it is the check of n arms, a level below; or it refuses.
 abbrev pub Stepped : List ℕ → ℕ → ℕ → Checked → (ℕ → Checked) → Step → Type 0
 Stepped ws at depth asked arms (Leaf after) = (Next after ≡ asked) × (at < length ws) × (at < after)
 Stepped ws at depth asked arms (Arms n) = (arms n ≡ asked) × (at < length ws) × (0 < depth)

@@ -451,7 +451,7 @@ fn deep_condition(head: ConditionHead) -> u32
     }
 }
 
-// What a check finds at one node: it ends at a position, its first word opens so many arms, or the number of the refusal.
+// What a check finds at one node: the position after it, how many arms follow its first word, or the number of the refusal.
 enum Step {
     Leaf(usize),
     Arms(u32),
@@ -481,8 +481,8 @@ fn condition_step(words: &[u32], at: usize, depth: usize) -> Step
     }
 }
 
-// Checks the condition at `at`, of at most `depth` levels. One loop, since a call for each level costs more than the level: `left` nodes are due at `level`,
-// and `above` says how many at each level above it.
+// Checks the condition at `at`, of at most `depth` levels. One loop, since a call for each level costs more than the level itself: `left` nodes are due at `level`,
+// and `above` says how many are due at each level above it.
 fn check_condition(words: &[u32], at: usize, depth: usize) -> Checked
     requires { ⌜ depth ≤ 32 ⌝ }
     ensures { λ r. ⌜ r ≡ checked wordsC at (readCondition depth (drop at (now (words .entry)))) ⌝ }
@@ -516,8 +516,8 @@ fn check_condition(words: &[u32], at: usize, depth: usize) -> Checked
     }
 }
 
-// Checks the condition at `at` as `check_condition` does. A Has, the commonest, is seen here, with no array to fill.
-fn check_arm(words: &[u32], at: usize, depth: usize) -> Checked
+// Checks a Grant's condition as `check_condition` does. A Has, the commonest, is seen here, with no array to fill.
+fn check_grant_condition(words: &[u32], at: usize, depth: usize) -> Checked
     requires { ⌜ depth ≤ 32 ⌝ }
     ensures { λ r. ⌜ r ≡ checked wordsC at (readCondition depth (drop at (now (words .entry)))) ⌝ }
 {
@@ -545,7 +545,7 @@ fn check_grant(words: &[u32], at: usize, depth: usize, obligations: u32) -> Chec
         return Checked::Refused(8);
     }
     match check_obligations(words, second + 1, obligations) {
-        Checked::Next(next) => check_arm(words, next, depth),
+        Checked::Next(next) => check_grant_condition(words, next, depth),
         Checked::Refused(number) => Checked::Refused(number),
     }
 }

@@ -44,8 +44,8 @@ check-obligations-requires c κs = search needs
 enum-known-next : tie.Need-enum-known-next
 enum-known-next c = search needs
 
-check-arm-requires : tie.Need-check-arm-requires
-check-arm-requires c κs = search needs
+check-grant-condition-requires : tie.Need-check-grant-condition-requires
+check-grant-condition-requires c κs = search needs
 
 enum-known-number : tie.Need-enum-known-number
 enum-known-number c = search needs
@@ -58,7 +58,7 @@ returns-3 c =
     λ hidden outcome.
     grant-goes-on (now (s .words)) (s .at) (s .depth) (s .obligations) hidden outcome (list .before .before .before .before .if1 .left) fits _ _
     (sym (list .before .before .marks-fit .ensures) ∙ not-false _ (list .before .if2 .left))
-    (sym (c .before .before .next .given .1) ∙ list .check-obligations .ensures) (c .check-arm .ensures)
+    (sym (c .before .before .next .given .1) ∙ list .check-obligations .ensures) (c .check-grant-condition .ensures)
 
 returns-4 : tie.Need-returns-4
 returns-4 c =
@@ -73,4 +73,4 @@ returns-4 c =
 pub check-grant-spec : {M : Type 1} → statement M
 check-grant-spec =
     tie.close
-    (tie.spec add-second returns mul-marks-fit shared-slice-read-marks-fit marks-fit-requires returns-2 add-check-obligations check-obligations-requires enum-known-next check-arm-requires enum-known-number returns-3 returns-4)
+    (tie.spec add-second returns mul-marks-fit shared-slice-read-marks-fit marks-fit-requires returns-2 add-check-obligations check-obligations-requires enum-known-next check-grant-condition-requires enum-known-number returns-3 returns-4)

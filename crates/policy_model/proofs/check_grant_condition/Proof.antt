@@ -1,4 +1,4 @@
--- `policy_model::check_arm` meets its contract: a Has by its word, any other by `check_condition`. Assumes nothing.
+-- `policy_model::check_grant_condition` meets its contract: a Has by its word, any other by `check_condition`. Assumes nothing.
 use borrow.Author.Needs.{needs}
 use denote.Ref.{now}
 use Rattle.policy_model.specs.declared.ConditionHead.the-variants.{Has}
@@ -6,8 +6,8 @@ use Rattle.policy_model.specs.Answers.{checked}
 use Rattle.policy_model.specs.Heads.{conditionNode}
 use Rattle.policy_model.specs.HeadLaws.{has-word}
 use Rattle.policy_model.proofs.Conditions.{by-head}
-use Rattle.policy_model.proofs.check_arm.Statement.{statement}
-use Rattle.policy_model.proofs.check_arm.Tie as tie
+use Rattle.policy_model.proofs.check_grant_condition.Statement.{statement}
+use Rattle.policy_model.proofs.check_grant_condition.Tie as tie
 
 mul-if3 : tie.Need-mul-if3
 mul-if3 c = search needs
@@ -30,7 +30,7 @@ check-condition-requires c κs = search needs
 returns-2 : tie.Need-returns-2
 returns-2 c = search needs
 
-pub check-arm-spec : {M : Type 1} → statement M
-check-arm-spec =
+pub check-grant-condition-spec : {M : Type 1} → statement M
+check-grant-condition-spec =
     tie.close
     (tie.spec mul-if3 shared-slice-read-if3 add-t12 returns check-condition-requires returns-2)

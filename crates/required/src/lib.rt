@@ -17,6 +17,7 @@ ghost use Rattle.model.specs.Required.{ones, requiredFacts, requiredResidualFac
 ghost use Rattle.laws.specs.Size.{wordsC};
 ghost use Rattle.policy_model.specs.Heads.{permitTraceNode, denyTraceNode, policyHead};
 ghost use Rattle.required.specs.Sets.{Collected, ToTheEnd};
+ghost use Rattle.required.specs.Counts.{CountedFour};
 ghost use Rattle.required.specs.Nodes.{conditionArms, Ended, StoredAt, OwnFacts};
 ghost use Rattle.required.specs.Arms.{PassedHas};
 ghost use Rattle.required.specs.Answers.{setAfter, Filled, FactsOf, Answered, treeOf};
@@ -183,7 +184,25 @@ fn collect_policy_facts(words: &[u32], at: usize, set: &mut [u64])
     }
 }
 
-// How many bits of the set are one. Most numbers of a set are zero.
+// How many bits of the four numbers from `at` on are one.
+fn count_four(set: &[u64], at: usize) -> u32
+    requires { ⌜ at + 4 ≤ length (now set) ⌝ }
+    ensures { λ r. ⌜ CountedFour (now (set .entry)) at r ⌝ }
+{
+    let mut count = 0;
+    let mut i = at;
+    let end = at + 4;
+    while i < end {
+        let number = set[i];
+        if number != 0 {
+            count += u64::count_ones(number);
+        }
+        i += 1;
+    }
+    count
+}
+
+// How many bits of the set are one. Most numbers of a set are zero, so they are passed over four at a time.
 fn count_ones(set: &[u64]) -> u32
     requires { ⌜ length (now set) ≡ 16 ⌝ }
     ensures { λ r. ⌜ r ≡ ones (now (set .entry)) ⌝ }
@@ -191,11 +210,10 @@ fn count_ones(set: &[u64]) -> u32
     let mut count = 0;
     let mut i = 0;
     while i < 16 {
-        let number = set[i];
-        if number != 0 {
-            count += u64::count_ones(number);
+        if set[i] | set[i + 1] | set[i + 2] | set[i + 3] != 0 {
+            count += count_four(set, i);
         }
-        i += 1;
+        i += 4;
     }
     count
 }

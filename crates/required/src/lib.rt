@@ -46,6 +46,7 @@ struct Passed {
 
 // Adds the facts of the Has that come first among `count` arms from `at` on. Most arms are, so the walk calls itself for the others alone.
 fn collect_has_facts(words: &[u32], at: usize, count: u32, set: &mut [u64]) -> Passed
+    requires { ⌜ length (now set) ≡ 16 ⌝ }
     ensures { λ r. ⌜ PassedHas (now (words .entry)) at count (now (set .entry)) (now (set .exit)) r ⌝ }
 {
     let mut next = at;
@@ -58,7 +59,7 @@ fn collect_has_facts(words: &[u32], at: usize, count: u32, set: &mut [u64]) -> P
         if word / policy_model::FACTS != policy_model::HAS {
             return Passed { next, left };
         }
-        fact_set::insert(set, word % 1024);
+        fact_set::put(set, word % 1024);
         next += 1;
         left -= 1;
     }
@@ -67,6 +68,7 @@ fn collect_has_facts(words: &[u32], at: usize, count: u32, set: &mut [u64]) -> P
 
 // Adds the facts of the condition at `at`, of at most `depth` levels, and returns the index of the word after it.
 fn collect_condition_facts(words: &[u32], at: usize, depth: usize, set: &mut [u64]) -> usize
+    requires { ⌜ length (now set) ≡ 16 ⌝ }
     ensures { λ r. ⌜ Collected wordsC namesC at (now (set .entry)) (now (set .exit)) (readCondition depth (drop at (now (words .entry)))) r ⌝ }
 {
     if words.len() <= at {
@@ -78,7 +80,7 @@ fn collect_condition_facts(words: &[u32], at: usize, depth: usize, set: &mut [u6
     let word = words[at];
     // a Has first, since most nodes are
     if word / policy_model::FACTS == policy_model::HAS {
-        fact_set::insert(set, word % 1024);
+        fact_set::put(set, word % 1024);
         return at + 1;
     }
     let mut left = condition_arms(policy_model::condition_head(word));
@@ -98,6 +100,7 @@ fn collect_condition_facts(words: &[u32], at: usize, depth: usize, set: &mut [u6
 
 // The same of a grant's condition. Most are a Has, seen here with no call.
 fn collect_grant_facts(words: &[u32], at: usize, depth: usize, set: &mut [u64]) -> usize
+    requires { ⌜ length (now set) ≡ 16 ⌝ }
     ensures { λ r. ⌜ Collected wordsC namesC at (now (set .entry)) (now (set .exit)) (readCondition depth (drop at (now (words .entry)))) r ⌝ }
 {
     if words.len() <= at {
@@ -105,7 +108,7 @@ fn collect_grant_facts(words: &[u32], at: usize, depth: usize, set: &mut [u64]) 
     }
     let word = words[at];
     if word / policy_model::FACTS == policy_model::HAS {
-        fact_set::insert(set, word % 1024);
+        fact_set::put(set, word % 1024);
         return at + 1;
     }
     collect_condition_facts(words, at, depth, set)
@@ -151,7 +154,8 @@ fn stored_end(words: &[u32], at: usize) -> usize
 
 // Adds the facts of what stands in a policy before its arms, and returns the index of the word after that. Stored decisions name nothing.
 fn collect_own_facts(words: &[u32], at: usize, set: &mut [u64]) -> usize
-    requires { ⌜ at < length (now words) ⌝ }
+    requires inside { ⌜ at < length (now words) ⌝ }
+    requires sixteen { ⌜ length (now set) ≡ 16 ⌝ }
     ensures { λ r. ⌜ OwnFacts (λ ws. readCondition 31 ws) (policyHead (getD (now (words .entry)) at 0) true) (drop (at + 1) (now (words .entry))) at (now (set .entry)) (now (set .exit)) r ⌝ }
 {
     let word = words[at];
@@ -172,6 +176,7 @@ fn collect_own_facts(words: &[u32], at: usize, set: &mut [u64]) -> usize
 
 // Adds the facts of the policy at `at`, which ends with the words. These were checked before, so its nodes need no level: each is seen as it comes.
 fn collect_policy_facts(words: &[u32], at: usize, set: &mut [u64])
+    requires { ⌜ length (now set) ≡ 16 ⌝ }
     ensures { λ r. ⌜ ToTheEnd names (readPolicy (productSets .value) true levels (drop at (now (words .entry)))) (now (set .entry)) (now (set .exit)) ⌝ }
 {
     let mut next = at;

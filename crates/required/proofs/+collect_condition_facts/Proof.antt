@@ -16,7 +16,7 @@ use Rattle.required.proofs.+collect_condition_facts.Lts-collect_conditi
 use Rattle.policy_model.proofs.condition_head.Reads as condition-head-reads
 use Rattle.required.proofs.collect_has_facts.Reads as collect-has-facts-reads
 use Rattle.required.proofs.condition_arms.Reads as condition-arms-reads
-use Rattle.fact_set.proofs.insert.Reads as insert-reads
+use Rattle.fact_set.proofs.put.Reads as put-reads
 use Rattle.required.proofs.+collect_condition_facts.{statement}
 use Rattle.required.proofs.+collect_condition_facts.Tie.{close}
 
@@ -38,7 +38,7 @@ module _ (t : ℕ) where
 
   -- what it calls
   abbrev calls : lts.Claims
-  calls = (insert-reads.Asked, insert-reads.Learnt, condition-head-reads.Asked, condition-head-reads.Learnt, condition-arms-reads.Asked, condition-arms-reads.Learnt, collect-has-facts-reads.Asked, collect-has-facts-reads.Learnt, below, reads.Post)
+  calls = (put-reads.Asked, put-reads.Learnt, condition-head-reads.Asked, condition-head-reads.Learnt, condition-arms-reads.Asked, condition-arms-reads.Learnt, collect-has-facts-reads.Asked, collect-has-facts-reads.Learnt, below, reads.Post)
 
   returns : lts.Need-returns calls here reads.Post Inv-loop μ-loop
   returns c =
@@ -56,8 +56,8 @@ module _ (t : ℕ) where
   shared-slice-read-word : lts.Need-shared-slice-read-word calls here reads.Post Inv-loop μ-loop
   shared-slice-read-word c = search needs
 
-  collect-condition-facts-insert-requires : lts.Need-insert-requires calls here reads.Post Inv-loop μ-loop
-  collect-condition-facts-insert-requires c κs = search needs
+  collect-condition-facts-put-requires : lts.Need-put-requires calls here reads.Post Inv-loop μ-loop
+  collect-condition-facts-put-requires c κs = search needs
 
   add-result : lts.Need-add-result calls here reads.Post Inv-loop μ-loop
   add-result c = search needs
@@ -71,7 +71,7 @@ module _ (t : ℕ) where
       let test = put .before .before in
       let level = test .before .before in
       let a = level .before .before .before .before .args in
-      has-walked (a .words .now) (a .at) (a .depth) _ (level .before .if1 .left) (level .if2 .left) _ (test .if3 .taken) (put .insert .ensures)
+      has-walked (a .words .now) (a .at) (a .depth) _ (level .before .if1 .left) (level .if2 .left) _ (test .if3 .taken) (put .put .ensures)
 
   condition-head-requires : lts.Need-condition-head-requires calls here reads.Post Inv-loop μ-loop
   condition-head-requires c κs = search needs
@@ -152,7 +152,7 @@ pub +collect-condition-facts-spec : {M : Type 1} → statement M
     (returns-2 t)
     (mul-word t)
     (shared-slice-read-word t)
-    (collect-condition-facts-insert-requires t)
+    (collect-condition-facts-put-requires t)
     (add-result t)
     (same-length t)
     (returns-3 t)

@@ -15,8 +15,8 @@ mul-word c = search needs
 shared-slice-read-word : tie.Need-shared-slice-read-word
 shared-slice-read-word c = search needs
 
-insert-requires : tie.Need-insert-requires
-insert-requires c κs = search needs
+put-requires : tie.Need-put-requires
+put-requires c κs = search needs
 
 add-result : tie.Need-add-result
 add-result c = search needs
@@ -30,7 +30,7 @@ returns-2 c =
     let test = put .before .before in
     let word = test .before .before in
     let a = word .before .before .before .args in
-    has-here (a .words .now) (a .at) (a .depth) _ _ (word .if1 .left) (test .if2 .taken) (put .insert .ensures)
+    has-here (a .words .now) (a .at) (a .depth) _ _ (word .if1 .left) (test .if2 .taken) (put .put .ensures)
 
 collect-condition-facts-requires : tie.Need-collect-condition-facts-requires
 collect-condition-facts-requires c κs = search needs
@@ -48,7 +48,7 @@ collect-grant-facts-spec =
     returns
     mul-word
     shared-slice-read-word
-    insert-requires
+    put-requires
     add-result
     same-length
     returns-2

@@ -36,8 +36,8 @@ same-length-2 c = search needs
 returns-2 : tie.Need-returns-2 Inv-loop μ-loop
 returns-2 c = let at-loop = c .before .before .before .before in record { fewer = at-loop .loop .inv .1; goes-on = at-loop .loop .inv .2 }
 
-insert-requires : tie.Need-insert-requires Inv-loop μ-loop
-insert-requires c κs = search needs
+put-requires : tie.Need-put-requires Inv-loop μ-loop
+put-requires c κs = search needs
 
 add-next : tie.Need-add-next Inv-loop μ-loop
 add-next c = search needs
@@ -54,7 +54,7 @@ loop-again c =
     let test = put .before .before in
     let word = test .before .before in
     let at-loop = word .before .before in
-    (search needs, omega (arith, at-loop .loop .inv .1), λ d. onward-more-C d _ _ _ _ _ _ _ _ _ (word .before .loop-test .taken) (has-here _ _ d _ _ (word .if1 .left) (test .if2 .left) (put .insert .ensures)) (at-loop .loop .inv .2 d))
+    (search needs, omega (arith, at-loop .loop .inv .1), λ d. onward-more-C d _ _ _ _ _ _ _ _ _ (word .before .loop-test .taken) (has-here _ _ d _ _ (word .if1 .left) (test .if2 .left) (put .put .ensures)) (at-loop .loop .inv .2 d))
 
 same-length-3 : tie.Need-same-length-3 Inv-loop μ-loop
 same-length-3 c = search needs
@@ -75,7 +75,7 @@ collect-has-facts-spec =
     shared-slice-read-word
     same-length-2
     returns-2
-    insert-requires
+    put-requires
     add-next
     sub-left
     loop-less

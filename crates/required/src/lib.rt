@@ -19,7 +19,7 @@ ghost use Rattle.policy_model.specs.Heads.{permitTraceNode, denyTraceNode, poli
 ghost use Rattle.required.specs.Sets.{Collected, ToTheEnd};
 ghost use Rattle.required.specs.Counts.{CountedFour};
 ghost use Rattle.required.specs.Nodes.{conditionArms, Ended, StoredAt, OwnFacts};
-ghost use Rattle.required.specs.Arms.{PassedHas};
+ghost use Rattle.required.specs.Arms.{PassedHas, PassedTo};
 ghost use Rattle.required.specs.Answers.{setAfter, Filled, FactsOf, Answered, treeOf};
 
 // How many conditions follow a condition's first word as its arms.
@@ -38,7 +38,7 @@ fn condition_arms(head: ConditionHead) -> u32
     }
 }
 
-// Where arms that were passed over end, and how many are left.
+// Where what was passed over ends, and how many conditions are left there.
 struct Passed {
     next: usize,
     left: u32,
@@ -69,7 +69,8 @@ fn collect_has_facts(words: &[u32], at: usize, count: u32, set: &mut [u64]) -> P
 // Adds the facts of the condition at `at`, of at most `depth` levels, and returns the index of the word after it.
 fn collect_condition_facts(words: &[u32], at: usize, depth: usize, set: &mut [u64]) -> usize
     requires { ⌜ length (now set) ≡ 16 ⌝ }
-    ensures { λ r. ⌜ Collected wordsC namesC at (now (set .entry)) (now (set .exit)) (readCondition depth (drop at (now (words .entry)))) r ⌝ }
+    ensures facts { λ r. ⌜ Collected wordsC namesC at (now (set .entry)) (now (set .exit)) (readCondition depth (drop at (now (words .entry)))) r ⌝ }
+    ensures forward { λ r. ⌜ at ≤ r ⌝ }
 {
     if words.len() <= at {
         return at;
@@ -98,30 +99,32 @@ fn collect_condition_facts(words: &[u32], at: usize, depth: usize, set: &mut [u6
     next
 }
 
-// The same of a grant's condition. Most are a Has, seen here with no call.
-fn collect_grant_facts(words: &[u32], at: usize, depth: usize, set: &mut [u64]) -> usize
+// Adds the fact of a grant's condition at `at` that is a Has, as most are. Any other is left.
+fn collect_grant_fact(words: &[u32], at: usize, set: &mut [u64]) -> Passed
     requires { ⌜ length (now set) ≡ 16 ⌝ }
-    ensures { λ r. ⌜ Collected wordsC namesC at (now (set .entry)) (now (set .exit)) (readCondition depth (drop at (now (words .entry)))) r ⌝ }
+    ensures { λ r. ⌜ PassedTo (λ ws. readCondition 31 ws) (now (words .entry)) at (λ u end. Collected wordsC namesC at (now (set .entry)) u (readCondition 31 (drop at (now (words .entry)))) end) (now (set .exit)) r ⌝ }
 {
     if words.len() <= at {
-        return at;
+        return Passed { next: at, left: 0 };
     }
     let word = words[at];
-    if word / policy_model::FACTS == policy_model::HAS {
-        fact_set::put(set, word % 1024);
-        return at + 1;
+    if word / policy_model::FACTS != policy_model::HAS {
+        return Passed { next: at, left: 1 };
     }
-    collect_condition_facts(words, at, depth, set)
+    fact_set::put(set, word % 1024);
+    let next = at + 1;
+    Passed { next, left: 0 }
 }
 
 // Where a PermitWithTrace ends: two words, its obligations and its facts.
 fn permit_trace_end(words: &[u32], at: usize, obligations: u32) -> usize
     requires { ⌜ at < length (now words) ⌝ }
-    ensures { λ r. ⌜ ((o : ℕ) → Ended at (permitTraceNode obligations o (drop (at + 1) (now (words .entry)))) r) ⌝ }
+    ensures ends { λ r. ⌜ ((o : ℕ) → Ended at (permitTraceNode obligations o (drop (at + 1) (now (words .entry)))) r) ⌝ }
+    ensures forward { λ r. ⌜ at < r ⌝ }
 {
     let second = at + 1;
     if words.len() <= second {
-        return at;
+        return second;
     }
     let facts = (words[second] % 65536) as usize;
     at + 2 + (obligations as usize + 3) / 4 + (facts + 1) / 2
@@ -130,11 +133,12 @@ fn permit_trace_end(words: &[u32], at: usize, obligations: u32) -> usize
 // Where a DenyWithTrace ends: three words and its facts.
 fn deny_trace_end(words: &[u32], at: usize) -> usize
     requires { ⌜ at < length (now words) ⌝ }
-    ensures { λ r. ⌜ ((hidden denied : Bool) (o : ℕ) → Ended at (denyTraceNode hidden denied o (drop (at + 1) (now (words .entry)))) r) ⌝ }
+    ensures ends { λ r. ⌜ ((hidden denied : Bool) (o : ℕ) → Ended at (denyTraceNode hidden denied o (drop (at + 1) (now (words .entry)))) r) ⌝ }
+    ensures forward { λ r. ⌜ at < r ⌝ }
 {
     let third = at + 2;
     if words.len() <= third {
-        return at;
+        return third;
     }
     let facts = words[third] as usize;
     at + 3 + (facts + 1) / 2
@@ -143,7 +147,8 @@ fn deny_trace_end(words: &[u32], at: usize) -> usize
 // Where a stored decision ends: kind 12, or 13.
 fn stored_end(words: &[u32], at: usize) -> usize
     requires { ⌜ StoredAt (now words) at ⌝ }
-    ensures { λ r. ⌜ ((pc : List ℕ → Parsed Condition) (s : List ℕ) → OwnFacts pc (policyHead (getD (now (words .entry)) at 0) true) (drop (at + 1) (now (words .entry))) at s s r) ⌝ }
+    ensures facts { λ r. ⌜ ((pc : List ℕ → Parsed Condition) (s : List ℕ) → OwnFacts pc (policyHead (getD (now (words .entry)) at 0) true) (drop (at + 1) (now (words .entry))) at s s r) ⌝ }
+    ensures forward { λ r. ⌜ at < r ⌝ }
 {
     let word = words[at];
     if word / policy_model::KIND == 12 {
@@ -152,26 +157,27 @@ fn stored_end(words: &[u32], at: usize) -> usize
     deny_trace_end(words, at)
 }
 
-// Adds the facts of what stands in a policy before its arms, and returns the index of the word after that. Stored decisions name nothing.
-fn collect_own_facts(words: &[u32], at: usize, set: &mut [u64]) -> usize
+// Adds the facts of what stands in a policy before its arms, up to the word after that. A grant's condition may be left. Stored decisions name nothing.
+fn collect_own_facts(words: &[u32], at: usize, set: &mut [u64]) -> Passed
     requires inside { ⌜ at < length (now words) ⌝ }
     requires sixteen { ⌜ length (now set) ≡ 16 ⌝ }
-    ensures { λ r. ⌜ OwnFacts (λ ws. readCondition 31 ws) (policyHead (getD (now (words .entry)) at 0) true) (drop (at + 1) (now (words .entry))) at (now (set .entry)) (now (set .exit)) r ⌝ }
+    ensures { λ r. ⌜ PassedTo (λ ws. readCondition 31 ws) (now (words .entry)) (at + 1) (λ u end. OwnFacts (λ ws. readCondition 31 ws) (policyHead (getD (now (words .entry)) at 0) true) (drop (at + 1) (now (words .entry))) at (now (set .entry)) u end) (now (set .exit)) r ⌝ }
 {
     let word = words[at];
     let kind = word / policy_model::KIND;
     if kind == 8 {
-        return collect_grant_facts(
+        return collect_grant_fact(
             words,
             at + 2 + ((word / 1048576 % 128) as usize + 3) / 4,
-            31,
             set,
         );
     }
     if kind < 12 {
-        return at + 1;
+        let next = at + 1;
+        return Passed { next, left: 0 };
     }
-    stored_end(words, at)
+    let next = stored_end(words, at);
+    Passed { next, left: 0 }
 }
 
 // Adds the facts of the policy at `at`, which ends with the words. These were checked before, so its nodes need no level: each is seen as it comes.
@@ -181,11 +187,11 @@ fn collect_policy_facts(words: &[u32], at: usize, set: &mut [u64])
 {
     let mut next = at;
     while next < words.len() {
-        let after = collect_own_facts(words, next, set);
-        if after <= next {
-            return;
+        let passed = collect_own_facts(words, next, set);
+        next = passed.next;
+        if passed.left != 0 {
+            next = collect_condition_facts(words, next, 31, set);
         }
-        next = after;
     }
 }
 

@@ -1,13 +1,13 @@
 -- `required::count_four` meets its contract: the numbers counted, and the bits of the numbers that are left. Assumes nothing.
 use borrow.Author.Needs.{needs}
-use mathlib.Core.Path.{_≡_, refl, _∙_, ap}
+use mathlib.Core.Path.{_≡_}
 use mathlib.Core.Logic.{⊎-elim}
-use Prim.Native.Nat.{ℕ, _+_, _-_, _*_, _^_, _≤_, _<_}
+use Prim.Native.Nat.{_+_, _-_, _*_, _^_, _≤_, _<_}
 use native.Mathlib.Omega.{arith}
 use lib.ListN.{drop, getD}
 use lib.Count.{ones-le}
 use Rattle.model.specs.Required.{ones}
-use Rattle.required.specs.Counts.{ones-next, ones-zero, CountedFour}
+use Rattle.required.specs.Counts.{ones-next, ones-zero}
 use Rattle.required.proofs.count_four.Statement.{statement}
 use Rattle.required.proofs.count_four.Tie as tie
 

@@ -1,11 +1,11 @@
 -- The facts of a condition, from its own and those of its arms. Assumes nothing.
-use mathlib.Core.Path.{_≡_, refl, sym, _∙_, ap, ap₂, subst}
+use mathlib.Core.Path.{_≡_, refl, sym, _∙_, ap, subst}
 use mathlib.Core.Bool.{Bool, true, false, cond, or-false}
 use mathlib.Core.List.{List, [], _∷_}
 use Prim.Native.Nat.{ℕ, zero, suc, _+_, _-_, _/_, _%_, _≤_, _<_}
 use native.Mathlib.Numerals.{add-one}
 use native.Mathlib.Omega.{arith}
-use borrow.Author.Tests.{ltb-true, lt-ltb}
+use borrow.Author.Tests.{ltb-true}
 use lib.Dec.{eqb, ltb}
 use lib.ListN.{length, drop, getD, drop-of-length-le}
 use lib.Seq.{drop-cons}
@@ -20,7 +20,7 @@ use Rattle.policy_model.specs.declared.ConditionHead.{ConditionHead}
 use Rattle.policy_model.specs.declared.ConditionHead.the-variants.{Always, Never, Has, Not}
 use Rattle.policy_model.specs.declared.ConditionHead.the-variants as condition
 use Rattle.policy_model.specs.Heads.{conditionHeads, conditionHead, conditionNode}
-use Rattle.policy_model.specs.HeadLaws.{condition-node}
+use Rattle.policy_model.specs.HeadLaws.{condition-node, has-word}
 use Rattle.fact_set.specs.Sets.{Grown}
 use Rattle.required.specs.Sets.{Walked, Collected}
 use Rattle.required.specs.Nodes.{conditionArms}
@@ -102,13 +102,6 @@ module _ (sheet : List ℕ) (at depth : ℕ) where
       level zero g = absurd (g refl)
       level (suc d) g = condition-node d (getD sheet at 0) (drop (suc at) sheet) ∙ ap (λ k. conditionNode (λ vs. readCondition k vs) (conditionHead (getD sheet at 0)) (drop (suc at) sheet)) (let e : d ≡ suc d - 1 = omega arith in e)
 
--- A Has by its word: kind 2, zero (18), fact (10).
-has-head : (w : ℕ) → w / 1024 ≡ 524288 → conditionHead w ≡ Has (w % 1024)
-unfolding conditionHead
-has-head w e =
-    ap₂ (λ k r. getD (conditionHeads r) k condition.BadKind) (let k : w / 268435456 ≡ 2 = omega arith in k) (let r : w % 268435456 ≡ w % 1024 = omega arith in r)
-    ∙ ap (λ b. cond b (Has (w % 1024)) condition.BadField) (lt-ltb (w % 1024) 1024 (omega arith))
-
 no-fact-if : (b : Bool) (h : ConditionHead) (f : ℕ) → (b ≡ true → ownFact h f ≡ false) → ownFact (cond b h condition.BadField) f ≡ false
 unfolding ownFact
 no-fact-if true h f e = e refl
@@ -135,7 +128,7 @@ module _ (sheet : List ℕ) (at depth : ℕ) (s : List ℕ) (inside : at < lengt
   has-walked t e g =
       let w = getD sheet at 0 in
       let v : Walked at 1 (at + 1) (λ f. eqb f (w % 1024)) s t = record { ends = refl; adds = g } in
-      rw (condition-here sheet at depth inside some, has-head w e) v
+      rw (condition-here sheet at depth inside some, ← has-word w e) v
 
   -- Any other: the head, and the arms to the last.
   pub condition-walked : (end : ℕ) (u : List ℕ) (h : ConditionHead) (count left : ℕ) → (getD sheet at 0 / 1024 ≡ 524288 → ⊥) → h ≡ conditionHead (getD sheet at 0) → count ≡ conditionArms h → left ≡ 0 →

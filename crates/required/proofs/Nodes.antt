@@ -9,9 +9,7 @@ use borrow.Author.Tests.{eq-eqb, ne-eqb}
 use lib.ListN.{length, drop, getD, drop-of-length-le, replicate}
 use lib.Seq.{drop-cons, drop-drop}
 use Rattle.model.specs.Outcome.{productSets}
-use Rattle.model.specs.Condition.{Condition}
-use Rattle.model.specs.Decision.{permits, denies}
-use Rattle.model.specs.Policy.{Policy, permit, deny, grant, all, any, orElse, stored, Policies, pnil, pcons, names, namess}
+use Rattle.model.specs.Policy.{Policy, permit, deny, all, any, orElse, Policies, pnil, pcons, names, namess}
 use Rattle.model.specs.Reading.{Parsed, refuse, got, next, many, levels, readCondition, readPolicy}
 use Rattle.model.specs.Required.{factSet, ones}
 use Rattle.laws.specs.FieldLaws.{Holds}
@@ -173,38 +171,6 @@ module _ (sheet : List ℕ) (at mid : ℕ) (s t : List ℕ) where
   end-node policy.BadKind n u l v w = tt
   end-node policy.BadField n u l v w = tt
 
-  -- A node that reads is passed.
-  a-word : (a : Policy ℕ) → 0 < words a
-  a-word (permit o) = omega arith
-  a-word deny = omega arith
-  a-word (grant g c) = omega arith
-  a-word (all ts) = omega arith
-  a-word (any ts) = omega arith
-  a-word (orElse a b) = omega arith
-  a-word (stored (permits p)) = omega arith
-  a-word (stored (denies d)) = omega arith
-
-  stuck-first : (n : ℕ) (u : List ℕ) (q : Parsed (Policy ℕ)) → mid ≤ at → Collected words names at s t q mid → ToTheEnd namess (andMore n q) s u
-  unfolding ToTheEnd Collected
-  stuck-first n u (refuse k) h v = tt
-  stuck-first n u (got a vs) h v = absurd (omega (arith, v .ends, a-word a))
-
-  stuck-open : {G : Type 0} → mid ≤ at → Walked at 1 mid (λ f. false) s t → G
-  stuck-open h v = absurd (omega (arith, v .ends))
-
-  stuck-node : (h : PolicyHead) (n : ℕ) (u : List ℕ) → mid ≤ at → OwnFacts (λ vs. readCondition 31 vs) h here at s t mid → ToTheEnd namess (andMore n (policyNode (λ vs. readCondition 31 vs) P h here)) s u
-  unfolding ToTheEnd OwnFacts policyNode
-  stuck-node (Permit o) n u l v = stuck-first n u (got (permit o) here) l v
-  stuck-node Deny n u l v = stuck-first n u (got deny here) l v
-  stuck-node (Grant hidden k o) n u l v = stuck-first n u (policyNode (λ vs. readCondition 31 vs) P (Grant hidden k o) here) l v
-  stuck-node (policy.All k) n u l v = stuck-open l v
-  stuck-node (policy.Any k) n u l v = stuck-open l v
-  stuck-node OrElse n u l v = stuck-open l v
-  stuck-node (PermitWithTrace k o) n u l v = stuck-first n u (policyNode (λ vs. readCondition 31 vs) P (PermitWithTrace k o) here) l v
-  stuck-node (DenyWithTrace hidden denied o) n u l v = stuck-first n u (policyNode (λ vs. readCondition 31 vs) P (DenyWithTrace hidden denied o) here) l v
-  stuck-node policy.BadKind n u l v = tt
-  stuck-node policy.BadField n u l v = tt
-
   module _ (inside : at < length sheet) (own : OwnFacts (λ vs. readCondition 31 vs) (policyHead (getD sheet at 0) true) here at s t mid) where
     -- Words that go on after the last node.
     no-node : (u : List ℕ) → ToTheEnd namess (many pnil pcons Q 0 (drop at sheet)) s u
@@ -224,14 +190,6 @@ module _ (sheet : List ℕ) (at mid : ℕ) (s t : List ℕ) where
 
     pub toward-more : (from : ℕ) (r : List ℕ) → Toward sheet from r at s → Toward sheet from r mid t
     toward-more from r o = record { nodes = policyArms (policyHead (getD sheet at 0) true) + (o .nodes - 1); toward = λ u w. o .toward u (pass (o .nodes) u w) }
-
-    -- A node that does not read.
-    stuck : (n : ℕ) (u : List ℕ) → mid ≤ at → ToTheEnd namess (many pnil pcons Q n (drop at sheet)) s u
-    stuck zero u l = no-node u
-    stuck (suc n) u l = subst (λ q. ToTheEnd namess (andMore n q) s u) (sym (policy-here sheet at inside)) (stuck-node (policyHead (getD sheet at 0) true) n u l own)
-
-    pub toward-nowhere : (from : ℕ) (r : List ℕ) → mid ≤ at → Toward sheet from r at s → ToTheEnd names (Q (drop from sheet)) r t
-    toward-nowhere from r l o = o .toward t (stuck (o .nodes) t l)
 
 -- ---- the walk begins with one node, and ends with the words
 one-node : (q : Parsed (Policy ℕ)) (s u : List ℕ) → ToTheEnd namess (andMore 0 q) s u → ToTheEnd names q s u

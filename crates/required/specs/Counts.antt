@@ -7,6 +7,7 @@ use native.Mathlib.Nat.{one-mul, add-comm, div-add-mod', mod-lt}
 use native.Mathlib.Numerals.{add-one}
 use native.Mathlib.Omega.{arith}
 use lib.Pow.{pow-pos, shr-lt}
+use lib.Bits.{bitOr, or-add-and, and-le-l, and-le-r}
 use lib.Count as count
 use lib.ListN.{length, drop, getD, drop-of-length-le}
 use lib.Seq.{drop-cons}
@@ -90,3 +91,27 @@ ones-zero number e = ap count.ones e ∙ low-bit 0 (omega arith)
 
 pub ones-end : (numbers : List ℕ) (i : ℕ) → length numbers ≤ i → ones (drop i numbers) ≡ 0
 ones-end numbers i h = ap ones (drop-of-length-le numbers h)
+
+-- Four numbers counted, and those after them.
+pub record CountedFour (numbers : List ℕ) (at r : ℕ) : Type 0 where
+  pub few : r ≤ 256
+  pub counted : r + ones (drop (at + 4) numbers) ≡ ones (drop at numbers)
+
+-- Zero numbers are passed over.
+pass-zero : (numbers : List ℕ) (i j : ℕ) → i + 1 ≡ j → i < length numbers → getD numbers i 0 ≡ 0 → ones (drop i numbers) ≡ ones (drop j numbers)
+pass-zero numbers i j n h e = omega (arith, ones-next numbers i h (omega arith), ones-zero (getD numbers i 0) e) ∙ ap (λ k. ones (drop k numbers)) n
+
+no-bits : (a b : ℕ) → bitOr a b ≡ 0 → (a ≡ 0) × (b ≡ 0)
+no-bits a b e = (omega (arith, or-add-and a b, and-le-r a b), omega (arith, or-add-and a b, and-le-l a b))
+
+pub pass-four : (numbers : List ℕ) (i : ℕ) → i + 4 ≤ length numbers →
+    bitOr (bitOr (bitOr (getD numbers i 0) (getD numbers (i + 1) 0)) (getD numbers (i + 2) 0)) (getD numbers (i + 3) 0) ≡ 0 → ones (drop (i + 4) numbers) ≡ ones (drop i numbers)
+pass-four numbers i h e =
+    let last = no-bits _ _ e in
+    let third = no-bits _ _ (last .0) in
+    let first = no-bits _ _ (third .0) in
+    sym
+    (pass-zero numbers i (i + 1) (omega arith) (omega arith) (first .0)
+    ∙ pass-zero numbers (i + 1) (i + 2) (omega arith) (omega arith) (first .1)
+    ∙ pass-zero numbers (i + 2) (i + 3) (omega arith) (omega arith) (third .1)
+    ∙ pass-zero numbers (i + 3) (i + 4) (omega arith) (omega arith) (last .1))

@@ -2,7 +2,7 @@
 -- are left with each turn of the loop. Assumes nothing.
 use borrow.Author.Needs.{needs}
 use mathlib.Core.Path.{_≡_, refl}
-use Prim.Native.Nat.{ℕ, _-_, _<_}
+use Prim.Native.Nat.{ℕ, _-_, _≤_, _<_}
 use lib.ListN.{length}
 use native.Mathlib.Omega.{arith}
 use Rattle.required.specs.Arms.{OnwardC}
@@ -16,7 +16,7 @@ use Rattle.required.proofs.+collect_condition_facts.Lts-collect_conditi
 use Rattle.policy_model.proofs.condition_head.Reads as condition-head-reads
 use Rattle.required.proofs.collect_has_facts.Reads as collect-has-facts-reads
 use Rattle.required.proofs.condition_arms.Reads as condition-arms-reads
-use Rattle.fact_set.proofs.insert.Reads as insert-reads
+use Rattle.fact_set.proofs.put.Reads as put-reads
 use Rattle.required.proofs.+collect_condition_facts.{statement}
 use Rattle.required.proofs.+collect_condition_facts.Tie.{close}
 
@@ -24,7 +24,7 @@ abbrev μ : Measures 2 kinds.ps ℕ
 μ κs a = a .1 .1 .0
 
 abbrev Inv-loop : lts.InvT-loop
-Inv-loop words at depth set₀ word left₀ next₀ set left next = (length set ≡ length set₀) × OnwardC (depth - 1) words next₀ left₀ set₀ next left set
+Inv-loop words at depth set₀ word left₀ next₀ set left next = (length set ≡ length set₀) × (at ≤ next) × OnwardC (depth - 1) words next₀ left₀ set₀ next left set
 
 abbrev μ-loop : lts.MeasureT-loop
 μ-loop words at depth set₀ word left₀ next₀ set left next = left
@@ -38,17 +38,17 @@ module _ (t : ℕ) where
 
   -- what it calls
   abbrev calls : lts.Claims
-  calls = (insert-reads.Asked, insert-reads.Learnt, condition-head-reads.Asked, condition-head-reads.Learnt, condition-arms-reads.Asked, condition-arms-reads.Learnt, collect-has-facts-reads.Asked, collect-has-facts-reads.Learnt, below, reads.Post)
+  calls = (put-reads.Asked, put-reads.Learnt, condition-head-reads.Asked, condition-head-reads.Learnt, condition-arms-reads.Asked, condition-arms-reads.Learnt, collect-has-facts-reads.Asked, collect-has-facts-reads.Learnt, below, reads.Post)
 
   returns : lts.Need-returns calls here reads.Post Inv-loop μ-loop
   returns c =
       let a = c .before .before .before .args in
-      condition-past (a .words .now) (a .at) (a .depth) _ _ _ (c .if1 .taken)
+      (condition-past (a .words .now) (a .at) (a .depth) _ _ _ (c .if1 .taken), omega arith)
 
   returns-2 : lts.Need-returns-2 calls here reads.Post Inv-loop μ-loop
   returns-2 c =
       let a = c .before .before .before .before .args in
-      condition-deep (a .words .now) (a .at) (a .depth) _ _ _ (c .before .if1 .left) (c .if2 .taken)
+      (condition-deep (a .words .now) (a .at) (a .depth) _ _ _ (c .before .if1 .left) (c .if2 .taken), omega arith)
 
   mul-word : lts.Need-mul-word calls here reads.Post Inv-loop μ-loop
   mul-word c = search needs
@@ -56,8 +56,8 @@ module _ (t : ℕ) where
   shared-slice-read-word : lts.Need-shared-slice-read-word calls here reads.Post Inv-loop μ-loop
   shared-slice-read-word c = search needs
 
-  collect-condition-facts-insert-requires : lts.Need-insert-requires calls here reads.Post Inv-loop μ-loop
-  collect-condition-facts-insert-requires c κs = search needs
+  collect-condition-facts-put-requires : lts.Need-put-requires calls here reads.Post Inv-loop μ-loop
+  collect-condition-facts-put-requires c κs = search needs
 
   add-result : lts.Need-add-result calls here reads.Post Inv-loop μ-loop
   add-result c = search needs
@@ -71,7 +71,7 @@ module _ (t : ℕ) where
       let test = put .before .before in
       let level = test .before .before in
       let a = level .before .before .before .before .args in
-      has-walked (a .words .now) (a .at) (a .depth) _ (level .before .if1 .left) (level .if2 .left) _ (test .if3 .taken) (put .insert .ensures)
+      (has-walked (a .words .now) (a .at) (a .depth) _ (level .before .if1 .left) (level .if2 .left) _ (test .if3 .taken) (put .put .ensures), omega arith)
 
   condition-head-requires : lts.Need-condition-head-requires calls here reads.Post Inv-loop μ-loop
   condition-head-requires c κs = search needs
@@ -83,7 +83,7 @@ module _ (t : ℕ) where
   add-next c = search needs
 
   loop-holds : lts.Need-loop-holds calls here reads.Post Inv-loop μ-loop
-  loop-holds c = (refl, record { onward = λ u end w. w })
+  loop-holds c = (refl, omega arith, record { onward = λ u end w. w })
 
   has-facts-requires : lts.Need-collect-has-facts-requires calls here reads.Post Inv-loop μ-loop
   has-facts-requires c κs = search needs
@@ -99,9 +99,11 @@ module _ (t : ℕ) where
       let head = arms .before in
       let test = head .before in
       let level = test .before .before in
-      let a = level .before .before .before .before .args in
-      condition-walked (a .words .now) (a .at) (a .depth) _ (level .before .if1 .left) (level .if2 .left) _ _ _ _ _ (test .if3 .left) (head .condition-head .ensures) (arms .condition-arms .ensures)
-      (c .if4 .taken) (onward-then _ _ _ _ _ _ _ _ _ (at-loop .loop .inv .1) (has .collect-has-facts .ensures .goes-on (a .depth - 1)))
+      let a = level .before .before .before .before .args in (
+        condition-walked (a .words .now) (a .at) (a .depth) _ (level .before .if1 .left) (level .if2 .left) _ _ _ _ _ (test .if3 .left) (head .condition-head .ensures) (arms .condition-arms .ensures)
+            (c .if4 .taken) (onward-then _ _ _ _ _ _ _ _ _ (at-loop .loop .inv .2) (has .collect-has-facts .ensures .goes-on (a .depth - 1))),
+        omega (arith, at-loop .loop .inv .1, has .collect-has-facts .ensures .forward),
+      )
 
   sub-collect-condition-facts : lts.Need-sub-collect-condition-facts calls here reads.Post Inv-loop μ-loop
   sub-collect-condition-facts c = search needs
@@ -127,8 +129,9 @@ module _ (t : ℕ) where
       let at-loop = has .before .before .before in
       let a = at-loop .before .before .before .before .before .before .before .before .before .args in (
         search needs,
-        onward-more-C (a .depth - 1) _ _ _ _ _ _ _ _ _ (test .if4 .left) (turn .collect-condition-facts .ensures)
-            (onward-then _ _ _ _ _ _ _ _ _ (at-loop .loop .inv .1) (has .collect-has-facts .ensures .goes-on (a .depth - 1))),
+        omega (arith, at-loop .loop .inv .1, has .collect-has-facts .ensures .forward, turn .collect-condition-facts .ensures .1),
+        onward-more-C (a .depth - 1) _ _ _ _ _ _ _ _ _ (test .if4 .left) (turn .collect-condition-facts .ensures .0)
+            (onward-then _ _ _ _ _ _ _ _ _ (at-loop .loop .inv .2) (has .collect-has-facts .ensures .goes-on (a .depth - 1))),
       )
 
   same-length-3 : lts.Need-same-length-3 calls here reads.Post Inv-loop μ-loop
@@ -140,9 +143,11 @@ module _ (t : ℕ) where
       let head = arms .before in
       let test = head .before in
       let level = test .before .before in
-      let a = level .before .before .before .before .args in
-      condition-walked (a .words .now) (a .at) (a .depth) _ (level .before .if1 .left) (level .if2 .left) _ _ _ _ _ (test .if3 .left) (head .condition-head .ensures) (arms .condition-arms .ensures)
-      (c .loop-test .left) (c .before .loop .inv .1)
+      let a = level .before .before .before .before .args in (
+        condition-walked (a .words .now) (a .at) (a .depth) _ (level .before .if1 .left) (level .if2 .left) _ _ _ _ _ (test .if3 .left) (head .condition-head .ensures) (arms .condition-arms .ensures)
+            (c .loop-test .left) (c .before .loop .inv .2),
+        omega (arith, c .before .loop .inv .1),
+      )
 
 pub +collect-condition-facts-spec : {M : Type 1} → statement M
 +collect-condition-facts-spec =
@@ -152,7 +157,7 @@ pub +collect-condition-facts-spec : {M : Type 1} → statement M
     (returns-2 t)
     (mul-word t)
     (shared-slice-read-word t)
-    (collect-condition-facts-insert-requires t)
+    (collect-condition-facts-put-requires t)
     (add-result t)
     (same-length t)
     (returns-3 t)

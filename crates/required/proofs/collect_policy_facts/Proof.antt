@@ -1,9 +1,10 @@
 -- `required::collect_policy_facts` meets its contract: what answers for the nodes from `next` on answers for the policy. The words that are left fall with each turn. Assumes nothing.
 use mathlib.Core.Path.{_≡_, refl}
 use Prim.Native.Nat.{_-_}
+use native.Mathlib.Omega.{arith}
 use lib.ListN.{length}
 use Rattle.required.specs.Arms.{Toward}
-use Rattle.required.proofs.Nodes.{toward-start, toward-more, toward-nowhere, toward-end}
+use Rattle.required.proofs.Nodes.{toward-start, toward-more, toward-end}
 use borrow.Author.Needs.{needs}
 use Rattle.required.proofs.collect_policy_facts.Statement.{statement}
 use Rattle.required.proofs.collect_policy_facts.Tie as tie
@@ -20,41 +21,46 @@ loop-holds c = (refl, toward-start _ _ _)
 collect-own-facts-requires : tie.Need-collect-own-facts-requires Inv-loop μ-loop
 collect-own-facts-requires c κs = search needs
 
+collect-condition-facts-requires : tie.Need-collect-condition-facts-requires Inv-loop μ-loop
+collect-condition-facts-requires c κs = search needs
+
+-- a condition was left, and walked over
+loop-less : tie.Need-loop-less Inv-loop μ-loop
+loop-less c =
+    let walk = c .before .before in
+    let own = walk .before .before .before .before .before .before in
+    let turn = own .before .before in
+    omega (arith, turn .loop-test .taken, own .collect-own-facts .ensures .forward, walk .collect-condition-facts .ensures .1)
+
+loop-again : tie.Need-loop-again Inv-loop μ-loop
+loop-again c =
+    let walk = c .before .before in
+    let test = walk .before .before in
+    let own = test .before .before .before .before in
+    let turn = own .before .before in (
+      search needs,
+      toward-more _ _ _ _ _ (turn .loop-test .taken) (own .collect-own-facts .ensures .one-left (test .if1 .taken) _ _ (walk .collect-condition-facts .ensures .0)) _ _ (turn .before .loop .inv .1),
+    )
+
+-- none was left
+loop-less-2 : tie.Need-loop-less-2 Inv-loop μ-loop
+loop-less-2 c =
+    let own = c .before .before .before .before in
+    omega (arith, own .before .before .loop-test .taken, own .collect-own-facts .ensures .forward)
+
+loop-again-2 : tie.Need-loop-again-2 Inv-loop μ-loop
+loop-again-2 c =
+    let own = c .before .before .before .before in
+    let turn = own .before .before in
+    (search needs, toward-more _ _ _ _ _ (turn .loop-test .taken) (own .collect-own-facts .ensures .none-left (c .if1 .left)) _ _ (turn .before .loop .inv .1))
+
 same-length : tie.Need-same-length Inv-loop μ-loop
 same-length c = search needs
 
 returns : tie.Need-returns Inv-loop μ-loop
-returns c =
-    let own = c .before .before .before in
-    let turn = own .before .before in
-    toward-nowhere _ _ _ _ _ (turn .loop-test .taken) (own .collect-own-facts .ensures) _ _ (c .if1 .taken) (turn .before .loop .inv .1)
-
-loop-less : tie.Need-loop-less Inv-loop μ-loop
-loop-less c = search needs
-
-loop-again : tie.Need-loop-again Inv-loop μ-loop
-loop-again c =
-    let own = c .before .before .before in
-    let turn = own .before .before in
-    (search needs, toward-more _ _ _ _ _ (turn .loop-test .taken) (own .collect-own-facts .ensures) _ _ (turn .before .loop .inv .1))
-
-same-length-2 : tie.Need-same-length-2 Inv-loop μ-loop
-same-length-2 c = search needs
-
-returns-2 : tie.Need-returns-2 Inv-loop μ-loop
-returns-2 c = toward-end _ _ _ _ _ (c .loop-test .left) (c .before .loop .inv .1)
+returns c = toward-end _ _ _ _ _ (c .loop-test .left) (c .before .loop .inv .1)
 
 pub collect-policy-facts-spec : {M : Type 1} → statement M
 collect-policy-facts-spec =
     tie.close
-    (tie.spec
-    Inv-loop
-    μ-loop
-    loop-holds
-    collect-own-facts-requires
-    same-length
-    returns
-    loop-less
-    loop-again
-    same-length-2
-    returns-2)
+    (tie.spec Inv-loop μ-loop loop-holds collect-own-facts-requires collect-condition-facts-requires loop-less loop-again loop-less-2 loop-again-2 same-length returns)

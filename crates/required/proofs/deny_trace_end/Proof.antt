@@ -11,9 +11,9 @@ add-third : tie.Need-add-third
 add-third c = search needs
 
 returns : tie.Need-returns
-returns c hidden denied o =
+returns c =
     let a = c .before .args in
-    deny-trace-ends (a .words .now) (a .at) _ hidden denied o (λ h. let z : ⊥ = omega arith in absurd z)
+    (λ hidden denied o. deny-trace-ends (a .words .now) (a .at) _ hidden denied o (λ h. let z : ⊥ = omega arith in absurd z), omega arith)
 
 mul-facts : tie.Need-mul-facts
 mul-facts c = search needs
@@ -34,9 +34,9 @@ add-result-3 : tie.Need-add-result-3
 add-result-3 c = omega (arith, c .shared-slice-known .given (c .before .before .args .at + 2))
 
 returns-2 : tie.Need-returns-2
-returns-2 c hidden denied o =
+returns-2 c =
     let a = c .before .before .args in
-    deny-trace-ends (a .words .now) (a .at) _ hidden denied o (λ h. refl)
+    (λ hidden denied o. deny-trace-ends (a .words .now) (a .at) _ hidden denied o (λ h. refl), omega arith)
 
 pub deny-trace-end-spec : {M : Type 1} → statement M
 deny-trace-end-spec =

@@ -10,9 +10,9 @@ add-second : tie.Need-add-second
 add-second c = search needs
 
 returns : tie.Need-returns
-returns c o =
+returns c =
     let a = c .before .args in
-    permit-trace-ends (a .words .now) (a .at) _ (a .obligations) o (λ h. let z : ⊥ = omega arith in absurd z)
+    (λ o. permit-trace-ends (a .words .now) (a .at) _ (a .obligations) o (λ h. let z : ⊥ = omega arith in absurd z), omega arith)
 
 mul-facts : tie.Need-mul-facts
 mul-facts c = search needs
@@ -39,9 +39,9 @@ add-result-5 : tie.Need-add-result-5
 add-result-5 c = search needs
 
 returns-2 : tie.Need-returns-2
-returns-2 c o =
+returns-2 c =
     let a = c .before .before .args in
-    permit-trace-ends (a .words .now) (a .at) _ (a .obligations) o (λ h. refl)
+    (λ o. permit-trace-ends (a .words .now) (a .at) _ (a .obligations) o (λ h. refl), omega arith)
 
 pub permit-trace-end-spec : {M : Type 1} → statement M
 permit-trace-end-spec =

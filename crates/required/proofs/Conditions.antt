@@ -23,7 +23,7 @@ use Rattle.policy_model.specs.Heads.{conditionHeads, conditionHead, conditionNo
 use Rattle.policy_model.specs.HeadLaws.{condition-node, has-word}
 use Rattle.fact_set.specs.Sets.{Grown}
 use Rattle.required.specs.Sets.{Walked, Collected}
-use Rattle.required.specs.Nodes.{conditionArms}
+use Rattle.required.specs.Nodes.{ConditionArms}
 use Rattle.required.specs.Arms.{OnwardC}
 use Rattle.required.proofs.Arms.{grown-none, grown-as, walked-then, walked-as, refused-either, left-of, onward-more, onward-end}
 
@@ -52,6 +52,43 @@ ownFact (condition.Any n) f = false
 ownFact condition.BadKind f = false
 ownFact condition.BadField f = false
 
+-- Its arms by the kind of its word.
+arms-if : (b : Bool) (h : ConditionHead) (k : ℕ) → (b ≡ true → ConditionArms h k) → ConditionArms (cond b h condition.BadField) k
+unfolding ConditionArms
+arms-if true h k a = a refl
+arms-if false h k a = tt
+
+module _ (w : ℕ) where
+  pub one-arm-word : w / 268435456 ≡ 3 → ConditionArms (conditionHead w) 1
+  unfolding conditionHead ConditionArms
+  one-arm-word e = rw e (arms-if (eqb (w % 268435456) 0) Not 1 (λ _. refl))
+
+  -- A count that fits its twelve bits.
+  counted-arms : (node : ℕ → ConditionHead) → ((n : ℕ) → n ≡ w % 4096 → ConditionArms (node n) (w % 4096)) → ConditionArms (cond (ltb (w % 268435456) 4096) (node (w % 268435456)) condition.BadField) (w % 4096)
+  counted-arms node f = arms-if (ltb (w % 268435456) 4096) (node (w % 268435456)) (w % 4096) (λ b. let small = ltb-true (w % 268435456) 4096 b in f (w % 268435456) (omega arith))
+
+  pub all-arms-word : w / 268435456 ≡ 4 → ConditionArms (conditionHead w) (w % 4096)
+  unfolding conditionHead ConditionArms
+  all-arms-word e = rw e (counted-arms condition.All (λ n h. sym h))
+
+  pub any-arms-word : w / 268435456 ≡ 5 → ConditionArms (conditionHead w) (w % 4096)
+  unfolding conditionHead ConditionArms
+  any-arms-word e = rw e (counted-arms condition.Any (λ n h. sym h))
+
+no-arms-at : (k r : ℕ) → (k ≡ 3 → ⊥) → (k ≡ 4 → ⊥) → (k ≡ 5 → ⊥) → ConditionArms (getD (conditionHeads r) k condition.BadKind) 0
+unfolding ConditionArms
+no-arms-at zero r x y z = arms-if (eqb r 0) Always 0 (λ _. refl)
+no-arms-at (suc zero) r x y z = arms-if (eqb r 0) Never 0 (λ _. refl)
+no-arms-at (suc (suc zero)) r x y z = arms-if (ltb r 1024) (Has r) 0 (λ _. refl)
+no-arms-at (suc (suc (suc zero))) r x y z = absurd (x refl)
+no-arms-at (suc (suc (suc (suc zero)))) r x y z = absurd (y refl)
+no-arms-at (suc (suc (suc (suc (suc zero))))) r x y z = absurd (z refl)
+no-arms-at (suc (suc (suc (suc (suc (suc k)))))) r x y z = tt
+
+pub no-arms-word : (w : ℕ) → (w / 268435456 ≡ 3 → ⊥) → (w / 268435456 ≡ 4 → ⊥) → (w / 268435456 ≡ 5 → ⊥) → ConditionArms (conditionHead w) 0
+unfolding conditionHead
+no-arms-word w x y z = no-arms-at (w / 268435456) (w % 268435456) x y z
+
 -- A condition by its head: its first word, its own fact, and its arms.
 module _ (p : List ℕ → Parsed Condition) (ws : List ℕ) (at end : ℕ) (s t u : List ℕ) where
   first-word : (h : ConditionHead) → Grown (ownFact h) s t → Walked at 1 (at + 1) (ownFact h) s t
@@ -70,17 +107,23 @@ module _ (p : List ℕ → Parsed Condition) (ws : List ℕ) (at end : ℕ) (s t
   list-arms node size named (refuse n) g w = tt
   list-arms node size named (got cs vs) g w = walked-as (size cs) (λ f. named f cs) (walked-then (let v : Walked at 1 (at + 1) (λ f. false) s t = record { ends = refl; adds = g } in v) w)
 
-  condition-facts : (h : ConditionHead) → Grown (ownFact h) s t → Collected wordsCs namesCs (at + 1) t u (many cnil ccons p (conditionArms h) ws) end →
+  -- No arm, or as many as the list says.
+  no-arms : (k : ℕ) → k ≡ 0 → Collected wordsCs namesCs (at + 1) t u (many cnil ccons p k ws) end → Walked (at + 1) 0 end (λ f. false) t u
+  unfolding Collected
+  no-arms zero e w = w
+  no-arms (suc k) e w = let z : ⊥ = omega arith in absurd z
+
+  condition-facts : (h : ConditionHead) (k : ℕ) → ConditionArms h k → Grown (ownFact h) s t → Collected wordsCs namesCs (at + 1) t u (many cnil ccons p k ws) end →
       Collected wordsC namesC at s u (conditionNode p h ws) end
-  unfolding Collected conditionNode conditionArms ownFact
-  condition-facts Always g w = walked-as (omega arith) (λ f. refl) (walked-then (first-word Always g) w)
-  condition-facts Never g w = walked-as (omega arith) (λ f. refl) (walked-then (first-word Never g) w)
-  condition-facts (Has fact) g w = walked-as (omega arith) (λ f. or-false _) (walked-then (first-word (Has fact) g) w)
-  condition-facts Not g w = one-arm (p ws) g w
-  condition-facts (condition.All n) g w = list-arms allC (λ cs. refl) (λ f cs. refl) (many cnil ccons p n ws) g w
-  condition-facts (condition.Any n) g w = list-arms anyC (λ cs. refl) (λ f cs. refl) (many cnil ccons p n ws) g w
-  condition-facts condition.BadKind g w = tt
-  condition-facts condition.BadField g w = tt
+  unfolding Collected conditionNode ConditionArms ownFact
+  condition-facts Always k a g w = walked-as (omega arith) (λ f. refl) (walked-then (first-word Always g) (no-arms k a w))
+  condition-facts Never k a g w = walked-as (omega arith) (λ f. refl) (walked-then (first-word Never g) (no-arms k a w))
+  condition-facts (Has fact) k a g w = walked-as (omega arith) (λ f. or-false _) (walked-then (first-word (Has fact) g) (no-arms k a w))
+  condition-facts Not k a g w = one-arm (p ws) g (subst (λ n. Collected wordsCs namesCs (at + 1) t u (many cnil ccons p n ws) end) a w)
+  condition-facts (condition.All n) k a g w = list-arms allC (λ cs. refl) (λ f cs. refl) (many cnil ccons p n ws) g (subst (λ m. Collected wordsCs namesCs (at + 1) t u (many cnil ccons p m ws) end) a w)
+  condition-facts (condition.Any n) k a g w = list-arms anyC (λ cs. refl) (λ f cs. refl) (many cnil ccons p n ws) g (subst (λ m. Collected wordsCs namesCs (at + 1) t u (many cnil ccons p m ws) end) a w)
+  condition-facts condition.BadKind k a g w = tt
+  condition-facts condition.BadField k a g w = tt
 
 -- What stands at `at`: past the words nothing, and below the last level nothing that reads.
 module _ (sheet : List ℕ) (at depth : ℕ) where
@@ -131,16 +174,14 @@ module _ (sheet : List ℕ) (at depth : ℕ) (s : List ℕ) (inside : at < lengt
       rw (condition-here sheet at depth inside some, ← has-word w e) v
 
   -- Any other: the head, and the arms to the last.
-  pub condition-walked : (end : ℕ) (u : List ℕ) (h : ConditionHead) (count left : ℕ) → (getD sheet at 0 / 1024 ≡ 524288 → ⊥) → h ≡ conditionHead (getD sheet at 0) → count ≡ conditionArms h → left ≡ 0 →
+  pub condition-walked : (end : ℕ) (u : List ℕ) (count left : ℕ) → (getD sheet at 0 / 1024 ≡ 524288 → ⊥) → ConditionArms (conditionHead (getD sheet at 0)) count → left ≡ 0 →
       OnwardC (depth - 1) sheet (at + 1) count s end left u → Collected wordsC namesC at s u (readCondition depth (drop at sheet)) end
-  condition-walked end u h count left other e n z o =
+  condition-walked end u count left other a z o =
       let p : List ℕ → Parsed Condition = λ vs. readCondition (depth - 1) vs in
       let ws = drop (at + 1) sheet in
-      let w = getD sheet at 0 in
-      let g : Grown (ownFact h) s s = grown-as (λ f. sym (ap (λ x. ownFact x f) e ∙ no-has w f other)) (grown-none s) in
-      let v : Collected wordsCs namesCs (at + 1) s u (many cnil ccons p (conditionArms h) ws) end =
-      subst (λ k. Collected wordsCs namesCs (at + 1) s u (many cnil ccons p k ws) end) n (onward-end-C (depth - 1) sheet (at + 1) count s end left u z o) in
-      subst (λ q. Collected wordsC namesC at s u q end) (ap (λ k. conditionNode p k ws) e ∙ sym (condition-here sheet at depth inside some)) (condition-facts p ws at end s s u h g v)
+      let h = conditionHead (getD sheet at 0) in
+      let g : Grown (ownFact h) s s = grown-as (λ f. sym (no-has (getD sheet at 0) f other)) (grown-none s) in
+      subst (λ q. Collected wordsC namesC at s u q end) (sym (condition-here sheet at depth inside some)) (condition-facts p ws at end s s u h count a g (onward-end-C (depth - 1) sheet (at + 1) count s end left u z o))
 
 -- A Has, at whatever level it stands.
 pub has-here : (sheet : List ℕ) (at depth : ℕ) (s t : List ℕ) → at < length sheet → getD sheet at 0 / 1024 ≡ 524288 → Grown (λ f. eqb f (getD sheet at 0 % 1024)) s t →

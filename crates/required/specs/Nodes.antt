@@ -18,17 +18,18 @@ use Rattle.policy_model.specs.declared.PolicyHead.the-variants as policy
 use Rattle.policy_model.specs.Heads.{policyNode}
 use Rattle.required.specs.Sets.{Walked, Collected}
 
--- The arms of a condition, and of a policy.
-unfoldable pub conditionArms : ConditionHead → ℕ
-conditionArms Always = 0
-conditionArms Never = 0
-conditionArms (Has g) = 0
-conditionArms Not = 1
-conditionArms (condition.All n) = n
-conditionArms (condition.Any n) = n
-conditionArms condition.BadKind = 0
-conditionArms condition.BadField = 0
+-- The arms of a condition. Of a word that is none, nothing is said.
+unfoldable pub ConditionArms : ConditionHead → ℕ → Type 0
+ConditionArms Always k = k ≡ 0
+ConditionArms Never k = k ≡ 0
+ConditionArms (Has g) k = k ≡ 0
+ConditionArms Not k = k ≡ 1
+ConditionArms (condition.All n) k = k ≡ n
+ConditionArms (condition.Any n) k = k ≡ n
+ConditionArms condition.BadKind k = Unit {0}
+ConditionArms condition.BadField k = Unit {0}
 
+-- The arms of a policy.
 unfoldable pub policyArms : PolicyHead → ℕ
 policyArms (Permit o) = 0
 policyArms Deny = 0

@@ -1,7 +1,6 @@
 // Required facts, after gatekeep's evaluate.rs: the set of the facts that a tree names, and their count. A set is sixteen numbers, one bit for each
 // fact, fact 0 the top bit of the first. The walks are lent the set and add to it, and return the index of the next word: so the grown set comes back
 // without being copied at each level.
-use policy_model::ConditionHead;
 use policy_model::RecordCheck;
 use policy_model::SheetCheck;
 ghost use mathlib.Core.Path.{_≡_};
@@ -15,26 +14,22 @@ ghost use Rattle.model.specs.Policy.{names};
 ghost use Rattle.model.specs.Reading.{Parsed, levels, readCondition, readPolicy, readSheet, readRecord};
 ghost use Rattle.model.specs.Required.{ones, requiredFacts, requiredResidualFacts};
 ghost use Rattle.laws.specs.Size.{wordsC};
-ghost use Rattle.policy_model.specs.Heads.{permitTraceNode, denyTraceNode, policyHead};
+ghost use Rattle.policy_model.specs.Heads.{conditionHead, permitTraceNode, denyTraceNode, policyHead};
 ghost use Rattle.required.specs.Sets.{Collected, ToTheEnd};
 ghost use Rattle.required.specs.Counts.{CountedFour};
-ghost use Rattle.required.specs.Nodes.{conditionArms, Ended, StoredAt, OwnFacts};
+ghost use Rattle.required.specs.Nodes.{ConditionArms, Ended, StoredAt, OwnFacts};
 ghost use Rattle.required.specs.Arms.{PassedHas, PassedTo};
 ghost use Rattle.required.specs.Answers.{setAfter, Filled, FactsOf, Answered, treeOf};
 
-// How many conditions follow a condition's first word as its arms.
-fn condition_arms(head: ConditionHead) -> u32
-    ensures { λ r. ⌜ r ≡ conditionArms head ⌝ }
+// How many conditions follow a condition's first word as its arms. The words were checked before, so its fields need no test.
+fn condition_arms(word: u32) -> u32
+    ensures { λ r. ⌜ ConditionArms (conditionHead word) r ⌝ }
 {
-    match head {
-        ConditionHead::Always => 0,
-        ConditionHead::Never => 0,
-        ConditionHead::Has(_) => 0,
-        ConditionHead::Not => 1,
-        ConditionHead::All(count) => count,
-        ConditionHead::Any(count) => count,
-        ConditionHead::BadKind => 0,
-        ConditionHead::BadField => 0,
+    match word / policy_model::KIND {
+        3 => 1,
+        4 => word % policy_model::COUNTS,
+        5 => word % policy_model::COUNTS,
+        _ => 0,
     }
 }
 
@@ -84,7 +79,7 @@ fn collect_condition_facts(words: &[u32], at: usize, depth: usize, set: &mut [u6
         fact_set::put(set, word % 1024);
         return at + 1;
     }
-    let mut left = condition_arms(policy_model::condition_head(word));
+    let mut left = condition_arms(word);
     let mut next = at + 1;
     while left != 0 {
         let passed = collect_has_facts(words, next, left, set);

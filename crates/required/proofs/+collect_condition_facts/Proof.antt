@@ -13,7 +13,6 @@ use borrow.Fn.PlainCycle.{Measures, is, falls, and}
 use Rattle.required.proofs.collect_condition_facts.Reads as reads
 use Rattle.required.proofs.collect_condition_facts.Kinds as kinds
 use Rattle.required.proofs.+collect_condition_facts.Lts-collect_condition_facts as lts
-use Rattle.policy_model.proofs.condition_head.Reads as condition-head-reads
 use Rattle.required.proofs.collect_has_facts.Reads as collect-has-facts-reads
 use Rattle.required.proofs.condition_arms.Reads as condition-arms-reads
 use Rattle.fact_set.proofs.put.Reads as put-reads
@@ -38,7 +37,7 @@ module _ (t : ℕ) where
 
   -- what it calls
   abbrev calls : lts.Claims
-  calls = (put-reads.Asked, put-reads.Learnt, condition-head-reads.Asked, condition-head-reads.Learnt, condition-arms-reads.Asked, condition-arms-reads.Learnt, collect-has-facts-reads.Asked, collect-has-facts-reads.Learnt, below, reads.Post)
+  calls = (put-reads.Asked, put-reads.Learnt, condition-arms-reads.Asked, condition-arms-reads.Learnt, collect-has-facts-reads.Asked, collect-has-facts-reads.Learnt, below, reads.Post)
 
   returns : lts.Need-returns calls here reads.Post Inv-loop μ-loop
   returns c =
@@ -73,9 +72,6 @@ module _ (t : ℕ) where
       let a = level .before .before .before .before .args in
       (has-walked (a .words .now) (a .at) (a .depth) _ (level .before .if1 .left) (level .if2 .left) _ (test .if3 .taken) (put .put .ensures), omega arith)
 
-  condition-head-requires : lts.Need-condition-head-requires calls here reads.Post Inv-loop μ-loop
-  condition-head-requires c κs = search needs
-
   condition-arms-requires : lts.Need-condition-arms-requires calls here reads.Post Inv-loop μ-loop
   condition-arms-requires c κs = search needs
 
@@ -96,11 +92,10 @@ module _ (t : ℕ) where
       let has = c .before .before .before in
       let at-loop = has .before .before .before in
       let arms = at-loop .before in
-      let head = arms .before in
-      let test = head .before in
+      let test = arms .before in
       let level = test .before .before in
       let a = level .before .before .before .before .args in (
-        condition-walked (a .words .now) (a .at) (a .depth) _ (level .before .if1 .left) (level .if2 .left) _ _ _ _ _ (test .if3 .left) (head .condition-head .ensures) (arms .condition-arms .ensures)
+        condition-walked (a .words .now) (a .at) (a .depth) _ (level .before .if1 .left) (level .if2 .left) _ _ _ _ (test .if3 .left) (arms .condition-arms .ensures)
             (c .if4 .taken) (onward-then _ _ _ _ _ _ _ _ _ (at-loop .loop .inv .2) (has .collect-has-facts .ensures .goes-on (a .depth - 1))),
         omega (arith, at-loop .loop .inv .1, has .collect-has-facts .ensures .forward),
       )
@@ -127,7 +122,7 @@ module _ (t : ℕ) where
       let test = turn .before .before in
       let has = test .before .before .before in
       let at-loop = has .before .before .before in
-      let a = at-loop .before .before .before .before .before .before .before .before .before .args in (
+      let a = at-loop .before .before .before .before .before .before .before .before .args in (
         search needs,
         omega (arith, at-loop .loop .inv .1, has .collect-has-facts .ensures .forward, turn .collect-condition-facts .ensures .1),
         onward-more-C (a .depth - 1) _ _ _ _ _ _ _ _ _ (test .if4 .left) (turn .collect-condition-facts .ensures .0)
@@ -140,11 +135,10 @@ module _ (t : ℕ) where
   returns-5 : lts.Need-returns-5 calls here reads.Post Inv-loop μ-loop
   returns-5 c =
       let arms = c .before .before in
-      let head = arms .before in
-      let test = head .before in
+      let test = arms .before in
       let level = test .before .before in
       let a = level .before .before .before .before .args in (
-        condition-walked (a .words .now) (a .at) (a .depth) _ (level .before .if1 .left) (level .if2 .left) _ _ _ _ _ (test .if3 .left) (head .condition-head .ensures) (arms .condition-arms .ensures)
+        condition-walked (a .words .now) (a .at) (a .depth) _ (level .before .if1 .left) (level .if2 .left) _ _ _ _ (test .if3 .left) (arms .condition-arms .ensures)
             (c .loop-test .left) (c .before .loop .inv .2),
         omega (arith, c .before .loop .inv .1),
       )
@@ -161,7 +155,6 @@ pub +collect-condition-facts-spec : {M : Type 1} → statement M
     (add-result t)
     (same-length t)
     (returns-3 t)
-    (condition-head-requires t)
     (condition-arms-requires t)
     (add-next t)
     (loop-holds t)

@@ -133,10 +133,10 @@ module _ (T : Table) (words : List ℕ) (at depth : ℕ) (s : Lent) (r : Conditi
 
 -- ---- a Has
 pub has-answer : (T : Table) (f end : ℕ) (p : Presence) (s : Lent) (r : ConditionEval) (t : Lent) →
-    r .satisfied ≡ isPresent (T f) → r .next ≡ end → p ≡ T f → Recorded f p s t → EvaluatesHas T f end s r t
+    r .satisfied ≡ isPresent p → r .next ≡ end → p ≡ T f → Recorded f p s t → EvaluatesHas T f end s r t
 has-answer T f end p s r t v n e a =
     let read : Recorded f (T f) s t = subst (λ q. Recorded f q s t) e a in
-    record { says = record { satisfied-is = v ∙ has-value f (T f); next-is = n; log = consults-as (λ l. refl) (read .log) } }
+    record { says = record { satisfied-is = v ∙ ap isPresent e ∙ has-value f (T f); next-is = n; log = consults-as (λ l. refl) (read .log) } }
 
 -- The fact of a Has is below 1,024.
 abbrev Below : ConditionHead → Type 0

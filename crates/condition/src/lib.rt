@@ -8,7 +8,8 @@ ghost use Prim.Native.Nat.{_<_};
 ghost use Rattle.model.specs.Facts.{factCount, tableOf};
 ghost use Rattle.model.specs.Writing.{entryField};
 ghost use Rattle.model.specs.Required.{oneBit};
-ghost use Rattle.facts.specs.Answers.{presenceOf};
+ghost use Rattle.facts.specs.Answers.{presenceOf, isPresent};
+ghost use Rattle.fact_set.specs.Sets.{Contained};
 ghost use Rattle.condition.specs.Listing.{entryOf, lent, Recorded};
 ghost use Rattle.condition.specs.Spanning.{armsOfWord, Skipped};
 ghost use Rattle.condition.specs.Evaluating.{answerOf, EvaluatesC, EvaluatesHas, EvaluatesList, EvaluatesAll, EvaluatesAny};
@@ -56,15 +57,16 @@ fn flag(listed: bool) -> u8
     if listed { 1 } else { 0 }
 }
 
-// Lists the fact with its presence, unless it is listed already or the entries are full, and returns how many are in use then.
-pub fn record(
+// Lists the fact with its presence, unless it is `listed` already or the entries are full, and returns how many are in use then.
+fn record_unless(
+    listed: bool,
     entries: &mut [u16],
     seen: &mut [u64],
     count: usize,
     fact: u32,
     presence: Presence,
 ) -> usize
-    requires { ⌜ fact < factCount ⌝ }
+    requires { ⌜ (fact < factCount) × Contained fact (now seen) listed ⌝ }
     ensures { λ r. ⌜ Recorded fact (presenceOf presence) (lent count (now (entries .entry)) (now (seen .entry))) (lent r (now (entries .exit)) (now (seen .exit))) ⌝ }
 {
     if entries.len() <= count {
@@ -75,17 +77,28 @@ pub fn record(
         last: 0,
         length: count,
     };
-    let list = consulted::noted(
-        before,
-        flag(fact_set::contains(seen, fact)),
-        entry(fact, presence),
-    );
+    let list = consulted::noted(before, flag(listed), entry(fact, presence));
     if list.length == count {
         return count;
     }
     fact_set::insert(seen, fact);
     entries[count] = list.last;
     list.length
+}
+
+// The same, by whether the set of the facts that are listed has it.
+pub fn record(
+    entries: &mut [u16],
+    seen: &mut [u64],
+    count: usize,
+    fact: u32,
+    presence: Presence,
+) -> usize
+    requires { ⌜ fact < factCount ⌝ }
+    ensures { λ r. ⌜ Recorded fact (presenceOf presence) (lent count (now (entries .entry)) (now (seen .entry))) (lent r (now (entries .exit)) (now (seen .exit))) ⌝ }
+{
+    let listed = fact_set::contains(seen, fact);
+    record_unless(listed, entries, seen, count, fact, presence)
 }
 
 // How many arms a condition has, by its first word.
@@ -120,7 +133,18 @@ pub fn skip_conditions(words: &[u32], at: usize, count: u32) -> usize
     next
 }
 
-// A Has, whose words end at `next`: satisfied on Present. Its fact is consulted.
+// Whether a Has is satisfied, by what the table says of its fact.
+fn is_present(presence: Presence) -> bool
+    ensures { λ r. ⌜ r ≡ isPresent (presenceOf presence) ⌝ }
+{
+    match presence {
+        Presence::Absent => false,
+        Presence::Present => true,
+        Presence::Unknown => false,
+    }
+}
+
+// A Has, whose words end at `next`: satisfied on Present. Its fact is consulted: where it is listed already, that changes nothing.
 fn eval_has(
     fact: u32,
     next: usize,
@@ -132,9 +156,13 @@ fn eval_has(
     requires { ⌜ fact < factCount ⌝ }
     ensures { λ r. ⌜ EvaluatesHas (tableOf (now (facts .entry))) fact next (lent count (now (entries .entry)) (now (seen .entry))) r (lent (r .count) (now (entries .exit)) (now (seen .exit))) ⌝ }
 {
-    let satisfied = facts::present(facts, fact);
     let presence = Presence::of(facts, fact);
-    let listed = record(entries, seen, count, fact, presence);
+    let satisfied = is_present(presence);
+    let again = fact_set::contains(seen, fact);
+    if again {
+        return answer(satisfied, next, count);
+    }
+    let listed = record_unless(again, entries, seen, count, fact, presence);
     answer(satisfied, next, listed)
 }
 

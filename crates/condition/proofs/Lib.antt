@@ -2,3 +2,4 @@
 pub mod Listing
 pub mod Spanning
 pub mod Evaluating
+pub mod Walking

@@ -127,8 +127,9 @@ module _ (words : List ℕ) (at count r : ℕ) where
   abbrev Ends : Conditions → List ℕ → Type 0
   Ends cs rest = r ≡ at + wordsCs cs
 
-  skipped : ((cs : Conditions) (rest : List ℕ) → wordsCs cs ≡ span (drop at words) count → wordsCs cs + length rest ≡ length (drop at words) → Ends cs rest) → Skipped words at count r
-  skipped f = record {
+  skipped : at ≤ r → ((cs : Conditions) (rest : List ℕ) → wordsCs cs ≡ span (drop at words) count → wordsCs cs + length rest ≡ length (drop at words) → Ends cs rest) → Skipped words at count r
+  skipped h f = record {
+    onward = h;
     ends = λ depth.
         weaker (many cnil ccons (readCondition depth) count (drop at words)) (λ cs rest t.
         let none : span (drop at words) (count + 0) ≡ span (drop at words) count = ap (span (drop at words)) (omega arith) in
@@ -137,14 +138,14 @@ module _ (words : List ℕ) (at count r : ℕ) where
   }
 
   pub skipped-at : r ≡ at + span (drop at words) count → Skipped words at count r
-  skipped-at e = skipped (λ cs rest s l. omega arith)
+  skipped-at e = skipped (omega arith) (λ cs rest s l. omega arith)
 
   -- The words end before.
-  pub skipped-short : length (drop at words) < span (drop at words) count → Skipped words at count r
-  skipped-short h = skipped (λ cs rest s l. absurd (omega arith))
+  pub skipped-short : at ≤ r → length (drop at words) < span (drop at words) count → Skipped words at count r
+  skipped-short f h = skipped f (λ cs rest s l. absurd (omega arith))
 
   pub skipped-past : length words < at → r ≡ at → Skipped words at count r
-  skipped-past h e = skipped (λ cs rest s l. omega (arith, length-drop at words))
+  skipped-past h e = skipped (omega arith) (λ cs rest s l. omega (arith, length-drop at words))
 
 -- One turn of the loop that passes over words.
 pub span-turn : (words : List ℕ) (next left k : ℕ) → next < length words → (left ≡ 0 → ⊥) → k ≡ armsOfWord (getD words next 0) →

@@ -1,3 +1,4 @@
 pub mod Listing
 pub mod Spanning
 pub mod Evaluating
+pub mod Walking

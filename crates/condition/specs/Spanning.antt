@@ -1,7 +1,7 @@
 -- Conditions that are passed over, by a count of those that are open.
 use mathlib.Core.Path.{_≡_}
 use mathlib.Core.List.{List}
-use Prim.Native.Nat.{ℕ, zero, suc, _+_, _%_, _^_}
+use Prim.Native.Nat.{ℕ, zero, suc, _+_, _%_, _^_, _≤_}
 use lib.ListN.{drop}
 use Rattle.model.specs.Condition.{cnil, ccons}
 use Rattle.model.specs.Writing.{countBits}
@@ -22,6 +22,7 @@ armsBy (suc (suc (suc (suc (suc (suc k)))))) n = 0
 unfoldable pub armsOfWord : ℕ → ℕ
 armsOfWord w = armsBy (kindOf w) (w % 2 ^ countBits)
 
--- r is the position after `count` conditions from `at`, however deep, if they read.
+-- r is the position after `count` conditions from `at`, however deep, if they read. It is never before `at`.
 pub record Skipped (words : List ℕ) (at count r : ℕ) : Type 0 where
+  pub onward : at ≤ r
   pub ends : (depth : ℕ) → Holds (λ cs rest. r ≡ at + wordsCs cs) (many cnil ccons (readCondition depth) count (drop at words))

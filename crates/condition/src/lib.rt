@@ -4,14 +4,17 @@ use consulted::Consulted;
 use facts::Presence;
 use policy_model::ConditionHead;
 ghost use mathlib.Core.Path.{_≡_};
-ghost use Prim.Native.Nat.{_<_};
+ghost use Prim.Native.Nat.{_<_, _≤_};
 ghost use Rattle.model.specs.Facts.{factCount, tableOf};
 ghost use Rattle.model.specs.Writing.{entryField};
 ghost use Rattle.model.specs.Required.{oneBit};
 ghost use Rattle.facts.specs.Answers.{presenceOf};
+ghost use Rattle.fact_set.specs.Sets.{Contained};
+ghost use Rattle.policy_model.specs.Heads.{conditionHead};
 ghost use Rattle.condition.specs.Listing.{entryOf, lent, Recorded};
 ghost use Rattle.condition.specs.Spanning.{armsOfWord, Skipped};
-ghost use Rattle.condition.specs.Evaluating.{answerOf, EvaluatesC, EvaluatesHas, EvaluatesList, EvaluatesAll, EvaluatesAny};
+ghost use Rattle.condition.specs.Evaluating.{answerOf, EvaluatesC, EvaluatesHas};
+ghost use Rattle.condition.specs.Walking.{listNode, nodeOf, Settles};
 
 // Whether a condition is satisfied, the position after its words, and how many entries are in use.
 pub struct ConditionEval {
@@ -56,15 +59,16 @@ fn flag(listed: bool) -> u8
     if listed { 1 } else { 0 }
 }
 
-// Lists the fact with its presence, unless it is listed already or the entries are full, and returns how many are in use then.
-pub fn record(
+// Lists the fact with its presence, unless it is `listed` already or the entries are full, and returns how many are in use then.
+fn record_unless(
+    listed: bool,
     entries: &mut [u16],
     seen: &mut [u64],
     count: usize,
     fact: u32,
     presence: Presence,
 ) -> usize
-    requires { ⌜ fact < factCount ⌝ }
+    requires { ⌜ (fact < factCount) × Contained fact (now seen) listed ⌝ }
     ensures { λ r. ⌜ Recorded fact (presenceOf presence) (lent count (now (entries .entry)) (now (seen .entry))) (lent r (now (entries .exit)) (now (seen .exit))) ⌝ }
 {
     if entries.len() <= count {
@@ -75,17 +79,28 @@ pub fn record(
         last: 0,
         length: count,
     };
-    let list = consulted::noted(
-        before,
-        flag(fact_set::contains(seen, fact)),
-        entry(fact, presence),
-    );
+    let list = consulted::noted(before, flag(listed), entry(fact, presence));
     if list.length == count {
         return count;
     }
     fact_set::insert(seen, fact);
     entries[count] = list.last;
     list.length
+}
+
+// The same, by whether the set of the facts that are listed has it.
+pub fn record(
+    entries: &mut [u16],
+    seen: &mut [u64],
+    count: usize,
+    fact: u32,
+    presence: Presence,
+) -> usize
+    requires { ⌜ fact < factCount ⌝ }
+    ensures { λ r. ⌜ Recorded fact (presenceOf presence) (lent count (now (entries .entry)) (now (seen .entry))) (lent r (now (entries .exit)) (now (seen .exit))) ⌝ }
+{
+    let listed = fact_set::contains(seen, fact);
+    record_unless(listed, entries, seen, count, fact, presence)
 }
 
 // How many arms a condition has, by its first word.
@@ -120,7 +135,7 @@ pub fn skip_conditions(words: &[u32], at: usize, count: u32) -> usize
     next
 }
 
-// A Has, whose words end at `next`: satisfied on Present. Its fact is consulted.
+// A Has, whose words end at `next`: satisfied on Present. Its fact is consulted: where it is listed already, that changes nothing.
 fn eval_has(
     fact: u32,
     next: usize,
@@ -132,13 +147,89 @@ fn eval_has(
     requires { ⌜ fact < factCount ⌝ }
     ensures { λ r. ⌜ EvaluatesHas (tableOf (now (facts .entry))) fact next (lent count (now (entries .entry)) (now (seen .entry))) r (lent (r .count) (now (entries .exit)) (now (seen .exit))) ⌝ }
 {
+    let again = fact_set::contains(seen, fact);
+    if again {
+        return answer(facts::present(facts, fact), next, count);
+    }
     let satisfied = facts::present(facts, fact);
     let presence = Presence::of(facts, fact);
-    let listed = record(entries, seen, count, fact, presence);
+    let listed = record_unless(again, entries, seen, count, fact, presence);
     answer(satisfied, next, listed)
 }
 
-// The condition at `at`, of at most `depth` levels.
+// A node that is open is a number: how many of its arms come after the one that is read, and so much more for an Any; a Not is the other.
+const ANY: u16 = 4096;
+
+const NOT: u16 = 8192;
+
+// What the first word of a condition is to a walk: a value, a fact to be read, or a node that stays open while its arms are read.
+enum Node {
+    Value(bool),
+    Has(u32),
+    Open(u16),
+}
+
+// A list of so many arms, `kind` 0 for an All. Without arms All and Any are both false.
+fn list_node(kind: u16, arms: u32) -> Node
+    requires { ⌜ (kind ≤ 4096) × (arms < 4096) ⌝ }
+    ensures { λ r. ⌜ r ≡ listNode kind arms ⌝ }
+{
+    if arms == 0 {
+        return Node::Value(false);
+    }
+    let node = (arms - 1) as u16 + kind;
+    Node::Open(node)
+}
+
+// The node by its word. Of a word that doesn't read nothing is asked.
+fn node_of(word: u32) -> Node
+    ensures { λ r. ⌜ r ≡ nodeOf (conditionHead word) ⌝ }
+{
+    match policy_model::condition_head(word) {
+        ConditionHead::Always => Node::Value(true),
+        ConditionHead::Never => Node::Value(false),
+        ConditionHead::Has(fact) => Node::Has(fact),
+        ConditionHead::Not => Node::Open(NOT),
+        ConditionHead::All(arms) => list_node(0, arms),
+        ConditionHead::Any(arms) => list_node(ANY, arms),
+        ConditionHead::BadKind => Node::Value(false),
+        ConditionHead::BadField => Node::Value(false),
+    }
+}
+
+// What becomes of an open node when an arm has its value: it is closed, with its own value and the position after it, or its next arm is read.
+enum AfterArm {
+    Closed { value: bool, next: usize },
+    More(u16),
+}
+
+// The open node whose arm before `next` has this value. A Not flips it. A false arm decides an All and a true arm an Any, and the arms after it aren't
+// read.
+fn after_arm(words: &[u32], node: u16, value: bool, next: usize) -> AfterArm
+    ensures { λ r. ⌜ Settles (now (words .entry)) node value next r ⌝ }
+{
+    if node >= NOT {
+        return AfterArm::Closed {
+            value: !value,
+            next,
+        };
+    }
+    let left = node % ANY;
+    if value == (node >= ANY) {
+        return AfterArm::Closed {
+            value,
+            next: skip_conditions(words, next, left as u32),
+        };
+    }
+    if left == 0 {
+        return AfterArm::Closed { value, next };
+    }
+    let more = node - 1;
+    AfterArm::More(more)
+}
+
+// The condition at `at`, of at most `depth` levels. The first `level` numbers of `above` are the nodes that are open, the innermost last. `known` says
+// whether `sofar` is the answer to the condition that ends at its `next`, or a condition is still to be read there.
 fn eval_condition(
     words: &[u32],
     at: usize,
@@ -148,36 +239,54 @@ fn eval_condition(
     seen: &mut [u64],
     count: usize,
 ) -> ConditionEval
+    requires { ⌜ depth ≤ 32 ⌝ }
     ensures { λ r. ⌜ EvaluatesC (tableOf (now (facts .entry))) (now (words .entry)) at depth (lent count (now (entries .entry)) (now (seen .entry))) r (lent (r .count) (now (entries .exit)) (now (seen .exit))) ⌝ }
 {
-    if words.len() <= at {
-        return answer(false, at, count);
-    }
-    if depth == 0 {
-        return answer(false, at, count);
-    }
-    let next = at + 1;
-    let below = depth - 1;
-    match policy_model::condition_head(words[at]) {
-        ConditionHead::Always => answer(true, next, count),
-        ConditionHead::Never => answer(false, next, count),
-        ConditionHead::Has(fact) => eval_has(fact, next, facts, entries, seen, count),
-        ConditionHead::Not => {
-            let inner = eval_condition(words, next, below, facts, entries, seen, count);
-            answer(!inner.satisfied, inner.next, inner.count)
+    let mut above = [0u16; 32];
+    let mut level = 0;
+    let mut known = false;
+    let mut sofar = answer(false, at, count);
+    loop {
+        let next = sofar.next;
+        if known {
+            if level == 0 {
+                return sofar;
+            }
+            let inner = level - 1;
+            match after_arm(words, above[inner], sofar.satisfied, next) {
+                AfterArm::Closed { value, next: end } => {
+                    sofar = answer(value, end, sofar.count);
+                    level = inner;
+                }
+                AfterArm::More(node) => {
+                    above[inner] = node;
+                    known = false;
+                }
+            }
+        } else {
+            if words.len() <= next || depth <= level {
+                return sofar;
+            }
+            match node_of(words[next]) {
+                Node::Value(value) => {
+                    sofar = answer(value, next + 1, sofar.count);
+                    known = true;
+                }
+                Node::Has(fact) => {
+                    sofar = eval_has(fact, next + 1, facts, entries, seen, sofar.count);
+                    known = true;
+                }
+                Node::Open(node) => {
+                    above[level] = node;
+                    level += 1;
+                    sofar.next = next + 1;
+                }
+            }
         }
-        ConditionHead::All(arms) => {
-            eval_condition_all(words, next, below, arms, facts, entries, seen, count)
-        }
-        ConditionHead::Any(arms) => {
-            eval_condition_any(words, next, below, arms, facts, entries, seen, count)
-        }
-        ConditionHead::BadKind => answer(false, at, count),
-        ConditionHead::BadField => answer(false, at, count),
     }
 }
 
-// The same of an arm, or of a grant's condition. Most are a Has, which is seen here, so that whoever asks reads it with no call of the cycle.
+// The same of a grant's condition. Most are a Has, which is seen here, so that no walk is begun for it.
 pub fn eval_arm(
     words: &[u32],
     at: usize,
@@ -187,6 +296,7 @@ pub fn eval_arm(
     seen: &mut [u64],
     count: usize,
 ) -> ConditionEval
+    requires { ⌜ depth ≤ 32 ⌝ }
     ensures { λ r. ⌜ EvaluatesC (tableOf (now (facts .entry))) (now (words .entry)) at depth (lent count (now (entries .entry)) (now (seen .entry))) r (lent (r .count) (now (entries .exit)) (now (seen .exit))) ⌝ }
 {
     if words.len() <= at {
@@ -197,69 +307,4 @@ pub fn eval_arm(
         return eval_has(word % 1024, at + 1, facts, entries, seen, count);
     }
     eval_condition(words, at, depth, facts, entries, seen, count)
-}
-
-// The arms of a list rule, `arms` conditions from `at`: the first that has the value `stop` decides, and those after it aren't read.
-// The loop is here alone, so that an arm is read in it with no call.
-fn eval_arms(
-    words: &[u32],
-    at: usize,
-    depth: usize,
-    arms: u32,
-    stop: bool,
-    facts: &[u8],
-    entries: &mut [u16],
-    seen: &mut [u64],
-    count: usize,
-) -> ConditionEval
-    ensures { λ r. ⌜ EvaluatesList stop (tableOf (now (facts .entry))) (now (words .entry)) at depth arms (lent count (now (entries .entry)) (now (seen .entry))) r (lent (r .count) (now (entries .exit)) (now (seen .exit))) ⌝ }
-{
-    let mut next = at;
-    let mut listed = count;
-    let mut left = arms;
-    while left != 0 {
-        let arm = eval_arm(words, next, depth, facts, entries, seen, listed);
-        next = arm.next;
-        listed = arm.count;
-        left -= 1;
-        if arm.satisfied == stop {
-            return answer(stop, skip_conditions(words, next, left), listed);
-        }
-    }
-    answer(!stop, next, listed)
-}
-
-// All of `arms` conditions from `at`: false without arms, else a false arm decides.
-fn eval_condition_all(
-    words: &[u32],
-    at: usize,
-    depth: usize,
-    arms: u32,
-    facts: &[u8],
-    entries: &mut [u16],
-    seen: &mut [u64],
-    count: usize,
-) -> ConditionEval
-    ensures { λ r. ⌜ EvaluatesAll (tableOf (now (facts .entry))) (now (words .entry)) at depth arms (lent count (now (entries .entry)) (now (seen .entry))) r (lent (r .count) (now (entries .exit)) (now (seen .exit))) ⌝ }
-{
-    if arms == 0 {
-        return answer(false, at, count);
-    }
-    eval_arms(words, at, depth, arms, false, facts, entries, seen, count)
-}
-
-// Any of `arms` conditions from `at`: a true arm decides.
-fn eval_condition_any(
-    words: &[u32],
-    at: usize,
-    depth: usize,
-    arms: u32,
-    facts: &[u8],
-    entries: &mut [u16],
-    seen: &mut [u64],
-    count: usize,
-) -> ConditionEval
-    ensures { λ r. ⌜ EvaluatesAny (tableOf (now (facts .entry))) (now (words .entry)) at depth arms (lent count (now (entries .entry)) (now (seen .entry))) r (lent (r .count) (now (entries .exit)) (now (seen .exit))) ⌝ }
-{
-    eval_arms(words, at, depth, arms, true, facts, entries, seen, count)
 }

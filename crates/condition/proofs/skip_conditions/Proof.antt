@@ -29,7 +29,7 @@ returns-2 c =
     let start = c .before .before .before .before .before in
     let loop = c .before .before .loop in
     let ws = now (start .args .words) in
-    skipped-short ws (start .args .at) (start .args .count) _ (omega (arith, loop .inv .0, span-least (drop (loop .next) ws) (loop .left), length-drop (start .args .at) ws))
+    skipped-short ws (start .args .at) (start .args .count) _ (loop .inv .1) (omega (arith, loop .inv .0, span-least (drop (loop .next) ws) (loop .left), length-drop (start .args .at) ws))
 
 sub-left : tie.Need-sub-left Inv-loop μ-loop
 sub-left c = search needs

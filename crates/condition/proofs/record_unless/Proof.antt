@@ -1,4 +1,4 @@
--- `condition::record` meets its contract: by whether the list is longer than before. Assumes nothing.
+-- `condition::record_unless` meets its contract: by whether the list is longer than before. Assumes nothing.
 use mathlib.Core.Path.{_≡_, refl, ap}
 use mathlib.Core.Bool.{Bool, true, false}
 use mathlib.Core.List.{List}
@@ -15,8 +15,8 @@ use Rattle.consulted.specs.Lists.{recordedOf}
 use Rattle.condition.specs.Listing.{entryOf, Lent, lent, Recorded}
 use Rattle.condition.proofs.Listing.{recorded-again, recorded-full, recorded-new}
 use borrow.Author.Needs.{needs}
-use Rattle.condition.proofs.record.Statement.{statement}
-use Rattle.condition.proofs.record.Tie as tie
+use Rattle.condition.proofs.record_unless.Statement.{statement}
+use Rattle.condition.proofs.record_unless.Tie as tie
 
 -- A list of which only the length is known.
 abbrev so-long : ℕ → Consulted
@@ -46,9 +46,6 @@ longer f p s seen e b l lt room c more is g = rw (g .length-is, g .last-is, is) 
 returns : tie.Need-returns
 returns c = recorded-full (c .before .before .before .args .fact) _ _ (c .if1 .taken)
 
-contains-requires : tie.Need-contains-requires
-contains-requires c κs = search needs
-
 flag-requires : tie.Need-flag-requires
 flag-requires c κs = search needs
 
@@ -65,8 +62,8 @@ returns-2 : tie.Need-returns-2
 returns-2 c =
     let noted = c .before .before in
     let flag = noted .before .before in
-    let start = flag .before .before .before .before .before .before in
-    shorter _ _ _ _ (start .pre) (flag .before .contains .ensures) (was-listed _ _ _ _ (rw (flag .flag .ensures) at (noted .noted .ensures)) (c .if2 .taken))
+    let start = flag .before .before .before .before in
+    shorter _ _ _ _ (start .pre .0) (start .pre .1) (was-listed _ _ _ _ (rw (flag .flag .ensures) at (noted .noted .ensures)) (c .if2 .taken))
 
 insert-requires : tie.Need-insert-requires
 insert-requires c κs = search needs
@@ -80,34 +77,29 @@ slice-write-entries c = search needs
 same-length-2 : tie.Need-same-length-2
 same-length-2 c = search needs
 
-same-length-3 : tie.Need-same-length-3
-same-length-3 c = search needs
-
 returns-3 : tie.Need-returns-3
 returns-3 c =
     let insert = c .before .before in
     let new = insert .before .before in
     let noted = new .before .before in
     let flag = noted .before .before in
-    let room = flag .before .before .before in
+    let room = flag .before in
     let start = room .before .before .before in
-    longer _ _ _ _ _ _ _ (start .pre) (room .if1 .left) (flag .before .contains .ensures) (insert .insert .ensures) (noted .before .entry .ensures)
+    longer _ _ _ _ _ _ _ (start .pre .0) (room .if1 .left) (start .pre .1) (insert .insert .ensures) (noted .before .entry .ensures)
     (grew _ _ _ _ (rw (flag .flag .ensures) at (noted .noted .ensures)) (new .if2 .left))
 
-pub record-spec : {M : Type 1} → statement M
-record-spec =
+pub record-unless-spec : {M : Type 1} → statement M
+record-unless-spec =
     tie.close
     (tie.spec
     returns
-    contains-requires
     flag-requires
     entry-requires
     noted-requires
-    same-length
     returns-2
     insert-requires
     mul-entries
     slice-write-entries
+    same-length
     same-length-2
-    same-length-3
     returns-3)

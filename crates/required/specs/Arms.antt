@@ -1,14 +1,13 @@
 -- A walk over the arms of a node, one after the other.
-use mathlib.Core.Path.{_≡_}
 use mathlib.Core.Bool.{Bool, true}
 use mathlib.Core.List.{List}
 use Prim.Native.Nat.{ℕ, _≤_}
 use lib.ListN.{drop}
 use Rattle.model.specs.Outcome.{productSets}
-use Rattle.model.specs.Condition.{Condition, cnil, ccons, namesC, namesCs}
+use Rattle.model.specs.Condition.{cnil, ccons, namesCs}
 use Rattle.model.specs.Policy.{pnil, pcons, names, namess}
 use Rattle.model.specs.Reading.{Parsed, many, levels, readCondition, readPolicy}
-use Rattle.laws.specs.Size.{wordsC, wordsCs}
+use Rattle.laws.specs.Size.{wordsCs}
 use Rattle.required.specs.declared.Passed.{Passed}
 use Rattle.required.specs.Sets.{Collected, ToTheEnd}
 
@@ -24,12 +23,6 @@ pub record PassedHas (sheet : List ℕ) (at count : ℕ) (before after : List �
   pub forward : at ≤ r .next
   pub fewer : r .left ≤ count
   pub goes-on : (d : ℕ) → OnwardC d sheet at count before (r .next) (r .left) after
-
--- What was to be shown of the set and of the end is shown, or is shown by a walk over the condition that is left.
-pub record PassedTo (pc : List ℕ → Parsed Condition) (sheet : List ℕ) (at : ℕ) (Shown : List ℕ → ℕ → Type 0) (after : List ℕ) (r : Passed) : Type 0 where
-  pub forward : at ≤ r .next
-  pub none-left : r .left ≡ 0 → Shown after (r .next)
-  pub one-left : (r .left ≡ 0 → ⊥) → (u : List ℕ) (end : ℕ) → Collected wordsC namesC (r .next) after u (pc (drop (r .next) sheet)) end → Shown u end
 
 -- Policies node by node to the last word: what answers for the nodes that are open, all of them at the top level, answers for the policy.
 pub record Toward (sheet : List ℕ) (from : ℕ) (s : List ℕ) (at : ℕ) (t : List ℕ) : Type 0 where

@@ -18,7 +18,7 @@ ghost use Rattle.policy_model.specs.Heads.{conditionHead, permitTraceNode, deny
 ghost use Rattle.required.specs.Sets.{Collected, ToTheEnd};
 ghost use Rattle.required.specs.Counts.{CountedFour};
 ghost use Rattle.required.specs.Nodes.{ConditionArms, Ended, StoredAt, OwnFacts};
-ghost use Rattle.required.specs.Arms.{PassedHas, PassedTo};
+ghost use Rattle.required.specs.Arms.{PassedHas};
 ghost use Rattle.required.specs.Answers.{setAfter, Filled, FactsOf, Answered, treeOf};
 
 // How many conditions follow a condition's first word as its arms. The words were checked before, so its fields need no test.
@@ -33,7 +33,7 @@ fn condition_arms(word: u32) -> u32
     }
 }
 
-// Where what was passed over ends, and how many conditions are left there.
+// Where arms that were passed over end, and how many are left.
 struct Passed {
     next: usize,
     left: u32,
@@ -94,21 +94,21 @@ fn collect_condition_facts(words: &[u32], at: usize, depth: usize, set: &mut [u6
     next
 }
 
-// Adds the fact of a grant's condition at `at` that is a Has, as most are. Any other is left.
-fn collect_grant_fact(words: &[u32], at: usize, set: &mut [u64]) -> Passed
+// The same of a grant's condition. Most are a Has, seen here with no call.
+fn collect_grant_facts(words: &[u32], at: usize, depth: usize, set: &mut [u64]) -> usize
     requires { ⌜ length (now set) ≡ 16 ⌝ }
-    ensures { λ r. ⌜ PassedTo (λ ws. readCondition 31 ws) (now (words .entry)) at (λ u end. Collected wordsC namesC at (now (set .entry)) u (readCondition 31 (drop at (now (words .entry)))) end) (now (set .exit)) r ⌝ }
+    ensures facts { λ r. ⌜ Collected wordsC namesC at (now (set .entry)) (now (set .exit)) (readCondition depth (drop at (now (words .entry)))) r ⌝ }
+    ensures forward { λ r. ⌜ at ≤ r ⌝ }
 {
     if words.len() <= at {
-        return Passed { next: at, left: 0 };
+        return at;
     }
     let word = words[at];
-    if word / policy_model::FACTS != policy_model::HAS {
-        return Passed { next: at, left: 1 };
+    if word / policy_model::FACTS == policy_model::HAS {
+        fact_set::put(set, word % 1024);
+        return at + 1;
     }
-    fact_set::put(set, word % 1024);
-    let next = at + 1;
-    Passed { next, left: 0 }
+    collect_condition_facts(words, at, depth, set)
 }
 
 // Where a PermitWithTrace ends: two words, its obligations and its facts.
@@ -152,27 +152,27 @@ fn stored_end(words: &[u32], at: usize) -> usize
     deny_trace_end(words, at)
 }
 
-// Adds the facts of what stands in a policy before its arms, up to the word after that. A grant's condition may be left. Stored decisions name nothing.
-fn collect_own_facts(words: &[u32], at: usize, set: &mut [u64]) -> Passed
+// Adds the facts of what stands in a policy before its arms, and returns the index of the word after that. Stored decisions name nothing.
+fn collect_own_facts(words: &[u32], at: usize, set: &mut [u64]) -> usize
     requires inside { ⌜ at < length (now words) ⌝ }
     requires sixteen { ⌜ length (now set) ≡ 16 ⌝ }
-    ensures { λ r. ⌜ PassedTo (λ ws. readCondition 31 ws) (now (words .entry)) (at + 1) (λ u end. OwnFacts (λ ws. readCondition 31 ws) (policyHead (getD (now (words .entry)) at 0) true) (drop (at + 1) (now (words .entry))) at (now (set .entry)) u end) (now (set .exit)) r ⌝ }
+    ensures facts { λ r. ⌜ OwnFacts (λ ws. readCondition 31 ws) (policyHead (getD (now (words .entry)) at 0) true) (drop (at + 1) (now (words .entry))) at (now (set .entry)) (now (set .exit)) r ⌝ }
+    ensures forward { λ r. ⌜ at < r ⌝ }
 {
     let word = words[at];
     let kind = word / policy_model::KIND;
     if kind == 8 {
-        return collect_grant_fact(
+        return collect_grant_facts(
             words,
             at + 2 + ((word / 1048576 % 128) as usize + 3) / 4,
+            31,
             set,
         );
     }
     if kind < 12 {
-        let next = at + 1;
-        return Passed { next, left: 0 };
+        return at + 1;
     }
-    let next = stored_end(words, at);
-    Passed { next, left: 0 }
+    stored_end(words, at)
 }
 
 // Adds the facts of the policy at `at`, which ends with the words. These were checked before, so its nodes need no level: each is seen as it comes.
@@ -182,11 +182,7 @@ fn collect_policy_facts(words: &[u32], at: usize, set: &mut [u64])
 {
     let mut next = at;
     while next < words.len() {
-        let passed = collect_own_facts(words, next, set);
-        next = passed.next;
-        if passed.left != 0 {
-            next = collect_condition_facts(words, next, 31, set);
-        }
+        next = collect_own_facts(words, next, set);
     }
 }
 

@@ -21,38 +21,16 @@ loop-holds c = (refl, toward-start _ _ _)
 collect-own-facts-requires : tie.Need-collect-own-facts-requires Inv-loop μ-loop
 collect-own-facts-requires c κs = search needs
 
-collect-condition-facts-requires : tie.Need-collect-condition-facts-requires Inv-loop μ-loop
-collect-condition-facts-requires c κs = search needs
-
--- a condition was left, and walked over
 loop-less : tie.Need-loop-less Inv-loop μ-loop
 loop-less c =
-    let walk = c .before .before in
-    let own = walk .before .before .before .before .before .before in
-    let turn = own .before .before in
-    omega (arith, turn .loop-test .taken, own .collect-own-facts .ensures .forward, walk .collect-condition-facts .ensures .1)
+    let own = c .before .before in
+    omega (arith, own .before .before .loop-test .taken, own .collect-own-facts .ensures .1)
 
 loop-again : tie.Need-loop-again Inv-loop μ-loop
 loop-again c =
-    let walk = c .before .before in
-    let test = walk .before .before in
-    let own = test .before .before .before .before in
-    let turn = own .before .before in (
-      search needs,
-      toward-more _ _ _ _ _ (turn .loop-test .taken) (own .collect-own-facts .ensures .one-left (test .if1 .taken) _ _ (walk .collect-condition-facts .ensures .0)) _ _ (turn .before .loop .inv .1),
-    )
-
--- none was left
-loop-less-2 : tie.Need-loop-less-2 Inv-loop μ-loop
-loop-less-2 c =
-    let own = c .before .before .before .before in
-    omega (arith, own .before .before .loop-test .taken, own .collect-own-facts .ensures .forward)
-
-loop-again-2 : tie.Need-loop-again-2 Inv-loop μ-loop
-loop-again-2 c =
-    let own = c .before .before .before .before in
+    let own = c .before .before in
     let turn = own .before .before in
-    (search needs, toward-more _ _ _ _ _ (turn .loop-test .taken) (own .collect-own-facts .ensures .none-left (c .if1 .left)) _ _ (turn .before .loop .inv .1))
+    (search needs, toward-more _ _ _ _ _ (turn .loop-test .taken) (own .collect-own-facts .ensures .0) _ _ (turn .before .loop .inv .1))
 
 same-length : tie.Need-same-length Inv-loop μ-loop
 same-length c = search needs
@@ -61,6 +39,4 @@ returns : tie.Need-returns Inv-loop μ-loop
 returns c = toward-end _ _ _ _ _ (c .loop-test .left) (c .before .loop .inv .1)
 
 pub collect-policy-facts-spec : {M : Type 1} → statement M
-collect-policy-facts-spec =
-    tie.close
-    (tie.spec Inv-loop μ-loop loop-holds collect-own-facts-requires collect-condition-facts-requires loop-less loop-again loop-less-2 loop-again-2 same-length returns)
+collect-policy-facts-spec = tie.close (tie.spec Inv-loop μ-loop loop-holds collect-own-facts-requires loop-less loop-again same-length returns)

@@ -226,6 +226,13 @@ module _ (pc : List ℕ → Parsed Condition) (sheet : List ℕ) (at : ℕ) (s :
         grant-facts sheet at end n s t pc hidden o (subst (λ k. Collected wordsC namesC (at + 2 + (k + 3) / 4) s t (pc (drop (at + 2 + (k + 3) / 4) sheet)) end) same c) in
         rw e (own-if t end (leb n 64) _ (own-if t end (eqb (r / 65536 % 16) 0) (Grant hidden n o) g))
 
+    -- Without obligations.
+    pub own-plain : (t : List ℕ) (end : ℕ) → w / 268435456 ≡ 8 → w % 134217728 < 1048576 → Collected wordsC namesC (at + 2) s t (pc (drop (at + 2) sheet)) end → OwnFacts pc (policyHead w true) (drop (at + 1) sheet) at s t end
+    own-plain t end e few c =
+        let none : w / 1048576 % 128 ≡ 0 = omega arith in
+        let same : at + 2 ≡ at + 2 + (w / 1048576 % 128 + 3) / 4 = omega arith in
+        own-grant t end e (subst (λ k. Collected wordsC namesC k s t (pc (drop k sheet)) end) same c)
+
     pub own-permit-trace : (end : ℕ) → w / 268435456 ≡ 12 → ((o : ℕ) → Ended at (permitTraceNode (w / 1048576 % 128) o (drop (at + 1) sheet)) end) →
         OwnFacts pc (policyHead w true) (drop (at + 1) sheet) at s s end
     unfolding OwnFacts policyNode policyHead permitTraceHead

@@ -162,6 +162,10 @@ fn collect_own_facts(words: &[u32], at: usize, set: &mut [u64]) -> usize
     let word = words[at];
     let kind = word / policy_model::KIND;
     if kind == 8 {
+        // no obligations: where the next node begins need not wait for their count
+        if word % 134217728 < 1048576 {
+            return collect_grant_facts(words, at + 2, 31, set);
+        }
         return collect_grant_facts(
             words,
             at + 2 + ((word / 1048576 % 128) as usize + 3) / 4,

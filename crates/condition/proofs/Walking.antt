@@ -197,14 +197,14 @@ module _ (T : Table) (words : List ℕ) (s : Lent) (r : ConditionEval) (t : Lent
   opened (All (suc m)) n is e k =
       let i : n ≡ m + 0 = cc in
       let b : suc m < 4096 = below-head (All (suc m)) (getD words at 0) e in
-      open-list (All (suc m)) false allC m e refl (λ cs. refl) (λ c cs. value-both (evalCondition T c) (evalConditionAll T cs))
-      (λ c cs l. read-both (evalCondition T c) (readC T c l) (readAllC T cs (readC T c l))) (rw (list-is n m false (omega arith) (lt-leb 4096 n (omega arith)) (omega arith)) at k)
+      open-list (All (suc m)) false allC m e refl (λ cs. refl) (λ c cs. first-value T c cs false) (λ c cs. first-read T c cs false)
+      (rw (list-is n m false (omega arith) (lt-leb 4096 n (omega arith)) (omega arith)) at k)
   opened (Any zero) n is e k = let z : _≡_ {A = ℕ} 0 1 = cc in absurd (omega arith)
   opened (Any (suc m)) n is e k =
       let i : n ≡ m + 4096 = cc in
       let b : suc m < 4096 = below-head (Any (suc m)) (getD words at 0) e in
-      open-list (Any (suc m)) true anyC m e refl (λ cs. refl) (λ c cs. value-either (evalCondition T c) (evalConditionAny T cs))
-      (λ c cs l. read-either (evalCondition T c) (readC T c l) (readAnyC T cs (readC T c l))) (rw (list-is n m true (omega arith) (le-leb 4096 n (omega arith)) (omega arith)) at k)
+      open-list (Any (suc m)) true anyC m e refl (λ cs. refl) (λ c cs. first-value T c cs true) (λ c cs. first-read T c cs true)
+      (rw (list-is n m true (omega arith) (le-leb 4096 n (omega arith)) (omega arith)) at k)
   opened BadKind n is e k = let z : _≡_ {A = ℕ} 0 1 = cc in absurd (omega arith)
   opened BadField n is e k = let z : _≡_ {A = ℕ} 0 1 = cc in absurd (omega arith)
 

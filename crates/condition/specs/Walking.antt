@@ -41,6 +41,7 @@ pub data OpenNode : Type 0 where
   notNode : OpenNode
   armsNode : Bool → ℕ → OpenNode
 
+-- By its number: a Not from 8,192 on, an Any from 4,096 on.
 unfoldable pub openOf : ℕ → OpenNode
 openOf n = cond (leb 8192 n) notNode (armsNode (leb 4096 n) (n % 4096))
 

@@ -18,7 +18,7 @@ use Rattle.condition.specs.Listing.{Lent, Consults}
 use Rattle.decision.specs.declared.Decision.{Decision}
 use Rattle.decision.specs.Meaning.{decisionOf, Sound}
 use Rattle.evaluate.specs.declared.PolicyEval.{PolicyEval}
-use Rattle.evaluate.specs.Folding.{meetNext}
+use Rattle.evaluate.specs.Folding.{meetNext, joinNext}
 
 abbrev pub evalOf : Decision → ℕ → ℕ → PolicyEval
 evalOf decision next count = record { decision = decision; next = next; count = count }
@@ -51,3 +51,7 @@ pub record Folds (fold : Decided ℕ → Decided ℕ → Decided ℕ) (W : List 
 pub record Met (W : List ℕ) (sofar incoming : Decision) (before : List ℕ) (r : Decision) (after : List ℕ) : Type 0 where
   pub few : r .count ≤ 64
   pub folds : incoming .permit ≡ true → Folds meetNext W sofar before incoming (drop 64 before) r after
+
+-- Under Any, after another arm: the decision so far stays, whatever the buffers hold.
+pub record Stands (W : List ℕ) (sofar incoming : Decision) : Type 0 where
+  pub stays : (before : List ℕ) → sofar .count ≤ 64 → Folds (joinNext true) W sofar before incoming (drop 64 before) sofar before

@@ -5,7 +5,7 @@
 use decision::Decision;
 use policy_model::PolicyHead;
 ghost use mathlib.Core.Path.{_≡_};
-ghost use mathlib.Core.Bool.{Bool};
+ghost use mathlib.Core.Bool.{Bool, true};
 ghost use mathlib.Core.List.{List};
 ghost use Prim.Native.Nat.{ℕ, _+_, _*_, _≤_, _<_};
 ghost use lib.ListN.{length, drop};
@@ -14,7 +14,7 @@ ghost use Rattle.policy_model.specs.declared.PolicyHead.the-variants.{Grant, Al
 ghost use Rattle.condition.specs.Listing.{lent};
 ghost use Rattle.decision.specs.Meaning.{deniedAt, permittedAt};
 ghost use Rattle.evaluate.specs.Folding.{joinNext};
-ghost use Rattle.evaluate.specs.Evaluating.{evalOf, EvaluatesP, EvaluatesBy, Met, Folds};
+ghost use Rattle.evaluate.specs.Evaluating.{evalOf, EvaluatesP, EvaluatesBy, Met, Folds, Stands};
 
 // What was decided, the position after the policy's words, and how many entries are in use.
 pub struct PolicyEval {
@@ -80,6 +80,37 @@ pub fn joined(
         return decision::join(words, sofar, incoming, buf);
     }
     decision::keep(incoming, buf)
+}
+
+// Whether the decision so far is known to stand under Any, whatever the buffers hold: the incoming one denies, or permits less, or permits the
+// same and has no obligations.
+fn stands(words: &[u32], sofar: Decision, incoming: Decision) -> bool
+    ensures { λ r. ⌜ (r ≡ true → Stands (now (words .entry)) sofar incoming) ⌝ }
+{
+    if !incoming.permit {
+        return true;
+    }
+    if !sofar.permit {
+        return false;
+    }
+    if (sofar.outcome | incoming.outcome) != sofar.outcome {
+        return false;
+    }
+    if sofar.outcome != incoming.outcome {
+        return true;
+    }
+    decision::unobliged(words, incoming)
+}
+
+// The decision so far and one more under Any, as `joined` has it. That is called only where the decision so far may change: of many arms few do.
+fn join_arm(words: &[u32], sofar: Decision, incoming: Decision, buf: &mut [u8]) -> Decision
+    requires { ⌜ (sofar .count ≤ 64) × (incoming .count ≤ 64) × (128 ≤ length (now buf)) ⌝ }
+    ensures { λ r. ⌜ Folds (joinNext true) (now (words .entry)) sofar (now (buf .entry)) incoming (drop 64 (now (buf .entry))) r (now (buf .exit)) ⌝ }
+{
+    if !stands(words, sofar, incoming) {
+        return joined(words, sofar, true, incoming, buf);
+    }
+    sofar
 }
 
 // A grant at `at`: permits its outcome where its condition is satisfied, else denies.
@@ -297,6 +328,7 @@ fn eval_all(
 }
 
 // The Any at `at`, whose `arms` have at most `depth` levels: joins the permits, or denies with the first deny. Every arm is read.
+// The first arm has none before it, so its decision is the decision so far.
 fn eval_any(
     words: &[u32],
     at: usize,
@@ -311,11 +343,24 @@ fn eval_any(
     requires { ⌜ (at < length (now words)) × (depth < 32) × (64 * (depth + 2) ≤ length (now buf)) × (length (now words) ≤ 16384) ⌝ }
     ensures { λ r. ⌜ EvaluatesBy (Any arms) (tableOf (now (facts .entry))) (now (words .entry)) at depth (lent count (now (entries .entry)) (now (seen .entry))) r (lent (r .count) (now (entries .exit)) (now (seen .exit))) (now (buf .exit)) ⌝ }
 {
-    let mut sofar = decision::denied(words.len());
-    let mut begun = false;
-    let mut next = at + 1;
-    let mut listed = count;
-    let mut left = arms;
+    if arms == 0 {
+        return denied(words.len(), at + 1, count);
+    }
+    let first = eval_policy(
+        words,
+        at + 1,
+        depth,
+        facts,
+        entries,
+        seen,
+        count,
+        &mut buf[OBLIGATIONS..],
+    );
+    let mut next = first.next;
+    let mut listed = first.count;
+    let mut left = arms - 1;
+    let decision = first.decision;
+    let mut sofar = decision::keep(decision, buf);
     while left != 0 {
         let arm = eval_arm(
             words,
@@ -331,8 +376,7 @@ fn eval_any(
         listed = arm.count;
         left -= 1;
         let decision = arm.decision;
-        sofar = joined(words, sofar, begun, decision, buf);
-        begun = true;
+        sofar = join_arm(words, sofar, decision, buf);
     }
     PolicyEval {
         decision: sofar,

@@ -2,6 +2,7 @@
 // Lent down the walk: the consulted list (`entries`, of which the first `count` are in use, and `seen`, the set of the facts in them), and `buf`,
 // 64 bytes for each level that is left and 64 more, where a list rule keeps united obligations at the front and lends the tail to its arms.
 // A sheet is read as a residual is: where nodes 12 and 13 don't stand, it makes no difference that they may.
+use condition::ConditionEval;
 use decision::Decision;
 use policy_model::PolicyHead;
 ghost use mathlib.Core.Path.{_≡_};
@@ -14,7 +15,7 @@ ghost use Rattle.policy_model.specs.declared.PolicyHead.the-variants.{Grant, Al
 ghost use Rattle.condition.specs.Listing.{lent};
 ghost use Rattle.decision.specs.Meaning.{deniedAt, permittedAt};
 ghost use Rattle.evaluate.specs.Folding.{joinNext};
-ghost use Rattle.evaluate.specs.Evaluating.{evalOf, EvaluatesP, EvaluatesBy, Met, Folds, Stands};
+ghost use Rattle.evaluate.specs.Evaluating.{evalOf, grantedAt, EvaluatesP, EvaluatesBy, Met, Folds, Stands};
 
 // What was decided, the position after the policy's words, and how many entries are in use.
 pub struct PolicyEval {
@@ -113,7 +114,28 @@ fn join_arm(words: &[u32], sofar: Decision, incoming: Decision, buf: &mut [u8]) 
     sofar
 }
 
-// A grant at `at`: permits its outcome where its condition is satisfied, else denies.
+// The grant at `at` on the outcome, by the answer to its condition: permits where that is satisfied, else denies.
+fn granted(at: usize, outcome: u16, none: usize, condition: ConditionEval) -> PolicyEval
+    ensures { λ r. ⌜ r ≡ evalOf (grantedAt (condition .satisfied) outcome at none) (condition .next) (condition .count) ⌝ }
+{
+    let next = condition.next;
+    let count = condition.count;
+    let satisfied = condition.satisfied;
+    if satisfied {
+        return PolicyEval {
+            decision: decision::permitted_by(outcome, at),
+            next,
+            count,
+        };
+    }
+    PolicyEval {
+        decision: decision::denied_by(at, none),
+        next,
+        count,
+    }
+}
+
+// A grant at `at`, whose condition has at most `depth` levels.
 fn eval_grant(
     words: &[u32],
     at: usize,
@@ -132,21 +154,7 @@ fn eval_grant(
         return denied(none, at, count);
     }
     let condition = condition::eval_arm(words, at + before, depth, facts, entries, seen, count);
-    let next = condition.next;
-    let listed = condition.count;
-    let satisfied = condition.satisfied;
-    if satisfied {
-        return PolicyEval {
-            decision: decision::permitted_by(grant::outcome_in(words, at) as u16, at),
-            next,
-            count: listed,
-        };
-    }
-    PolicyEval {
-        decision: decision::denied_by(at, none),
-        next,
-        count: listed,
-    }
+    granted(at, grant::outcome_in(words, at) as u16, none, condition)
 }
 
 // A stored permit at `at`: word two ends with the count of its facts.

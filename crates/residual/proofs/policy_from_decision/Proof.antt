@@ -1,9 +1,25 @@
--- `residual::policy_from_decision` meets its contract: by whether the facts can be counted, and whether there is room. Assumes nothing.
+-- `residual::policy_from_decision` meets its contract: a permit with nothing but its outcome by itself, others by whether the facts can be counted, and
+-- whether there is room. Assumes nothing.
 use native.Mathlib.Omega.{arith}
 use Rattle.residual.proofs.Laying.{node-long, node-no-room, node-written}
+use Rattle.residual.proofs.Short.{node-bare}
 use borrow.Author.Needs.{needs}
 use Rattle.residual.proofs.policy_from_decision.Statement.{statement}
 use Rattle.residual.proofs.policy_from_decision.Tie as tie
+
+from-one-node-requires : tie.Need-from-one-node-requires
+from-one-node-requires c κs = search needs
+
+lay-bare-requires : tie.Need-lay-bare-requires
+lay-bare-requires c κs = search needs
+
+same-length : tie.Need-same-length
+same-length c = search needs
+
+returns : tie.Need-returns
+returns c =
+    let told = c .before .before .before .before .before .before in
+    node-bare (told .before .from-one-node .ensures (told .if1 .taken)) (c .before .before .before .before .if2 .taken) (c .before .before .lay-bare .ensures)
 
 obligations-requires : tie.Need-obligations-requires
 obligations-requires c κs = search needs
@@ -14,40 +30,37 @@ clause-facts-requires c κs = search needs
 add-result : tie.Need-add-result
 add-result c = search needs
 
-same-length : tie.Need-same-length
-same-length c = search needs
-
 same-length-2 : tie.Need-same-length-2
 same-length-2 c = search needs
-
-returns : tie.Need-returns
-returns c =
-    let facts = c .before .before .before in
-    let held = facts .before .before .before .before in
-    let start = held .before .before .before .before .before .before .before in
-    node-long (start .pre .0) (start .pre .1) (omega (arith, held .obligations .ensures, facts .before .before .before .buf .given, start .pre)) (held .obligations .ensures) (facts .clause-facts .ensures) _ (c .if1 .taken)
-
-decision-words-requires : tie.Need-decision-words-requires
-decision-words-requires c κs = search needs
 
 same-length-3 : tie.Need-same-length-3
 same-length-3 c = search needs
 
+returns-2 : tie.Need-returns-2
+returns-2 c =
+    let facts = c .before .before .before in
+    let held = facts .before .before .before .before in
+    let start = held .before .before .before .before .before .before .before .before .before in
+    node-long (start .pre .0) (start .pre .1) (omega (arith, held .obligations .ensures, facts .before .before .before .buf .given, start .pre)) (held .obligations .ensures) (facts .clause-facts .ensures) _ (c .if3 .taken)
+
+decision-words-requires : tie.Need-decision-words-requires
+decision-words-requires c κs = search needs
+
 same-length-4 : tie.Need-same-length-4
 same-length-4 c = search needs
 
-returns-2 : tie.Need-returns-2
-returns-2 c =
+same-length-5 : tie.Need-same-length-5
+same-length-5 c = search needs
+
+returns-3 : tie.Need-returns-3
+returns-3 c =
     let facts = c .before .before .before .before .before in
     let held = facts .before .before .before .before in
-    let start = held .before .before .before .before .before .before .before in
-    node-no-room (start .pre .0) (start .pre .1) (omega (arith, held .obligations .ensures, facts .before .before .before .buf .given, start .pre)) (held .obligations .ensures) (facts .clause-facts .ensures) (c .before .before .if1 .left) _ _ (c .before .decision-words .ensures) (c .if2 .taken)
+    let start = held .before .before .before .before .before .before .before .before .before in
+    node-no-room (start .pre .0) (start .pre .1) (omega (arith, held .obligations .ensures, facts .before .before .before .buf .given, start .pre)) (held .obligations .ensures) (facts .clause-facts .ensures) (c .before .before .if3 .left) _ _ (c .before .decision-words .ensures) (c .if4 .taken)
 
 write-decision-requires : tie.Need-write-decision-requires
 write-decision-requires c κs = search needs
-
-same-length-5 : tie.Need-same-length-5
-same-length-5 c = search needs
 
 same-length-6 : tie.Need-same-length-6
 same-length-6 c = search needs
@@ -55,29 +68,36 @@ same-length-6 c = search needs
 same-length-7 : tie.Need-same-length-7
 same-length-7 c = search needs
 
-returns-3 : tie.Need-returns-3
-returns-3 c =
+same-length-8 : tie.Need-same-length-8
+same-length-8 c = search needs
+
+returns-4 : tie.Need-returns-4
+returns-4 c =
     let facts = c .before .before .before .before .before .before .before .before .before .before .before in
     let held = facts .before .before .before .before in
-    let start = held .before .before .before .before .before .before .before in
-    node-written (start .pre .0) (start .pre .1) (omega (arith, held .obligations .ensures, facts .before .before .before .buf .given, start .pre)) (held .obligations .ensures) (facts .clause-facts .ensures) (c .before .before .before .before .before .before .before .before .if1 .left) _ _ _ (c .before .before .write-decision .ensures)
+    let start = held .before .before .before .before .before .before .before .before .before in
+    node-written (start .pre .0) (start .pre .1) (omega (arith, held .obligations .ensures, facts .before .before .before .buf .given, start .pre)) (held .obligations .ensures) (facts .clause-facts .ensures) (c .before .before .before .before .before .before .before .before .if3 .left) _ _ _ (c .before .before .write-decision .ensures)
 
 pub policy-from-decision-spec : {M : Type 1} → statement M
 policy-from-decision-spec =
     tie.close
     (tie.spec
+    from-one-node-requires
+    lay-bare-requires
+    same-length
+    returns
     obligations-requires
     clause-facts-requires
     add-result
-    same-length
     same-length-2
-    returns
-    decision-words-requires
     same-length-3
-    same-length-4
     returns-2
-    write-decision-requires
+    decision-words-requires
+    same-length-4
     same-length-5
+    returns-3
+    write-decision-requires
     same-length-6
     same-length-7
-    returns-3)
+    same-length-8
+    returns-4)

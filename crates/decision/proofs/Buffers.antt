@@ -3,7 +3,7 @@
 use mathlib.Core.Path.{_≡_, refl, sym, _∙_, ap, ap₂, subst}
 use mathlib.Core.Bool.{false, cond}
 use mathlib.Core.List.{List, [], _++_}
-use Prim.Native.Nat.{ℕ, zero, suc, _-_, _≤_, _<_}
+use Prim.Native.Nat.{ℕ, zero, suc, _-_, _/_, _%_, _≤_, _<_}
 use native.Mathlib.Omega.{arith}
 use borrow.Author.Tests.{eq-eqb, ne-eqb}
 use lib.Dec.{eqb, eqb·suc-zero}
@@ -14,10 +14,10 @@ use Rattle.model.specs.Decision.{permits, denies, unionObligations}
 use Rattle.laws.specs.FieldLaws.{padded}
 use Rattle.laws.specs.Form.{FormO}
 use Rattle.decision.specs.declared.Decision.{Decision}
-use Rattle.decision.specs.Nodes.{clauseAt, obligationsAt, fieldsOf, obligationCountOf}
+use Rattle.decision.specs.Nodes.{clauseAt, obligationsAt, fieldsOf}
 use Rattle.decision.specs.Meaning.{permittedAt, obligationsIn, permitOf, decisionOf, Names, Sound}
 use Rattle.decision.specs.Answers.{Loaded, United, Held, Unobliged, Both, Kept}
-use Rattle.decision.proofs.Nodes.{none-held, obligations-there}
+use Rattle.decision.proofs.Nodes.{none-held, obligations-there, no-obligations}
 
 -- ---- a decision stands for the same where its bytes are the same
 module _ (words before after : List ℕ) (d : Decision) (e : take (d .count) after ≡ take (d .count) before) where
@@ -90,9 +90,9 @@ unobliged-node words d e h = record { none = λ names buf. ap (λ b. cond b (obl
 pub unobliged-past : (words : List ℕ) (d : Decision) → d .count ≡ 0 → length words ≤ d .held → Unobliged words d
 unobliged-past words d e h = unobliged-node words d e (λ _. none-held words (d .held) h)
 
-pub unobliged-there : (words : List ℕ) (d : Decision) (n : ℕ) → d .count ≡ 0 → d .held < length words → n ≡ obligationCountOf (getD words (d .held) 0) → n ≡ 0 → Unobliged words d
-unobliged-there words d n e h c z =
-    unobliged-node words d e (λ names. sym (obligations-there words (d .held) h names) ∙ ap (λ k. padded k (fieldsOf 8 4 (drop 2 (drop (d .held) words)))) (sym c ∙ z))
+pub unobliged-there : (words : List ℕ) (d : Decision) → d .count ≡ 0 → d .held < length words → getD words (d .held) 0 / 1048576 % 128 ≡ 0 → Unobliged words d
+unobliged-there words d e h z =
+    unobliged-node words d e (λ names. sym (obligations-there words (d .held) h names) ∙ ap (λ k. padded k (fieldsOf 8 4 (drop 2 (drop (d .held) words)))) (no-obligations (getD words (d .held) 0) z))
 
 -- Two decisions' obligations, the second one's brought to the front of its own buffer, are united.
 module _ (words before mid tail rest after : List ℕ) (sofar incoming : Decision) (count more r : ℕ) (room : 128 ≤ length mid) (long : length tail ≡ length mid - 64)

@@ -170,53 +170,68 @@ obligations-there words at h (reads t vs e) =
     ∙ read-there head ws (policyNode pc p head ws) t vs (node-has pc p head ws) (sym (node-there words at h) ∙ e)
     ∙ ap obligationsRead (sym (node-there words at h))
 
--- ---- a head has at most 64 obligations
-few-if : (b : Bool) (g h : PolicyHead) → (b ≡ true → headCount g ≤ 64) → headCount h ≤ 64 → headCount (cond b g h) ≤ 64
-few-if true g h f k = f refl
-few-if false g h f k = k
+-- ---- a head has at most 64 obligations, and at most as many as the field that counts them says
+abbrev Few : ℕ → PolicyHead → Type 0
+Few r h = (headCount h ≤ 64) × (headCount h ≤ r / 1048576 % 128)
 
-few-grant : (r : ℕ) → headCount (grantHead r) ≤ 64
+few-if : (r : ℕ) (b : Bool) (g h : PolicyHead) → (b ≡ true → Few r g) → Few r h → Few r (cond b g h)
+few-if r true g h f k = f refl
+few-if r false g h f k = k
+
+none-few : (r : ℕ) → Few r BadKind
+none-few r = (omega arith, omega arith)
+
+few-grant : (r : ℕ) → Few r (grantHead r)
 unfolding grantHead
 few-grant r =
-    few-if (leb (r / 1048576 % 128) 64) _ BadField
-    (λ e. few-if (eqb (r / 65536 % 16) 0) (Grant (eqb (r / 134217728) 1) (r / 1048576 % 128) (r % 65536)) BadField (λ _. leb-true (r / 1048576 % 128) 64 e) (omega arith))
-    (omega arith)
+    few-if r (leb (r / 1048576 % 128) 64) _ BadField
+    (λ e. few-if r (eqb (r / 65536 % 16) 0) (Grant (eqb (r / 134217728) 1) (r / 1048576 % 128) (r % 65536)) BadField (λ _. (leb-true (r / 1048576 % 128) 64 e, omega arith)) (none-few r))
+    (none-few r)
 
-few-permit-trace : (r : ℕ) → headCount (permitTraceHead r) ≤ 64
+few-permit-trace : (r : ℕ) → Few r (permitTraceHead r)
 unfolding permitTraceHead
 few-permit-trace r =
-    few-if (eqb (r / 134217728) 0) _ BadField
-    (λ _. few-if (leb (r / 1048576 % 128) 64) _ BadField
-    (λ e. few-if (eqb (r / 65536 % 16) 0) (PermitWithTrace (r / 1048576 % 128) (r % 65536)) BadField (λ _. leb-true (r / 1048576 % 128) 64 e) (omega arith))
-    (omega arith))
-    (omega arith)
+    few-if r (eqb (r / 134217728) 0) _ BadField
+    (λ _. few-if r (leb (r / 1048576 % 128) 64) _ BadField
+    (λ e. few-if r (eqb (r / 65536 % 16) 0) (PermitWithTrace (r / 1048576 % 128) (r % 65536)) BadField (λ _. (leb-true (r / 1048576 % 128) 64 e, omega arith)) (none-few r))
+    (none-few r))
+    (none-few r)
 
-few-permit : (r : ℕ) → headCount (permitHead r) ≤ 64
+few-permit : (r : ℕ) → Few r (permitHead r)
 unfolding permitHead
-few-permit r = few-if (eqb (r / 65536) 0) (Permit (r % 65536)) BadField (λ _. omega arith) (omega arith)
+few-permit r = few-if r (eqb (r / 65536) 0) (Permit (r % 65536)) BadField (λ _. none-few r) (none-few r)
 
-few-deny-trace : (r : ℕ) → headCount (denyTraceHead r) ≤ 64
+few-deny-trace : (r : ℕ) → Few r (denyTraceHead r)
 unfolding denyTraceHead
 few-deny-trace r =
-    few-if (eqb (r / 65536 % 1024) 0) _ BadField
-    (λ _. few-if (eqb (r / 67108864 % 2) 1) (DenyWithTrace (eqb (r / 134217728) 1) true (r % 65536)) _ (λ _. omega arith)
-    (few-if (eqb (r % 65536) 0) (DenyWithTrace (eqb (r / 134217728) 1) false (r % 65536)) BadField (λ _. omega arith) (omega arith)))
-    (omega arith)
+    few-if r (eqb (r / 65536 % 1024) 0) _ BadField
+    (λ _. few-if r (eqb (r / 67108864 % 2) 1) (DenyWithTrace (eqb (r / 134217728) 1) true (r % 65536)) _ (λ _. none-few r)
+    (few-if r (eqb (r % 65536) 0) (DenyWithTrace (eqb (r / 134217728) 1) false (r % 65536)) BadField (λ _. none-few r) (none-few r)))
+    (none-few r)
 
-few-heads : (r j : ℕ) → headCount (getD (policyHeads true r) j BadKind) ≤ 64
+few-heads : (r j : ℕ) → Few r (getD (policyHeads true r) j BadKind)
 few-heads r zero = few-permit r
-few-heads r (suc zero) = few-if (eqb r 0) Deny BadField (λ _. omega arith) (omega arith)
+few-heads r (suc zero) = few-if r (eqb r 0) Deny BadField (λ _. none-few r) (none-few r)
 few-heads r (suc (suc zero)) = few-grant r
-few-heads r (suc (suc (suc zero))) = few-if (ltb r 4096) (All r) BadField (λ _. omega arith) (omega arith)
-few-heads r (suc (suc (suc (suc zero)))) = few-if (ltb r 4096) (Any r) BadField (λ _. omega arith) (omega arith)
-few-heads r (suc (suc (suc (suc (suc zero))))) = few-if (eqb r 0) OrElse BadField (λ _. omega arith) (omega arith)
+few-heads r (suc (suc (suc zero))) = few-if r (ltb r 4096) (All r) BadField (λ _. none-few r) (none-few r)
+few-heads r (suc (suc (suc (suc zero)))) = few-if r (ltb r 4096) (Any r) BadField (λ _. none-few r) (none-few r)
+few-heads r (suc (suc (suc (suc (suc zero))))) = few-if r (eqb r 0) OrElse BadField (λ _. none-few r) (none-few r)
 few-heads r (suc (suc (suc (suc (suc (suc zero)))))) = few-permit-trace r
 few-heads r (suc (suc (suc (suc (suc (suc (suc zero))))))) = few-deny-trace r
-few-heads r (suc (suc (suc (suc (suc (suc (suc (suc j)))))))) = omega arith
+few-heads r (suc (suc (suc (suc (suc (suc (suc (suc j)))))))) = none-few r
+
+few-in : (w : ℕ) → Few (restOf w) (policyHead w true)
+unfolding policyHead
+few-in w = few-if (restOf w) (leb 6 (kindOf w)) (getD (policyHeads true (restOf w)) (kindOf w - 6) BadKind) BadKind (λ _. few-heads (restOf w) (kindOf w - 6)) (none-few (restOf w))
 
 pub few-obligations : (w : ℕ) → obligationCountOf w ≤ 64
-unfolding obligationCountOf policyHead
-few-obligations w = few-if (leb 6 (kindOf w)) (getD (policyHeads true (restOf w)) (kindOf w - 6) BadKind) BadKind (λ _. few-heads (restOf w) (kindOf w - 6)) (omega arith)
+unfolding obligationCountOf
+few-obligations w = few-in w .0
+
+-- A word whose field says none has none, whatever its node.
+pub no-obligations : (w : ℕ) → w / 1048576 % 128 ≡ 0 → obligationCountOf w ≡ 0
+unfolding obligationCountOf
+no-obligations w e = omega (arith, few-in w .1)
 
 -- What the code counts and loads.
 pub counted-as : (w : ℕ) (h : PolicyHead) → h ≡ policyHead w true → (headCount h ≡ obligationCountOf w) × (headCount h ≤ 64)

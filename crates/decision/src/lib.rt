@@ -193,8 +193,9 @@ pub fn obligations(words: &[u32], decision: Decision, buf: &mut [u8]) -> usize
     load_obligations(words, decision.held, buf)
 }
 
-// Whether a permit is known to have no obligations, so that there is nothing to unite.
-fn unobliged(words: &[u32], decision: Decision) -> bool
+// Whether a permit is known to have no obligations, so that there is nothing to unite. The field that counts them stands in one place in all
+// nodes that have any, so the word is tested without its head.
+pub fn unobliged(words: &[u32], decision: Decision) -> bool
     ensures { λ r. ⌜ (r ≡ true → Unobliged (now (words .entry)) decision) ⌝ }
 {
     let at = decision.held;
@@ -204,7 +205,7 @@ fn unobliged(words: &[u32], decision: Decision) -> bool
     if words.len() <= at {
         return true;
     }
-    obligation_count(words[at]) == 0
+    words[at] / 1048576 % 128 == 0
 }
 
 // Unites the obligations of two permits at the front of the buffer, those of the permit so far first, and returns how many there are.

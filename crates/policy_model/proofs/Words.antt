@@ -3,7 +3,7 @@ use mathlib.Core.Path.{_≡_, refl, sym, _∙_, ap}
 use mathlib.Core.Bool.{Bool, true, false, cond}
 use Prim.Native.Nat.{ℕ, suc, _-_, _/_, _%_, _≤_, _<_}
 use native.Mathlib.Omega.{arith}
-use borrow.Author.Tests.{leb-true, lt-ltb}
+use borrow.Author.Tests.{leb-true}
 use lib.Dec.{leb}
 use lib.ListN.{getD, List·getD-eq-default}
 use Rattle.policy_model.specs.declared.ConditionHead.{ConditionHead}
@@ -12,6 +12,7 @@ use Rattle.policy_model.specs.declared.ConditionHead.the-variants as con
 use Rattle.policy_model.specs.declared.PolicyHead.{PolicyHead}
 use Rattle.policy_model.specs.declared.PolicyHead.the-variants as policy
 use Rattle.policy_model.specs.Heads.{conditionHeads, conditionHead, policyHeads, policyHead}
+use Rattle.policy_model.specs.HeadLaws.{has-word}
 
 pub kind-C : (w k : ℕ) (h : ConditionHead) → w / 268435456 ≡ k → h ≡ getD (conditionHeads (w % 268435456)) k condition.BadKind → h ≡ conditionHead w
 unfolding conditionHead
@@ -21,12 +22,9 @@ pub no-kind-C : (w : ℕ) → 6 ≤ w / 268435456 → condition.BadKind ≡ cond
 unfolding conditionHead
 no-kind-C w h = sym (List·getD-eq-default (conditionHeads (w % 268435456)) condition.BadKind h)
 
--- A word that one division shows to be a Has.
-pub has-word : (w : ℕ) → w / 1024 ≡ 524288 → Has (w % 268435456) ≡ conditionHead w
-has-word w e =
-    let k : w / 268435456 ≡ 2 = omega arith in
-    let small : w % 268435456 < 1024 = omega arith in
-    kind-C w 2 (Has (w % 268435456)) k (rw (lt-ltb (w % 268435456) 1024 small))
+-- A word that one division shows to be a Has, by all bits below the kind.
+pub has-rest : (w : ℕ) → w / 1024 ≡ 524288 → Has (w % 268435456) ≡ conditionHead w
+has-rest w e = let same : w % 268435456 ≡ w % 1024 = omega arith in ap Has same ∙ has-word w e
 
 pub kind-P : (w k : ℕ) (res : Bool) (h : PolicyHead) → w / 268435456 ≡ k → h ≡ cond (leb 6 k) (getD (policyHeads res (w % 268435456)) (k - 6) policy.BadKind) policy.BadKind → h ≡ policyHead w res
 unfolding policyHead

@@ -265,3 +265,27 @@ any-word w res e =
     let k : w / 268435456 ≡ 10 = omega arith in
     let same : w % 268435456 ≡ w % 4096 = omega arith in
     rw (k, same, lt-ltb (w % 4096) 4096 (omega arith))
+
+-- A Grant without obligations.
+no-obligations : (r : ℕ) → r % 134217728 < 65536 → r / 1048576 % 128 ≡ 0
+no-obligations r h = omega arith
+
+shape-bit : (w : ℕ) → (w % 268435456) / 134217728 ≡ w / 134217728 % 2
+shape-bit w = omega arith
+
+pub grant-word : (w : ℕ) (res : Bool) → w / 268435456 ≡ 8 → w / 65536 % 2048 ≡ 0 → Grant (eqb (w / 134217728 % 2) 1) 0 (w % 65536) ≡ policyHead w res
+unfolding policyHead grantHead
+grant-word w res e n =
+    let low : w % 134217728 < 65536 = omega arith in
+    let none : (w % 268435456) / 1048576 % 128 ≡ 0 = no-obligations (w % 268435456) (omega arith) in
+    let clear : (w % 268435456) / 65536 % 16 ≡ 0 = omega arith in
+    let same : (w % 268435456) % 65536 ≡ w % 65536 = omega arith in
+    rw (e, none, clear, same, shape-bit w)
+
+-- A condition's word that one division shows to be a Has.
+pub has-word : (w : ℕ) → w / 1024 ≡ 524288 → Has (w % 1024) ≡ conditionHead w
+unfolding conditionHead
+has-word w e =
+    let k : w / 268435456 ≡ 2 = omega arith in
+    let same : w % 268435456 ≡ w % 1024 = omega arith in
+    rw (k, same, lt-ltb (w % 1024) 1024 (omega arith))

@@ -3,3 +3,4 @@ pub mod HeadLaws
 pub mod Lists
 pub mod Answers
 pub mod Span
+pub mod Plain

@@ -11,6 +11,7 @@ ghost use Rattle.model.specs.Writing.{obligationBits, entryBits};
 ghost use Rattle.model.specs.Reading.{many, readList, obligation, listed, consulted, readCondition, readPolicy, whole, readSheet, parse14, readRecord};
 ghost use Rattle.laws.specs.Size.{quads, pairs, wordsC, wordsCs, wordsD, words as wordsT, wordss as wordsTs};
 ghost use Rattle.policy_model.specs.Heads.{conditionHead, deepCondition, permitHead, grantHead, permitTraceHead, denyTraceHead, policyHead, deepPolicy, grantNode, permitTraceNode, denyTraceNode};
+ghost use Rattle.policy_model.specs.Plain.{plainGrant};
 ghost use Rattle.policy_model.specs.Lists.{seenOne, seenAll, entryFits, pairFits, markFits, marksFit, checkedPairs};
 ghost use Rattle.policy_model.specs.Answers.{checked, atEnd, refusal, sheetRefusal, bodyAt, wordsB, leadOf, recordLead, recordOf};
 ghost use Rattle.policy_model.specs.Span.{armsOf, ownOf, span, Skipped};
@@ -252,6 +253,28 @@ pub fn policy_head(word: u32, residual: bool) -> PolicyHead
         return PolicyHead::Any(word % COUNTS);
     }
     head_by_kind(word, residual)
+}
+
+// Whether a Grant without label, reason and obligations, on one fact, stands at `at`: the commonest policy, told by its three words.
+pub fn plain_grant(words: &[u32], at: usize) -> bool
+    requires { ⌜ at < length (now words) ⌝ }
+    ensures { λ r. ⌜ r ≡ plainGrant (drop at (now (words .entry))) ⌝ }
+{
+    if words.len() - at < 3 {
+        return false;
+    }
+    let word = words[at];
+    if word / KIND != 8 {
+        return false;
+    }
+    // neither obligations nor a bit that must be 0
+    if word / HALF % 2048 != 0 {
+        return false;
+    }
+    if words[at + 1] != 0 {
+        return false;
+    }
+    words[at + 2] / FACTS == HAS
 }
 
 // What a check finds: the position after what was checked, or the number of the refusal.

@@ -14,25 +14,15 @@ returns c e = let z : _≡_ {A = ℕ} 0 1 = cc in absurd (omega arith)
 returns-2 : tie.Need-returns-2
 returns-2 c e = unobliged-past _ _ (c .before .if1 .left) (c .if2 .taken)
 
-mul-obligation-count : tie.Need-mul-obligation-count
-mul-obligation-count c = search needs
+mul-result : tie.Need-mul-result
+mul-result c = search needs
 
-shared-slice-read-obligation-count : tie.Need-shared-slice-read-obligation-count
-shared-slice-read-obligation-count c = search needs
-
-obligation-count-requires : tie.Need-obligation-count-requires
-obligation-count-requires c κs = search needs
+shared-slice-read-result : tie.Need-shared-slice-read-result
+shared-slice-read-result c = search needs
 
 returns-3 : tie.Need-returns-3
-returns-3 c e = unobliged-there _ _ _ (c .before .before .before .if1 .left) (c .before .before .if2 .left) (c .obligation-count .ensures .0) (eqb-true _ _ e)
+returns-3 c e = unobliged-there _ _ (c .before .before .if1 .left) (c .before .if2 .left) (eqb-true _ _ e)
 
 pub unobliged-spec : {M : Type 1} → statement M
 unobliged-spec =
-    tie.close
-    (tie.spec
-    returns
-    returns-2
-    mul-obligation-count
-    shared-slice-read-obligation-count
-    obligation-count-requires
-    returns-3)
+    tie.close (tie.spec returns returns-2 mul-result shared-slice-read-result returns-3)

@@ -11,7 +11,7 @@ use Rattle.policy_model.specs.declared.ConditionHead.{ConditionHead}
 use Rattle.policy_model.specs.declared.ConditionHead.the-variants.{Always, Never, Has, Not, All, Any, BadKind, BadField}
 use Rattle.policy_model.specs.Answers.{checked}
 use Rattle.policy_model.specs.Heads.{conditionNode}
-use Rattle.policy_model.proofs.Words.{has-word}
+use Rattle.policy_model.specs.HeadLaws.{has-word}
 use Rattle.policy_model.proofs.Conditions.{Asked, no-condition, too-deep, by-head, after-not, after-all, after-any, AskedAll, one-more, one-refused, none-left}
 use Prim.Native.Nat.{ℕ, _+_, _-_, _*_, _<_}
 use borrow.Fn.Kinds.{In}

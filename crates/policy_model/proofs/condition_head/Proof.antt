@@ -1,12 +1,12 @@
 -- `policy_model::condition_head` meets its contract: a Has by one test, the others by the kind and by the test of its field. Assumes nothing.
 use native.Mathlib.Omega.{arith}
 use borrow.Author.Tests.{eq-eqb, ne-eqb, lt-ltb, le-ltb}
-use Rattle.policy_model.proofs.Words.{kind-C, no-kind-C, has-word, up}
+use Rattle.policy_model.proofs.Words.{kind-C, no-kind-C, has-rest, up}
 use Rattle.policy_model.proofs.condition_head.Statement.{statement}
 use Rattle.policy_model.proofs.condition_head.Tie as tie
 
 returns : tie.Need-returns
-returns c = has-word _ (c .if1 .taken)
+returns c = has-rest _ (c .if1 .taken)
 
 returns-2 : tie.Need-returns-2
 returns-2 c = kind-C _ 0 _ (c .before .match .keys1) (rw (eq-eqb _ _ (c .if2 .taken)))

@@ -28,10 +28,10 @@ use Rattle.condition.specs.Listing.{Lent, lent}
 use Rattle.condition.specs.Evaluating.{isSatisfied, Evaluated, EvaluatesC}
 use Rattle.condition.proofs.Listing.{consults-none, consults-as}
 use Rattle.decision.specs.Nodes.{nodeAt}
-use Rattle.decision.specs.Meaning.{deniedAt, permittedAt, decisionOf, past, reads}
+use Rattle.decision.specs.Meaning.{deniedAt, permittedAt, decisionOf, past, reads, Sound}
 use Rattle.decision.proofs.Standing.{node-reads, as-permit, denied-is, denied-grant, denied-stored, permitted-is, permitted-grant, permitted-stored, sound-denied, sound-permitted}
 use Rattle.evaluate.specs.declared.PolicyEval.{PolicyEval}
-use Rattle.evaluate.specs.Evaluating.{evalOf, Answers, EvaluatesP, EvaluatesBy}
+use Rattle.evaluate.specs.Evaluating.{evalOf, grantedAt, Answers, EvaluatesP, EvaluatesBy}
 use Rattle.evaluate.proofs.Nodes.{held-at, in-sheet, node-holds, node-knows, grant-reads, permit-reads, deny-reads}
 
 -- The answer to a policy at `at`.
@@ -118,6 +118,31 @@ eval-permit-word T W at (suc depth) count entries seen buf lt e =
     (eval-permit T W at (suc depth - 1) (at + 1) count entries seen buf lt (getD W at 0 % 65536) refl)
 
 -- ---- a grant
+-- The answer to a grant at `at`, by the answer to its condition.
+module _ (T : Table) (W : List ℕ) (at : ℕ) (buf : List ℕ) (g : Clause ℕ) (c : Condition) (rest : List ℕ) (node : nodeAt W at ≡ got (grant g c) rest) where
+  granted-is : (b : Bool) (x : model.ConditionEval) → evalCondition T c ≡ x → b ≡ isSatisfied x → decisionOf W T buf (grantedAt b (g .outcome) at (length W)) ≡ evalPolicy productSets T (grant g c)
+  granted-is true (satisfied fs) e y = permitted-grant W T buf at g c rest fs node e
+  granted-is true (unsatisfied fs) e y = cc
+  granted-is false (satisfied fs) e y = cc
+  granted-is false (unsatisfied fs) e y = denied-grant W T buf at (length W) g c rest fs node e
+
+  granted-sound : (b : Bool) → Sound W buf (grantedAt b (g .outcome) at (length W))
+  granted-sound true = sound-permitted W buf (g .outcome) at (reads (grant g c) rest node)
+  granted-sound false = sound-denied W buf at (length W) (reads (grant g c) rest node) (omega arith)
+
+  granted-answers : (a : ConditionEval) (s t : Lent) (end : ℕ) → Evaluated (isSatisfied (evalCondition T c)) end (readC T c) s a t → end ≡ at + words (grant g c) →
+      Answered T W at s (evalOf (grantedAt (a .satisfied) (g .outcome) at (length W)) (a .next) (a .count)) t buf (grant g c) rest
+  granted-answers a s t end h e = record {
+    decision-is = granted-is (a .satisfied) (evalCondition T c) refl (h .satisfied-is);
+    sound = granted-sound (a .satisfied);
+    next-is = h .next-is ∙ e;
+    log = consults-as (λ l. refl) (h .log);
+  }
+
+granted-few : (b : Bool) (o at none : ℕ) → grantedAt b o at none .count ≤ 64
+granted-few true o at none = omega arith
+granted-few false o at none = omega arith
+
 module _ (T : Table) (W : List ℕ) (at depth : ℕ) (hidden : Bool) (n o : ℕ) (lt : at < length W) (deep : depth < 32) where
   -- A grant that ends early.
   pub grant-short : (s : Lent) (r : PolicyEval) (buf : List ℕ) → r .decision .count ≤ 64 → length W - at < 2 + (n + 3) / 4 → EvaluatesBy (Grant hidden n o) T W at depth s r s buf
@@ -158,41 +183,16 @@ module _ (T : Table) (W : List ℕ) (at depth : ℕ) (hidden : Bool) (n o : ℕ)
       })
       (node-knows W at depth (Grant hidden n o) lt e (grant-reads depth hidden n o (drop (at + 1) W)))
 
-  module _ (buf : List ℕ) (c : Condition) (g : Clause ℕ) (rest : List ℕ) (node : nodeAt W at ≡ got (grant g c) rest) (is : g .outcome ≡ o) where
-    permits-as : (x : model.ConditionEval) → evalCondition T c ≡ x → isSatisfied x ≡ true → decisionOf W T buf (permittedAt o at at 0) ≡ evalPolicy productSets T (grant g c)
-    permits-as (satisfied fs) e y = ap (λ i. decisionOf W T buf (permittedAt i at at 0)) (sym is) ∙ permitted-grant W T buf at g c rest fs node e
-    permits-as (unsatisfied fs) e y = cc
-
-    denies-as : (x : model.ConditionEval) → evalCondition T c ≡ x → isSatisfied x ≡ false → decisionOf W T buf (deniedAt at (length W)) ≡ evalPolicy productSets T (grant g c)
-    denies-as (satisfied fs) e y = cc
-    denies-as (unsatisfied fs) e y = denied-grant W T buf at (length W) g c rest fs node e
-
-  module _ (a : ConditionEval) (s t : Lent) (buf : List ℕ) (c : EvaluatesC T W (at + (2 + (n + 3) / 4)) depth s a t) where
-    pub grant-permits : a .satisfied ≡ true → EvaluatesBy (Grant hidden n o) T W at depth s (evalOf (permittedAt o at at 0) (a .next) (a .count)) t buf
-    grant-permits v = record {
-      few = omega arith;
-      says = λ e. weaker (readPolicy (productSets .value) true (suc depth) (drop at W)) (λ p rest g.
-          let x = evalCondition T (g .inner) in
-          subst (λ q. Answered T W at s (evalOf (permittedAt o at at 0) (a .next) (a .count)) t buf q rest) (sym (g .policy-is)) (record {
-            decision-is = permits-as buf (g .inner) (g .clause) rest (g .node) (g .outcome-is) x refl (sym (g .answer .satisfied-is) ∙ v);
-            sound = sound-permitted W buf o at (reads (grant (g .clause) (g .inner)) rest (g .node));
-            next-is = g .answer .next-is ∙ sym (g .words-are);
-            log = consults-as (λ l. refl) (g .answer .log);
-          })) (grant-known a s t c e);
-    }
-
-    pub grant-denies : a .satisfied ≡ false → EvaluatesBy (Grant hidden n o) T W at depth s (evalOf (deniedAt at (length W)) (a .next) (a .count)) t buf
-    grant-denies v = record {
-      few = omega arith;
-      says = λ e. weaker (readPolicy (productSets .value) true (suc depth) (drop at W)) (λ p rest g.
-          let x = evalCondition T (g .inner) in
-          subst (λ q. Answered T W at s (evalOf (deniedAt at (length W)) (a .next) (a .count)) t buf q rest) (sym (g .policy-is)) (record {
-            decision-is = denies-as buf (g .inner) (g .clause) rest (g .node) (g .outcome-is) x refl (sym (g .answer .satisfied-is) ∙ v);
-            sound = sound-denied W buf at (length W) (reads (grant (g .clause) (g .inner)) rest (g .node)) (omega arith);
-            next-is = g .answer .next-is ∙ sym (g .words-are);
-            log = consults-as (λ l. refl) (g .answer .log);
-          })) (grant-known a s t c e);
-    }
+  pub grant-decides : (a : ConditionEval) (s t : Lent) (buf : List ℕ) → EvaluatesC T W (at + (2 + (n + 3) / 4)) depth s a t →
+      EvaluatesBy (Grant hidden n o) T W at depth s (evalOf (grantedAt (a .satisfied) o at (length W)) (a .next) (a .count)) t buf
+  grant-decides a s t buf c = record {
+    few = granted-few (a .satisfied) o at (length W);
+    says = λ e. weaker (readPolicy (productSets .value) true (suc depth) (drop at W)) (λ p rest g.
+        let clause = g .clause in
+        subst (λ q. Answered T W at s (evalOf (grantedAt (a .satisfied) o at (length W)) (a .next) (a .count)) t buf q rest) (sym (g .policy-is))
+        (subst (λ i. Answered T W at s (evalOf (grantedAt (a .satisfied) i at (length W)) (a .next) (a .count)) t buf (grant clause (g .inner)) rest) (g .outcome-is)
+        (granted-answers T W at buf clause (g .inner) rest (g .node) a s t _ (g .answer) (sym (g .words-are))))) (grant-known a s t c e);
+  }
 
 -- ---- stored decisions
 module _ (T : Table) (W : List ℕ) (at depth : ℕ) (lt : at < length W) (deep : depth < 32) where

@@ -11,11 +11,13 @@ use Rattle.model.specs.Decision.{Decision as Decided}
 use Rattle.decision.specs.declared.Decision.{Decision}
 use Rattle.decision.specs.Nodes.{clauseAt}
 use Rattle.decision.specs.Meaning.{permitOf, decisionOf}
-use Rattle.decision.specs.Answers.{Kept, Folded}
+use Rattle.decision.specs.Answers.{Unobliged, Kept, Folded}
 use Rattle.decision.proofs.Standing.{as-permit, as-deny}
+use Rattle.decision.proofs.Folding.{join-unobliged}
+use Rattle.decision.proofs.Folding.{join-first as first-joined}
 use Rattle.decision.proofs.Buffers.{same-decision, same-sound, kept-decision, kept-sound, lent-front, lent-back}
 use Rattle.evaluate.specs.Folding.{meetNext, joinNext}
-use Rattle.evaluate.specs.Evaluating.{Folds, Met}
+use Rattle.evaluate.specs.Evaluating.{Folds, Met, Stands}
 
 -- ---- the incoming decision is taken, or two permits are folded
 module _ (W before after : List ℕ) (sofar incoming r : Decision) where
@@ -76,6 +78,18 @@ join-deny W before sofar incoming begun b few q = rw b (record {
   sound = λ s _. s;
   folded = λ _ _ T. sym (join-deny-at (decisionOf W T before sofar) (decisionOf W T (drop 64 before) incoming) (clauseAt W T (incoming .clause)) (as-deny W T (drop 64 before) incoming q));
 })
+
+-- ---- the decision so far stands
+module _ (W : List ℕ) (sofar incoming : Decision) where
+  pub stands-deny : incoming .permit ≡ false → Stands W sofar incoming
+  stands-deny q = record { stays = λ before few. join-deny W before sofar incoming true refl few q }
+
+  module _ (o : ℕ) (is : o ≡ productSets .join (sofar .outcome) (incoming .outcome)) (p : sofar .permit ≡ true) (q : incoming .permit ≡ true) (e : o ≡ sofar .outcome) where
+    pub stands-more : (o ≡ incoming .outcome → ⊥) → Stands W sofar incoming
+    stands-more n = record { stays = λ before few. join-permits W before before sofar incoming sofar true refl p q (first-joined W before sofar incoming o is few e n) }
+
+    pub stands-same : o ≡ incoming .outcome → Unobliged W incoming → Stands W sofar incoming
+    stands-same k u = record { stays = λ before few. join-permits W before before sofar incoming sofar true refl p q (join-unobliged W before sofar incoming o is few e k u) }
 
 -- ---- where the tail of the buffer was lent to the arm
 module _ (W buf part rest after : List ℕ) (sofar incoming r : Decision) (room : 64 ≤ length buf) (few : sofar .count ≤ 64) (fits : incoming .count ≤ length part) where

@@ -1,6 +1,6 @@
 -- What the evaluation of policies answers, and what it leaves in the list and the buffer that it is lent.
 use mathlib.Core.Path.{_≡_}
-use mathlib.Core.Bool.{Bool, true}
+use mathlib.Core.Bool.{Bool, true, false}
 use mathlib.Core.List.{List}
 use Prim.Native.Nat.{ℕ, suc, _+_, _≤_}
 use lib.ListN.{drop, getD}
@@ -16,12 +16,17 @@ use Rattle.policy_model.specs.declared.PolicyHead.{PolicyHead}
 use Rattle.policy_model.specs.Heads.{policyHead}
 use Rattle.condition.specs.Listing.{Lent, Consults}
 use Rattle.decision.specs.declared.Decision.{Decision}
-use Rattle.decision.specs.Meaning.{decisionOf, Sound}
+use Rattle.decision.specs.Meaning.{deniedAt, permittedAt, decisionOf, Sound}
 use Rattle.evaluate.specs.declared.PolicyEval.{PolicyEval}
-use Rattle.evaluate.specs.Folding.{meetNext}
+use Rattle.evaluate.specs.Folding.{meetNext, joinNext}
 
 abbrev pub evalOf : Decision → ℕ → ℕ → PolicyEval
 evalOf decision next count = record { decision = decision; next = next; count = count }
+
+-- The decision of a grant at `at` on the outcome o, by whether its condition is satisfied.
+abbrev pub grantedAt : Bool → ℕ → ℕ → ℕ → Decision
+grantedAt true o at none = permittedAt o at at 0
+grantedAt false o at none = deniedAt at none
 
 -- The answer to what comes to D, takes the words up to `end` and consults as `reads` does. `buf` is the buffer afterwards.
 pub record Answers (T : Table) (W : List ℕ) (D : Decided ℕ) (end : ℕ) (reads : Consulted → Consulted) (s : Lent) (r : PolicyEval) (t : Lent) (buf : List ℕ) : Type 0 where
@@ -51,3 +56,7 @@ pub record Folds (fold : Decided ℕ → Decided ℕ → Decided ℕ) (W : List 
 pub record Met (W : List ℕ) (sofar incoming : Decision) (before : List ℕ) (r : Decision) (after : List ℕ) : Type 0 where
   pub few : r .count ≤ 64
   pub folds : incoming .permit ≡ true → Folds meetNext W sofar before incoming (drop 64 before) r after
+
+-- Under Any, after another arm: the decision so far stays, whatever the buffers hold.
+pub record Stands (W : List ℕ) (sofar incoming : Decision) : Type 0 where
+  pub stays : (before : List ℕ) → sofar .count ≤ 64 → Folds (joinNext true) W sofar before incoming (drop 64 before) sofar before

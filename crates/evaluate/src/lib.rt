@@ -2,10 +2,11 @@
 // Lent down the walk: the consulted list (`entries`, of which the first `count` are in use, and `seen`, the set of the facts in them), and `buf`,
 // 64 bytes for each level that is left and 64 more, where a list rule keeps united obligations at the front and lends the tail to its arms.
 // A sheet is read as a residual is: where nodes 12 and 13 don't stand, it makes no difference that they may.
+use condition::ConditionEval;
 use decision::Decision;
 use policy_model::PolicyHead;
 ghost use mathlib.Core.Path.{_≡_};
-ghost use mathlib.Core.Bool.{Bool};
+ghost use mathlib.Core.Bool.{Bool, true};
 ghost use mathlib.Core.List.{List};
 ghost use Prim.Native.Nat.{ℕ, _+_, _*_, _≤_, _<_};
 ghost use lib.ListN.{length, drop};
@@ -14,7 +15,7 @@ ghost use Rattle.policy_model.specs.declared.PolicyHead.the-variants.{Grant, Al
 ghost use Rattle.condition.specs.Listing.{lent};
 ghost use Rattle.decision.specs.Meaning.{deniedAt, permittedAt};
 ghost use Rattle.evaluate.specs.Folding.{joinNext};
-ghost use Rattle.evaluate.specs.Evaluating.{evalOf, EvaluatesP, EvaluatesBy, Met, Folds};
+ghost use Rattle.evaluate.specs.Evaluating.{evalOf, grantedAt, EvaluatesP, EvaluatesBy, Met, Folds, Stands};
 
 // What was decided, the position after the policy's words, and how many entries are in use.
 pub struct PolicyEval {
@@ -82,7 +83,59 @@ pub fn joined(
     decision::keep(incoming, buf)
 }
 
-// A grant at `at`: permits its outcome where its condition is satisfied, else denies.
+// Whether the decision so far is known to stand under Any, whatever the buffers hold: the incoming one denies, or permits less, or permits the
+// same and has no obligations.
+fn stands(words: &[u32], sofar: Decision, incoming: Decision) -> bool
+    ensures { λ r. ⌜ (r ≡ true → Stands (now (words .entry)) sofar incoming) ⌝ }
+{
+    if !incoming.permit {
+        return true;
+    }
+    if !sofar.permit {
+        return false;
+    }
+    if (sofar.outcome | incoming.outcome) != sofar.outcome {
+        return false;
+    }
+    if sofar.outcome != incoming.outcome {
+        return true;
+    }
+    decision::unobliged(words, incoming)
+}
+
+// The decision so far and one more under Any, as `joined` has it. That is called only where the decision so far may change: of many arms few do.
+fn join_arm(words: &[u32], sofar: Decision, incoming: Decision, buf: &mut [u8]) -> Decision
+    requires { ⌜ (sofar .count ≤ 64) × (incoming .count ≤ 64) × (128 ≤ length (now buf)) ⌝ }
+    ensures { λ r. ⌜ Folds (joinNext true) (now (words .entry)) sofar (now (buf .entry)) incoming (drop 64 (now (buf .entry))) r (now (buf .exit)) ⌝ }
+{
+    if !stands(words, sofar, incoming) {
+        return joined(words, sofar, true, incoming, buf);
+    }
+    sofar
+}
+
+// The grant at `at` on the outcome, by the answer to its condition: permits where that is satisfied, else denies.
+fn granted(at: usize, outcome: u16, none: usize, condition: ConditionEval) -> PolicyEval
+    ensures { λ r. ⌜ r ≡ evalOf (grantedAt (condition .satisfied) outcome at none) (condition .next) (condition .count) ⌝ }
+{
+    let next = condition.next;
+    let count = condition.count;
+    let satisfied = condition.satisfied;
+    if satisfied {
+        return PolicyEval {
+            decision: decision::permitted_by(outcome, at),
+            next,
+            count,
+        };
+    }
+    PolicyEval {
+        decision: decision::denied_by(at, none),
+        next,
+        count,
+    }
+}
+
+// A grant at `at`, whose condition has at most `depth` levels.
 fn eval_grant(
     words: &[u32],
     at: usize,
@@ -101,21 +154,7 @@ fn eval_grant(
         return denied(none, at, count);
     }
     let condition = condition::eval_arm(words, at + before, depth, facts, entries, seen, count);
-    let next = condition.next;
-    let listed = condition.count;
-    let satisfied = condition.satisfied;
-    if satisfied {
-        return PolicyEval {
-            decision: decision::permitted_by(grant::outcome_in(words, at) as u16, at),
-            next,
-            count: listed,
-        };
-    }
-    PolicyEval {
-        decision: decision::denied_by(at, none),
-        next,
-        count: listed,
-    }
+    granted(at, grant::outcome_in(words, at) as u16, none, condition)
 }
 
 // A stored permit at `at`: word two ends with the count of its facts.
@@ -297,6 +336,7 @@ fn eval_all(
 }
 
 // The Any at `at`, whose `arms` have at most `depth` levels: joins the permits, or denies with the first deny. Every arm is read.
+// The first arm has none before it, so its decision is the decision so far.
 fn eval_any(
     words: &[u32],
     at: usize,
@@ -311,11 +351,24 @@ fn eval_any(
     requires { ⌜ (at < length (now words)) × (depth < 32) × (64 * (depth + 2) ≤ length (now buf)) × (length (now words) ≤ 16384) ⌝ }
     ensures { λ r. ⌜ EvaluatesBy (Any arms) (tableOf (now (facts .entry))) (now (words .entry)) at depth (lent count (now (entries .entry)) (now (seen .entry))) r (lent (r .count) (now (entries .exit)) (now (seen .exit))) (now (buf .exit)) ⌝ }
 {
-    let mut sofar = decision::denied(words.len());
-    let mut begun = false;
-    let mut next = at + 1;
-    let mut listed = count;
-    let mut left = arms;
+    if arms == 0 {
+        return denied(words.len(), at + 1, count);
+    }
+    let first = eval_policy(
+        words,
+        at + 1,
+        depth,
+        facts,
+        entries,
+        seen,
+        count,
+        &mut buf[OBLIGATIONS..],
+    );
+    let mut next = first.next;
+    let mut listed = first.count;
+    let mut left = arms - 1;
+    let decision = first.decision;
+    let mut sofar = decision::keep(decision, buf);
     while left != 0 {
         let arm = eval_arm(
             words,
@@ -331,8 +384,7 @@ fn eval_any(
         listed = arm.count;
         left -= 1;
         let decision = arm.decision;
-        sofar = joined(words, sofar, begun, decision, buf);
-        begun = true;
+        sofar = join_arm(words, sofar, decision, buf);
     }
     PolicyEval {
         decision: sofar,

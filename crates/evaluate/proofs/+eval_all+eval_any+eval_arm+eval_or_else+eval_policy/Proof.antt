@@ -4,15 +4,17 @@
 use borrow.Author.Needs.{needs}
 use borrow.Author.Tests.{not-true, not-false}
 use mathlib.Core.Path.{refl, sym, _∙_}
-use Prim.Native.Nat.{ℕ, _+_, _*_, _<_}
+use mathlib.Core.Bool.{true, false}
+use Prim.Native.Nat.{ℕ, _+_, _*_, _≤_, _<_}
 use native.Mathlib.Omega.{arith}
+use lib.ListN.{length}
 use Rattle.model.specs.Facts.{tableOf}
 use Rattle.model.specs.Outcome.{productSets}
 use Rattle.model.specs.Consulted.{readAll, readAny}
 use Rattle.policy_model.specs.declared.PolicyHead.the-variants.{Permit, Deny, Grant, All, Any, OrElse, PermitWithTrace, DenyWithTrace, BadKind, BadField}
 use Rattle.condition.specs.Listing.{lent}
 use Rattle.evaluate.specs.Evaluating.{EvaluatesBy}
-use Rattle.evaluate.proofs.Folds.{lent-folds}
+use Rattle.evaluate.proofs.Folds.{join-first, lent-folds}
 use Rattle.evaluate.proofs.Evaluating.{by-head, eval-end, eval-limit, eval-bad-kind, eval-bad-field, eval-permit, eval-permit-word, eval-deny}
 use Rattle.evaluate.proofs.Arms.{ArmsLeft, allLeft, anyLeft, arms-none, arms-passed, all-more, all-stop, any-more, all-node, any-node, or-permits, or-denies, Going}
 use borrow.Fn.Kinds.{In}
@@ -35,7 +37,8 @@ use Rattle.evaluate.proofs.+eval_all+eval_any+eval_arm+eval_or_else+eva
 use Rattle.decision.proofs.denied.Reads as denied-reads
 use Rattle.evaluate.proofs.denied.Reads as denied-reads′
 use Rattle.evaluate.proofs.eval_grant.Reads as eval-grant-reads
-use Rattle.evaluate.proofs.joined.Reads as joined-reads
+use Rattle.evaluate.proofs.join_arm.Reads as join-arm-reads
+use Rattle.decision.proofs.keep.Reads as keep-reads
 use Rattle.evaluate.proofs.met.Reads as met-reads
 use Rattle.evaluate.proofs.permitted.Reads as permitted-reads
 use Rattle.evaluate.proofs.stored_deny.Reads as stored-deny-reads
@@ -75,18 +78,19 @@ abbrev eval-all-μ-loop : eval-all-lts.MeasureT-loop
 eval-all-μ-loop words at depth arms facts entries₀ seen₀ count buf₀ sofar₀ next₀ listed₀ left₀ entries seen buf sofar next listed left = left
 
 abbrev eval-any-Inv-loop : eval-any-lts.InvT-loop
-eval-any-Inv-loop words at depth arms facts entries₀ seen₀ count buf₀ sofar₀ begun₀ next₀ listed₀ left₀ entries seen buf sofar begun next listed left =
-    Going
-    (ArmsLeft (anyLeft (tableOf facts) words begun sofar buf) (readAny productSets (tableOf facts)) (tableOf facts) words sofar buf next depth left (lent listed entries seen))
-    (EvaluatesBy (Any arms) (tableOf facts) words at depth (lent count entries₀ seen₀))
-    (lent count entries₀ seen₀)
+eval-any-Inv-loop words at depth arms facts entries₀ seen₀ count buf₀ next₀ listed₀ left₀ sofar₀ entries seen buf next listed left sofar =
+    (64 * (depth + 2) ≤ length buf)
+    × Going
+    (ArmsLeft (anyLeft (tableOf facts) words true sofar buf) (readAny productSets (tableOf facts)) (tableOf facts) words sofar buf next depth left (lent listed entries seen))
+    (ArmsLeft (anyLeft (tableOf facts) words true sofar₀ buf₀) (readAny productSets (tableOf facts)) (tableOf facts) words sofar₀ buf₀ next₀ depth left₀ (lent listed₀ entries₀ seen₀))
+    (lent listed₀ entries₀ seen₀)
     (lent listed entries seen)
     sofar
     buf₀
     buf
 
 abbrev eval-any-μ-loop : eval-any-lts.MeasureT-loop
-eval-any-μ-loop words at depth arms facts entries₀ seen₀ count buf₀ sofar₀ begun₀ next₀ listed₀ left₀ entries seen buf sofar begun next listed left = left
+eval-any-μ-loop words at depth arms facts entries₀ seen₀ count buf₀ next₀ listed₀ left₀ sofar₀ entries seen buf next listed left sofar = left
 
 module _ (t : ℕ) where
   abbrev eval-all-at : In 5 eval-all-kinds.ps
@@ -224,47 +228,90 @@ module _ (t : ℕ) where
 
   -- what `eval-any` calls
   abbrev eval-any-calls : eval-any-lts.Claims
-  eval-any-calls = (denied-reads.Asked, denied-reads.Learnt, eval-arm-below, eval-arm.Post, joined-reads.Asked, joined-reads.Learnt)
+  eval-any-calls = (denied-reads′.Asked, denied-reads′.Learnt, eval-policy-below, eval-policy.Post, keep-reads.Asked, keep-reads.Learnt, eval-arm-below, eval-arm.Post, join-arm-reads.Asked, join-arm-reads.Learnt)
+
+  eval-any-add-denied : eval-any-lts.Need-add-denied eval-any-calls eval-any-at eval-any.Post eval-any-Inv-loop eval-any-μ-loop
+  eval-any-add-denied c = search needs
 
   eval-any-denied-requires : eval-any-lts.Need-denied-requires eval-any-calls eval-any-at eval-any.Post eval-any-Inv-loop eval-any-μ-loop
   eval-any-denied-requires c κs = search needs
 
-  eval-any-add-next : eval-any-lts.Need-add-next eval-any-calls eval-any-at eval-any.Post eval-any-Inv-loop eval-any-μ-loop
-  eval-any-add-next c = search needs
+  eval-any-returns : eval-any-lts.Need-returns eval-any-calls eval-any-at eval-any.Post eval-any-Inv-loop eval-any-μ-loop
+  eval-any-returns c =
+      let start = c .before .before .before .before .before .before .before in
+      rw (c .denied .ensures) (any-node _ _ _ _ _ _ _ _ _ _ _ refl (start .pre .1 .0) (arms-none _ _ _ _ _ _ _ _ _ _ _ (c .before .if1 .taken) (omega arith) refl (λ l. refl)))
 
-  eval-any-loop-holds : eval-any-lts.Need-loop-holds eval-any-calls eval-any-at eval-any.Post eval-any-Inv-loop eval-any-μ-loop
-  eval-any-loop-holds c =
-      rw (c .denied .ensures)
-      (record {
-        entries-long = refl;
-        seen-long = refl;
-        buf-long = refl;
-        few = omega arith;
-        goes = λ r t end e. any-node _ _ _ _ _ _ r t _ end _ refl (c .before .before .before .before .before .before .pre .1 .0) e;
-      })
+  eval-any-add-eval-policy : eval-any-lts.Need-add-eval-policy eval-any-calls eval-any-at eval-any.Post eval-any-Inv-loop eval-any-μ-loop
+  eval-any-add-eval-policy c = search needs
 
-  eval-any-sub-eval-arm : eval-any-lts.Need-sub-eval-arm eval-any-calls eval-any-at eval-any.Post eval-any-Inv-loop eval-any-μ-loop
-  eval-any-sub-eval-arm c = search needs
+  eval-any-sub-eval-policy : eval-any-lts.Need-sub-eval-policy eval-any-calls eval-any-at eval-any.Post eval-any-Inv-loop eval-any-μ-loop
+  eval-any-sub-eval-policy c = search needs
 
-  eval-any-part-eval-arm-start : eval-any-lts.Need-part-eval-arm-start eval-any-calls eval-any-at eval-any.Post eval-any-Inv-loop eval-any-μ-loop
-  eval-any-part-eval-arm-start c = search needs
+  eval-any-part-eval-policy-start : eval-any-lts.Need-part-eval-policy-start eval-any-calls eval-any-at eval-any.Post eval-any-Inv-loop eval-any-μ-loop
+  eval-any-part-eval-policy-start c = search needs
 
-  eval-any-part-eval-arm-end : eval-any-lts.Need-part-eval-arm-end eval-any-calls eval-any-at eval-any.Post eval-any-Inv-loop eval-any-μ-loop
-  eval-any-part-eval-arm-end c = search needs
+  eval-any-part-eval-policy-end : eval-any-lts.Need-part-eval-policy-end eval-any-calls eval-any-at eval-any.Post eval-any-Inv-loop eval-any-μ-loop
+  eval-any-part-eval-policy-end c = search needs
 
-  eval-any-eval-arm-requires : eval-any-lts.Need-eval-arm-requires eval-any-calls eval-any-at eval-any.Post eval-any-Inv-loop eval-any-μ-loop
-  eval-any-eval-arm-requires c κs = search needs
+  eval-any-eval-policy-requires : eval-any-lts.Need-eval-policy-requires eval-any-calls eval-any-at eval-any.Post eval-any-Inv-loop eval-any-μ-loop
+  eval-any-eval-policy-requires c κs = search needs
 
   eval-any-sub-left : eval-any-lts.Need-sub-left eval-any-calls eval-any-at eval-any.Post eval-any-Inv-loop eval-any-μ-loop
   eval-any-sub-left c = search needs
 
-  eval-any-joined-requires : eval-any-lts.Need-joined-requires eval-any-calls eval-any-at eval-any.Post eval-any-Inv-loop eval-any-μ-loop
-  eval-any-joined-requires c κs =
+  eval-any-keep-requires : eval-any-lts.Need-keep-requires eval-any-calls eval-any-at eval-any.Post eval-any-Inv-loop eval-any-μ-loop
+  eval-any-keep-requires c κs =
+      let back = c .before .before .before in
+      let call = back .before .before .before .before .before in
+      let start = call .before .before .before .before .before .before .before .before .before .before in
+      (call .eval-policy .ensures .few, omega (arith, back .buf .given, start .pre))
+
+  eval-any-loop-holds : eval-any-lts.Need-loop-holds eval-any-calls eval-any-at eval-any.Post eval-any-Inv-loop eval-any-μ-loop
+  eval-any-loop-holds c =
+      let kept = c .before .before in
+      let back = kept .before .before .before .before in
+      let call = back .before .before .before .before .before in
+      let start = call .before .before .before .before .before .before .before .before .before .before in (
+        omega (arith, c .before .buf2 .given, back .buf .given, start .pre),
+        record {
+          entries-long = refl;
+          seen-long = refl;
+          buf-long = refl;
+          few = rw (kept .keep .ensures .same) (call .eval-policy .ensures .few);
+          goes = λ r t end e. e;
+        },
+      )
+
+  eval-any-sub-eval-arm : eval-any-lts.Need-sub-eval-arm eval-any-calls eval-any-at eval-any.Post eval-any-Inv-loop eval-any-μ-loop
+  eval-any-sub-eval-arm c =
+      let loop = c .before .before .before in
+      omega (arith, loop .loop .inv .0)
+
+  eval-any-part-eval-arm-start : eval-any-lts.Need-part-eval-arm-start eval-any-calls eval-any-at eval-any.Post eval-any-Inv-loop eval-any-μ-loop
+  eval-any-part-eval-arm-start c =
+      let loop = c .before .before .before in
+      omega (arith, loop .loop .inv .0)
+
+  eval-any-part-eval-arm-end : eval-any-lts.Need-part-eval-arm-end eval-any-calls eval-any-at eval-any.Post eval-any-Inv-loop eval-any-μ-loop
+  eval-any-part-eval-arm-end c =
+      let loop = c .before .before .before in
+      omega (arith, loop .loop .inv .0)
+
+  eval-any-eval-arm-requires : eval-any-lts.Need-eval-arm-requires eval-any-calls eval-any-at eval-any.Post eval-any-Inv-loop eval-any-μ-loop
+  eval-any-eval-arm-requires c κs =
+      let loop = c .before .before .before .before in
+      let start = loop .before .before .before .before .before .before .before .before .before .before .before .before .before .before .before .before .before .before .before .before .before .before in
+      (omega (arith, start .pre .0), (omega (arith, start .pre .1 .1), omega (arith, loop .loop .inv .0), start .pre .1 .3))
+
+  eval-any-sub-left-2 : eval-any-lts.Need-sub-left-2 eval-any-calls eval-any-at eval-any.Post eval-any-Inv-loop eval-any-μ-loop
+  eval-any-sub-left-2 c = search needs
+
+  eval-any-join-arm-requires : eval-any-lts.Need-join-arm-requires eval-any-calls eval-any-at eval-any.Post eval-any-Inv-loop eval-any-μ-loop
+  eval-any-join-arm-requires c κs =
       let back = c .before .before .before in
       let call = back .before .before .before .before .before in
       let loop = call .before .before .before .before .before in
-      let start = loop .before .before .before .before .before .before .before in
-      (loop .loop .inv .few, call .eval-arm .ensures .few, omega (arith, back .buf .given, loop .loop .inv .buf-long, start .pre))
+      (loop .loop .inv .1 .few, call .eval-arm .ensures .few, omega (arith, back .buf3 .given, loop .loop .inv .0))
 
   eval-any-loop-less : eval-any-lts.Need-loop-less eval-any-calls eval-any-at eval-any.Post eval-any-Inv-loop eval-any-μ-loop
   eval-any-loop-less c = omega arith
@@ -276,17 +323,19 @@ module _ (t : ℕ) where
       let call = back .before .before .before .before .before in
       let turn = call .before .before .before .before in
       let loop = turn .before in
-      let start = loop .before .before .before .before .before .before .before in
-      record {
-        entries-long = omega (arith, back .before .before .before .before .entries .given, loop .loop .inv .entries-long);
-        seen-long = omega (arith, back .before .before .seen .given, loop .loop .inv .seen-long);
-        buf-long = omega (arith, c .before .buf2 .given, back .buf .given, loop .loop .inv .buf-long);
-        few = join .joined .ensures .few;
-        goes = λ r t end e. loop .loop .inv .goes r t end
-            (any-more _ _ _ _ _ t _ r _ _ _ end _ _ (turn .loop-test .taken) (call .eval-arm .ensures) (loop .loop .begun) _ _
-            (lent-folds _ _ _ _ _ _ _ _ (omega (arith, loop .loop .inv .buf-long, start .pre)) (loop .loop .inv .few) (omega (arith, back .buf .given, loop .loop .inv .buf-long, start .pre, call .eval-arm .ensures .few)) _
-            (join .joined .ensures)) e);
-      }
+      let going = loop .loop .inv .1 in (
+        omega (arith, c .before .buf4 .given, back .buf3 .given, loop .loop .inv .0),
+        record {
+          entries-long = omega (arith, back .before .before .before .before .entries2 .given, going .entries-long);
+          seen-long = omega (arith, back .before .before .seen2 .given, going .seen-long);
+          buf-long = omega (arith, c .before .buf4 .given, back .buf3 .given, going .buf-long);
+          few = join .join-arm .ensures .few;
+          goes = λ r t end e. going .goes r t end
+              (any-more _ _ _ _ _ t _ r _ _ _ end _ _ (turn .loop-test .taken) (call .eval-arm .ensures) true _ _
+              (lent-folds _ _ _ _ _ _ _ _ (omega (arith, loop .loop .inv .0)) (going .few) (omega (arith, back .buf3 .given, loop .loop .inv .0, call .eval-arm .ensures .few)) _
+              (join .join-arm .ensures)) e);
+        },
+      )
 
   eval-any-same-length : eval-any-lts.Need-same-length eval-any-calls eval-any-at eval-any.Post eval-any-Inv-loop eval-any-μ-loop
   eval-any-same-length c = search needs
@@ -297,10 +346,18 @@ module _ (t : ℕ) where
   eval-any-same-length-3 : eval-any-lts.Need-same-length-3 eval-any-calls eval-any-at eval-any.Post eval-any-Inv-loop eval-any-μ-loop
   eval-any-same-length-3 c = search needs
 
-  eval-any-returns : eval-any-lts.Need-returns eval-any-calls eval-any-at eval-any.Post eval-any-Inv-loop eval-any-μ-loop
-  eval-any-returns c =
+  eval-any-returns-2 : eval-any-lts.Need-returns-2 eval-any-calls eval-any-at eval-any.Post eval-any-Inv-loop eval-any-μ-loop
+  eval-any-returns-2 c =
       let loop = c .before in
-      loop .loop .inv .goes _ _ _ (arms-none _ _ _ _ _ _ _ _ _ _ _ (c .loop-test .left) (loop .loop .inv .few) refl (λ l. refl))
+      let kept = loop .before .before .before in
+      let back = kept .before .before .before .before in
+      let call = back .before .before .before .before .before in
+      let start = call .before .before .before .before .before .before .before .before .before .before in
+      any-node _ _ _ _ _ _ _ _ (start .args .buf .now) _ _ refl (start .pre .1 .0)
+      (any-more _ _ _ _ _ _ _ _ _ _ _ _ _ _ (call .before .before .before .before .if1 .left) (call .eval-policy .ensures) false _ _
+      (lent-folds _ _ _ _ _ _ _ _ (omega (arith, start .pre)) (omega arith) (omega (arith, back .buf .given, start .pre, call .eval-policy .ensures .few)) _
+      (join-first _ _ _ _ _ _ false refl (call .eval-policy .ensures .few) (kept .keep .ensures)))
+      (loop .loop .inv .1 .goes _ _ _ (arms-none _ _ _ _ _ _ _ _ _ _ _ (c .loop-test .left) (loop .loop .inv .1 .few) refl (λ l. refl))))
 
   -- what `eval-arm` calls
   abbrev eval-arm-calls : eval-arm-lts.Claims
@@ -612,21 +669,29 @@ pub +eval-all+eval-any+eval-arm+eval-or-else+eval-policy-spec : {M : Type 1} →
     (eval-all-same-length-6 t)
     (eval-all-returns-2 t))
     (λ t. eval-any-lts.spec (eval-any-calls t) (eval-any-at t) eval-any.Post eval-any-Inv-loop eval-any-μ-loop
+    (eval-any-add-denied t)
     (eval-any-denied-requires t)
-    (eval-any-add-next t)
+    (eval-any-returns t)
+    (eval-any-add-eval-policy t)
+    (eval-any-sub-eval-policy t)
+    (eval-any-part-eval-policy-start t)
+    (eval-any-part-eval-policy-end t)
+    (eval-any-eval-policy-requires t)
+    (eval-any-sub-left t)
+    (eval-any-keep-requires t)
     (eval-any-loop-holds t)
     (eval-any-sub-eval-arm t)
     (eval-any-part-eval-arm-start t)
     (eval-any-part-eval-arm-end t)
     (eval-any-eval-arm-requires t)
-    (eval-any-sub-left t)
-    (eval-any-joined-requires t)
+    (eval-any-sub-left-2 t)
+    (eval-any-join-arm-requires t)
     (eval-any-loop-less t)
     (eval-any-loop-again t)
     (eval-any-same-length t)
     (eval-any-same-length-2 t)
     (eval-any-same-length-3 t)
-    (eval-any-returns t))
+    (eval-any-returns-2 t))
     (λ t. eval-arm-lts.spec (eval-arm-calls t) (eval-arm-at t) eval-arm.Post
     (eval-arm-denied-requires t)
     (eval-arm-returns t)

@@ -1,6 +1,6 @@
--- `evaluate::eval_grant` meets its contract: by whether its words end early, and whether its condition is satisfied. Assumes nothing.
+-- `evaluate::eval_grant` meets its contract: by whether its words end early. Assumes nothing.
 use native.Mathlib.Omega.{arith}
-use Rattle.evaluate.proofs.Evaluating.{grant-short, grant-permits, grant-denies}
+use Rattle.evaluate.proofs.Evaluating.{grant-short, grant-decides}
 use Rattle.evaluate.proofs.Grants.{grant-by-word}
 use borrow.Author.Needs.{needs}
 use Rattle.evaluate.proofs.eval_grant.Statement.{statement}
@@ -35,11 +35,11 @@ eval-arm-requires c κs = search needs
 outcome-in-requires : tie.Need-outcome-in-requires
 outcome-in-requires c κs = search needs
 
-cast-permitted-by : tie.Need-cast-permitted-by
-cast-permitted-by c = search needs
+cast-granted : tie.Need-cast-granted
+cast-granted c = search needs
 
-permitted-by-requires : tie.Need-permitted-by-requires
-permitted-by-requires c κs = search needs
+granted-requires : tie.Need-granted-requires
+granted-requires c κs = search needs
 
 same-length : tie.Need-same-length
 same-length c = search needs
@@ -50,30 +50,12 @@ same-length-2 c = search needs
 returns-2 : tie.Need-returns-2
 returns-2 c =
     let outcome = c .before in
-    let call = outcome .before .before .before .before .before .before in
+    let call = outcome .before .before .before .before .before in
     let found = call .before .before .before .before in
     let start = found .before .before .before .before .before in
-    λ hidden n o buf. rw (c .permitted-by .ensures, outcome .outcome-in .ensures)
+    λ hidden n o buf. rw (c .granted .ensures, outcome .outcome-in .ensures)
     (grant-by-word hidden n o
-    (grant-permits _ _ _ _ hidden _ _ (start .pre .0) (start .pre .1) _ _ _ buf (rw (found .before-condition-in .ensures) at (call .eval-arm .ensures)) (outcome .before .if2 .taken)))
-
-denied-by-requires : tie.Need-denied-by-requires
-denied-by-requires c κs = search needs
-
-same-length-3 : tie.Need-same-length-3
-same-length-3 c = search needs
-
-same-length-4 : tie.Need-same-length-4
-same-length-4 c = search needs
-
-returns-3 : tie.Need-returns-3
-returns-3 c =
-    let call = c .before .before .before .before .before .before in
-    let found = call .before .before .before .before in
-    let start = found .before .before .before .before .before in
-    λ hidden n o buf. rw (c .denied-by .ensures)
-    (grant-by-word hidden n o
-    (grant-denies _ _ _ _ hidden _ _ (start .pre .0) (start .pre .1) _ _ _ buf (rw (found .before-condition-in .ensures) at (call .eval-arm .ensures)) (c .before .if2 .left)))
+    (grant-decides _ _ _ _ hidden _ _ (start .pre .0) (start .pre .1) _ _ _ buf (rw (found .before-condition-in .ensures) at (call .eval-arm .ensures))))
 
 pub eval-grant-spec : {M : Type 1} → statement M
 eval-grant-spec =
@@ -87,12 +69,8 @@ eval-grant-spec =
     add-eval-arm
     eval-arm-requires
     outcome-in-requires
-    cast-permitted-by
-    permitted-by-requires
+    cast-granted
+    granted-requires
     same-length
     same-length-2
-    returns-2
-    denied-by-requires
-    same-length-3
-    same-length-4
-    returns-3)
+    returns-2)

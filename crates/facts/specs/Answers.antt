@@ -20,6 +20,11 @@ isPresent model.absent = false
 isPresent model.present = true
 isPresent model.unknown = false
 
+abbrev pub isSettled : model.Presence → Bool
+isSettled model.absent = true
+isSettled model.present = true
+isSettled model.unknown = false
+
 abbrev pub kindOf : TableKind → model.TableKind
 kindOf Partial = model.partialFacts
 kindOf Known = model.knownFacts

@@ -6,7 +6,7 @@ ghost use lib.ListN.{length, getD};
 ghost use Rattle.model.specs.Fields.{split};
 ghost use Rattle.model.specs.Facts.{tableFields, tableOf, fieldFault, firstFault, tableBytes, tableFault};
 ghost use Rattle.model.specs.Facts.{partialFacts, knownFacts};
-ghost use Rattle.facts.specs.Answers.{presenceOf, isPresent, kindOf, faultOf, noFault};
+ghost use Rattle.facts.specs.Answers.{presenceOf, isPresent, isSettled, kindOf, faultOf, noFault};
 
 // What a table says of a fact.
 pub enum Presence {
@@ -59,6 +59,13 @@ pub fn present(facts: &[u8], fact: u32) -> bool
     ensures { λ r. ⌜ r ≡ isPresent (tableOf (now (facts .entry)) fact) ⌝ }
 {
     field(facts, fact) == 1
+}
+
+// Whether the table has the fact as Present or Absent.
+pub fn settled(facts: &[u8], fact: u32) -> bool
+    ensures { λ r. ⌜ r ≡ isSettled (tableOf (now (facts .entry)) fact) ⌝ }
+{
+    field(facts, fact) < 2
 }
 
 // The fault of a field.

@@ -102,7 +102,7 @@ decision-added {every} {T} {W} {v} {d} {now} {buf} {front} {mid} {buf′} {front
 }
 
 -- ---- the arm
-arms-with-most : (permit : Bool) (n : ℕ) → armsWith permit n ≤ n + 1
+pub arms-with-most : (permit : Bool) (n : ℕ) → armsWith permit n ≤ n + 1
 arms-with-most true n = omega arith
 arms-with-most false n = omega arith
 

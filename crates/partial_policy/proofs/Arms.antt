@@ -5,7 +5,7 @@ use mathlib.Core.Option.{none}
 use mathlib.Core.List.{List, [], _∷_, _++_, append-nil}
 use Prim.Native.Nat.{ℕ, suc, _+_, _-_, _≤_, _<_, min}
 use native.Mathlib.Omega.{arith}
-use lib.ListN.{length, take, drop, getD, length-append, length-take, length-drop, drop-of-length-le}
+use lib.ListN.{length, take, drop, getD, length-append, length-take, length-drop, drop-of-length-le, take-append-drop}
 use lib.Seq.{drop-drop, drop-at, length-take-le}
 use Rattle.model.specs.Facts.{Table, asKnown}
 use Rattle.model.specs.Outcome.{productSets}
@@ -39,11 +39,11 @@ use Rattle.partial_policy.specs.declared.ReducedPolicy.{ReducedPolicy}
 use Rattle.partial_policy.specs.declared.Sofar.{Sofar}
 use Rattle.partial_policy.specs.Keeping.{Walked, walked, append, withArm, stops, thenAll, thenAny, leftOf, readOf, listOf, left-more, read-more, left-stop, read-stop, asDecisions, sofarValue, isBegun, foldNext, value-more, begun-more, isOpen, open-more, armsWith, nodesOf, withNodes, endOf, left-none, end-none, end-some, weightsD, encodesD, nodes-more, node-words-more, node-count-more, pend-more, pend-words-more, pend-count-more}
 use Rattle.partial_policy.specs.Within.{LaidWithin, within, within-less, within-as, within-then, within-still, laid-still}
-use Rattle.partial_policy.specs.Reducing.{resolvedTo, leftTo, Result, ReducedTo, ReducesP, ReducesBy, sofarOf, listHead, Bounded, SofarIs, DecisionAdded, ArmAdded, ListEnds, OrElsePut}
+use Rattle.partial_policy.specs.Reducing.{resolvedTo, leftTo, Result, ReducedTo, ReducesP, ReducesBy, sofarOf, listHead, Bounded, SofarIs, DecisionAdded, ArmAdded, ArmsLeft, ListEnds, OrElsePut}
 use Rattle.partial_policy.proofs.Adding.{clash}
 
 -- ---- what comes back of a slice whose tail was lent
-abbrev back : ℕ → List ℕ → List ℕ → List ℕ
+abbrev pub back : ℕ → List ℕ → List ℕ → List ℕ
 back from mid part = take from mid ++ (part ++ drop (length mid - from) (drop from mid))
 
 back-long : (from : ℕ) (mid part : List ℕ) → from ≤ length mid → length part ≡ length mid - from → length (back from mid part) ≡ length mid
@@ -55,6 +55,12 @@ back-part : (from : ℕ) (mid part : List ℕ) → from ≤ length mid → drop 
 back-part from mid part h =
     let none-left : drop (length mid - from) (drop from mid) ≡ [] = drop-of-length-le (drop from mid) {i = length mid - from} (omega (arith, length-drop from mid)) in
     drop-at (take from mid) (part ++ drop (length mid - from) (drop from mid)) from (length-take-le from mid h) ∙ ap (λ us. part ++ us) none-left ∙ append-nil part
+
+-- A tail that comes back as it was.
+pub back-same : (from : ℕ) (mid : List ℕ) → back from mid (drop from mid) ≡ mid
+back-same from mid =
+    let none-left : drop (length mid - from) (drop from mid) ≡ [] = drop-of-length-le (drop from mid) {i = length mid - from} (omega (arith, length-drop from mid)) in
+    ap (λ us. take from mid ++ us) (ap (λ us. drop from mid ++ us) none-left ∙ append-nil (drop from mid)) ∙ take-append-drop from mid
 
 -- ---- whether an arm stops the list
 module _ (T : Table) (W buf : List ℕ) (room : ℕ) (out : List ℕ) (a : ReducedPolicy) where
@@ -152,13 +158,6 @@ module _ (every : Bool) (T : Table) (W : List ℕ) (v : Sofar) (a : ReducedPolic
       rw (now .0, now .1, now .2) (open-more-arm k q s x)
 
 -- ---- arms
--- The answer for the arms that are left, given what is kept so far. Of arms that don't read only the bounds are said.
-pub record ArmsLeft (every : Bool) (P : Table) (W : List ℕ) (v : Sofar) (buf front out : List ℕ) (at depth arms : ℕ) (s : Lent) (r : ReducedPolicy) (t : Lent) (buf′ out′ : List ℕ) : Type 0 where
-  pub few : r .decision .count ≤ 64
-  pub bound : r .size ≤ tooMany
-  pub says : (k : Walked) → SofarIs every P W k v buf front out →
-      Holds (λ ts rest. ReducedTo (leftOf every P k ts) (at + wordss ts) (readOf every P ts) P W s r t buf′ (length front) out′) (many pnil pcons (readPolicy (productSets .value) true depth) arms (drop at W))
-
 module _ (every : Bool) (P : Table) (W : List ℕ) (depth : ℕ) (s m t : Lent) (a r : ReducedPolicy) (v : Sofar) (buf front out part opart : List ℕ) (room : ℕ) (buf′ out′ : List ℕ) (at arms : ℕ) (some : arms ≡ 0 → ⊥)
     (first : ReducesP P W at depth s a m part room opart) where
   abbrev Whole : Walked → Policy ℕ → Policies ℕ → List ℕ → Type 0

@@ -2,3 +2,4 @@ pub mod Adding
 pub mod Ending
 pub mod Nodes
 pub mod Arms
+pub mod Running

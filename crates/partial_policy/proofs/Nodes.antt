@@ -38,7 +38,8 @@ use Rattle.condition.proofs.Listing.{consults-as}
 use Rattle.decision.specs.Nodes.{nodeAt}
 use Rattle.decision.specs.Meaning.{deniedAt, permittedAt, decisionOf, reads}
 use Rattle.decision.proofs.Standing.{node-reads, denied-grant, permitted-grant, sound-denied, sound-permitted}
-use Rattle.evaluate.specs.Evaluating.{Answers}
+use Rattle.evaluate.specs.declared.PolicyEval.{PolicyEval}
+use Rattle.evaluate.specs.Evaluating.{EvaluatesP}
 use Rattle.evaluate.proofs.Nodes.{held-at, in-sheet, node-holds, node-knows, grant-reads}
 use Rattle.evaluate.proofs.Evaluating.{nothing-there, no-levels, one-level}
 use Rattle.sizes.specs.Laid.{tooMany, capped, Laid, laid-then, laid-as}
@@ -67,9 +68,9 @@ module _ (P : Table) (W : List ℕ) (at depth : ℕ) (s : Lent) (r : ReducedPoli
 abbrev constants : List ℕ
 constants = 0 ∷ 1 ∷ 6 ∷ 7 ∷ 8 ∷ 9 ∷ []
 
-record Constant (P : Table) (p : Policy ℕ) (rest : List ℕ) : Type 0 where
-  value-is : reducePolicy productSets P p ≡ resolved (evalPolicy productSets P p)
-  read-is : (l : Consulted) → walk productSets P p l ≡ read productSets P p l
+pub record Constant (P : Table) (p : Policy ℕ) (rest : List ℕ) : Type 0 where
+  pub value-is : reducePolicy productSets P p ≡ resolved (evalPolicy productSets P p)
+  pub read-is : (l : Consulted) → walk productSets P p l ≡ read productSets P p l
 
 whatever : {A : Type 0} (q : Parsed A) → Holds (λ _ _. Unit {0}) q
 whatever (refuse n) = nothing
@@ -89,23 +90,28 @@ constant-there pc p P (DenyWithTrace hidden denied o) ws k =
 constant-there pc p P BadKind ws k = nothing
 constant-there pc p P BadField ws k = nothing
 
+-- The answer is that of evaluation.
+pub evaluated : (P : Table) (W : List ℕ) (at depth : ℕ) (s : Lent) (e : PolicyEval) (t : Lent) (buf : List ℕ) (room : ℕ) (out : List ℕ) → EvaluatesP P W at depth s e t buf →
+    Holds (Constant P) (readPolicy (productSets .value) true depth (drop at W)) → ReducesP P W at depth s (resolvedTo (e .decision) (e .next) (e .count)) t buf room out
+evaluated P W at depth s e t buf room out answers c = record {
+  few = answers .few;
+  bound = omega arith;
+  says = in-sheet depth (drop at W)
+      (weaker (readPolicy (productSets .value) true depth (drop at W)) (λ p rest g.
+      record {
+        result = rw (g .1 .value-is) (record { settled = refl; decision-is = g .0 .decision-is; sound = g .0 .sound });
+        next-is = g .0 .next-is;
+        log = consults-as (g .1 .read-is) (g .0 .log);
+      })
+      (both-hold (readPolicy (productSets .value) true depth (drop at W)) (answers .says true) c));
+}
+
 pub reduce-constant : (P : Table) (W : List ℕ) (at depth : ℕ) (s : Lent) (r : ReducedPolicy) (t : Lent) (buf : List ℕ) (room : ℕ) (out : List ℕ) (h : PolicyHead) → at < length W → (depth ≡ 0 → ⊥) → h ≡ policyHead (getD W at 0) true →
     OneOf constants (tagOf the-type h) → ReducesConstant P W at depth s r t buf → ReducesP P W at depth s r t buf room out
 reduce-constant P W at depth s r t buf room out h lt f e k c =
     rw (c .is)
-    (record {
-      few = c .evaluates .few;
-      bound = omega arith;
-      says = in-sheet depth (drop at W)
-          (weaker (readPolicy (productSets .value) true depth (drop at W)) (λ p rest g.
-          record {
-            result = rw (g .1 .value-is) (record { settled = refl; decision-is = g .0 .decision-is; sound = g .0 .sound });
-            next-is = g .0 .next-is;
-            log = consults-as (g .1 .read-is) (g .0 .log);
-          })
-          (both-hold (readPolicy (productSets .value) true depth (drop at W)) (c .evaluates .says true)
-          (one-level depth (drop at W) f (node-holds W at (depth - 1) h lt e (constant-there (readCondition (depth - 1)) (readPolicy (productSets .value) true (depth - 1)) P h (drop (at + 1) W) k)))));
-    })
+    (evaluated P W at depth s (c .eval) t buf room out (c .evaluates)
+    (one-level depth (drop at W) f (node-holds W at (depth - 1) h lt e (constant-there (readCondition (depth - 1)) (readPolicy (productSets .value) true (depth - 1)) P h (drop (at + 1) W) k))))
 
 -- ---- a list has at most 4,095 arms
 abbrev Few : PolicyHead → Type 0

@@ -2,19 +2,19 @@
 use mathlib.Core.Path.{_≡_}
 use mathlib.Core.Bool.{Bool, true, false, not, _&&_}
 use mathlib.Core.List.{List, [], _∷_, _++_}
-use Prim.Native.Nat.{ℕ, suc, _+_, _-_, _≤_, min}
+use Prim.Native.Nat.{ℕ, suc, _+_, _-_, _/_, _≤_, _<_, min}
 use lib.ListN.{length, take, drop, getD}
 use Rattle.model.specs.Facts.{Table}
 use Rattle.model.specs.Outcome.{productSets}
 use Rattle.model.specs.Decision.{Decision as Decided}
-use Rattle.model.specs.Policy.{Policy, orElse, Policies, stored}
+use Rattle.model.specs.Policy.{Policy, orElse, Policies, pnil, pcons, stored}
 use Rattle.model.specs.Partial.{resolved, pending, asResidual, reducePolicy}
 use Rattle.model.specs.Partial as model
 use Rattle.model.specs.Consulted.{Consulted, walk}
 use Rattle.model.specs.Writing.{word, count, encodeD, encode, encodes}
-use Rattle.model.specs.Reading.{readPolicy}
+use Rattle.model.specs.Reading.{many, readPolicy}
 use Rattle.laws.specs.FieldLaws.{Holds}
-use Rattle.laws.specs.Size.{words}
+use Rattle.laws.specs.Size.{words, wordss}
 use Rattle.policy_model.specs.declared.PolicyHead.{PolicyHead}
 use Rattle.policy_model.specs.declared.PolicyHead.the-variants as policy
 use Rattle.policy_model.specs.Heads.{policyHead}
@@ -27,7 +27,8 @@ use Rattle.sizes.specs.Laid.{tooMany, capped, Laid}
 use Rattle.residual.specs.Weight.{weight, weights, weightD}
 use Rattle.partial_policy.specs.declared.ReducedPolicy.{ReducedPolicy}
 use Rattle.partial_policy.specs.declared.Sofar.{Sofar}
-use Rattle.partial_policy.specs.Keeping.{Walked, asDecisions, sofarValue, isBegun, isOpen, armsWith, foldNext, nodesOf, weightsD, encodesD, listKind, listOf, withNodes}
+use Rattle.partial_policy.specs.declared.Run.{Run}
+use Rattle.partial_policy.specs.Keeping.{Walked, leftOf, readOf, asDecisions, sofarValue, isBegun, isOpen, armsWith, foldNext, nodesOf, weightsD, encodesD, listKind, listOf, withNodes}
 use Rattle.partial_policy.specs.Within.{LaidWithin}
 
 -- The answers: a decision, or what is left, of this size.
@@ -85,6 +86,9 @@ listHead false n = policy.Any n
 abbrev pub sofarOf : Decision → Bool → ℕ → ℕ → ℕ → Bool → Sofar
 sofarOf decision begun kept size arms some = record { decision = decision; begun = begun; kept = kept; size = size; arms = arms; pending = some }
 
+abbrev pub runOf : Sofar → ℕ → ℕ → Run
+runOf sofar next left = record { sofar = sofar; next = next; left = left }
+
 -- The bounds of what a list keeps so far.
 pub record Bounded (v : Sofar) : Type 0 where
   pub few : v .decision .count ≤ 64
@@ -132,6 +136,27 @@ pub record ArmAdded (every : Bool) (T : Table) (W : List ℕ) (v : Sofar) (a : R
   pub arms-most : r .arms ≤ v .arms + 1
   pub open-arm : a .pending ≡ true → (r ≡ sofarOf (v .decision) (v .begun) (v .kept) (capped (v .size + a .size)) (v .arms + 1) true) × (buf′ ≡ buf) × (front′ ≡ front)
   pub known-arm : a .pending ≡ false → DecisionAdded every T W v (a .decision) buf front buf′ front′ r
+
+-- The answer for the arms that are left, given what is kept so far. Of arms that don't read only the bounds are said.
+pub record ArmsLeft (every : Bool) (P : Table) (W : List ℕ) (v : Sofar) (buf front out : List ℕ) (at depth arms : ℕ) (s : Lent) (r : ReducedPolicy) (t : Lent) (buf′ out′ : List ℕ) : Type 0 where
+  pub few : r .decision .count ≤ 64
+  pub bound : r .size ≤ tooMany
+  pub says : (k : Walked) → SofarIs every P W k v buf front out →
+      Holds (λ ts rest. ReducedTo (leftOf every P k ts) (at + wordss ts) (readOf every P ts) P W s r t buf′ (length front) out′) (many pnil pcons (readPolicy (productSets .value) true depth) arms (drop at W))
+
+-- An arm that a run passes over: a Permit.
+pub record Settled (W : List ℕ) (at : ℕ) : Type 0 where
+  pub inside : at < length W
+  pub permit-word : getD W at 0 / 65536 ≡ 24576
+
+-- A run over arms: what answers for those that are left answers for all. The last arm is left, if there was one.
+pub record Ran (every : Bool) (P : Table) (W : List ℕ) (a : Run) (s : Lent) (buf front : List ℕ) (r : Run) (t : Lent) (buf′ front′ : List ℕ) : Type 0 where
+  pub bounds : Bounded (r .sofar)
+  pub arms-left : r .sofar .arms + r .left ≤ a .sofar .arms + a .left
+  pub some-left : 1 ≤ a .left → 1 ≤ r .left
+  pub fewer : r .left ≤ a .left
+  pub goes : (depth : ℕ) (out : List ℕ) (x : ReducedPolicy) (u : Lent) (buf₁ out₁ : List ℕ) →
+      ArmsLeft every P W (r .sofar) buf′ front′ out (r .next) depth (r .left) t x u buf₁ out₁ → ArmsLeft every P W (a .sofar) buf front out (a .next) depth (a .left) s x u buf₁ out₁
 
 -- The nodes that a list with pending arms keeps, those that were kept so far or the first deny.
 pub record NodesAre (every : Bool) (k : Walked) (v : Sofar) (front : List ℕ) (r : Sofar) : Type 0 where

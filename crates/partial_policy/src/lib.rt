@@ -12,11 +12,11 @@ ghost use lib.ListN.{length, take, drop, set};
 ghost use Rattle.model.specs.Facts.{tableOf};
 ghost use Rattle.model.specs.Writing.{mostListed, word};
 ghost use Rattle.policy_model.specs.declared.PolicyHead.the-variants.{Grant, OrElse};
-ghost use Rattle.condition.specs.Listing.{lent};
+ghost use Rattle.condition.specs.Listing.{Lent, lent};
 ghost use Rattle.evaluate.specs.Evaluating.{Folds};
 ghost use Rattle.sizes.specs.Laid.{tooMany, Laid};
 ghost use Rattle.partial_policy.specs.Keeping.{listKind, armsWith, foldNext};
-ghost use Rattle.partial_policy.specs.Reducing.{resolvedTo, leftTo, sofarOf, listHead, ReducesP, ReducesBy, ReducesConstant, Bounded, NodeKept, DecisionAdded, ArmAdded, NodesEnd, ListEnds, ResidualLaid, OrElsePut};
+ghost use Rattle.partial_policy.specs.Reducing.{resolvedTo, leftTo, sofarOf, listHead, ReducesP, ReducesBy, ReducesConstant, Bounded, NodeKept, DecisionAdded, ArmAdded, Settled, Ran, NodesEnd, ListEnds, ResidualLaid, OrElsePut};
 
 // Whether a policy is pending, its decision if it is not, the position after its words, how many entries are in use, and the size of what is left.
 pub struct ReducedPolicy {
@@ -41,8 +41,18 @@ struct Sofar {
     pub pending: bool,
 }
 
+// A list under way: what its arms came to so far, the position of the next one, and how many are left.
+struct Run {
+    sofar: Sofar,
+    next: usize,
+    left: u32,
+}
+
 // A list rule keeps so many bytes at the front of the buffer.
 const OBLIGATIONS: usize = 64;
+
+// With so few arms left, setting out on a run costs more than it saves.
+const FEW_ARMS: u32 = 7;
 
 fn resolved(decision: Decision, next: usize, count: usize) -> ReducedPolicy
     ensures { λ r. ⌜ r ≡ resolvedTo decision next count ⌝ }
@@ -210,6 +220,22 @@ fn arms_with(arms: u32, permit: bool) -> u32
     if permit { arms + 1 } else { arms }
 }
 
+// What the arms came to with one more that was resolved, by their decision with it and the nodes that are kept then.
+fn with_resolved(sofar: Sofar, decision: Decision, kept: usize, permit: bool) -> Sofar
+    requires { ⌜ sofar .arms < 4096 ⌝ }
+    ensures { λ r. ⌜ r ≡ sofarOf decision true kept (sofar .size) (armsWith permit (sofar .arms)) (sofar .pending) ⌝ }
+{
+    let arms = arms_with(sofar.arms, permit);
+    Sofar {
+        decision,
+        begun: true,
+        kept,
+        size: sofar.size,
+        arms,
+        pending: sofar.pending,
+    }
+}
+
 // One more arm that was resolved.
 fn with_decision(
     words: &[u32],
@@ -226,15 +252,7 @@ fn with_decision(
 {
     let kept = keep_node(words, facts, incoming, sofar.kept, buf, named, front);
     let decision = fold_next(words, every, sofar.decision, sofar.begun, incoming, buf);
-    let arms = arms_with(sofar.arms, incoming.permit);
-    Sofar {
-        decision,
-        begun: true,
-        kept,
-        size: sofar.size,
-        arms,
-        pending: sofar.pending,
-    }
+    with_resolved(sofar, decision, kept, incoming.permit)
 }
 
 // One more arm, whose words were laid behind those before it, if it is pending.
@@ -381,6 +399,46 @@ fn end_or_else(
     sizes::plus(used, size)
 }
 
+// Whether a run goes on with the arm at `at`: a Permit. The last arm of a list is left to the list rule.
+fn goes_on(words: &[u32], at: usize, left: u32) -> bool
+    ensures { λ r. ⌜ (r ≡ true → Settled (now (words .entry)) at × (1 < left)) ⌝ }
+{
+    if left < 2 {
+        return false;
+    }
+    if words.len() <= at {
+        return false;
+    }
+    words[at] / policy_model::HALF == policy_model::PERMIT
+}
+
+// Reduces the next arms as long as the run goes on, with no call of the cycle for any of them.
+fn reduce_settled(
+    words: &[u32],
+    every: bool,
+    run: Run,
+    facts: &[u8],
+    buf: &mut [u8],
+    named: &mut [u16],
+    front: &mut [u32],
+) -> Run
+    requires { ⌜ Bounded (run .sofar) × (run .sofar .arms + run .left < 4096) × (128 ≤ length (now buf)) × (length (now words) ≤ length (now named)) × (min (2 * length (now words)) mostListed ≤ length (now named)) ⌝ }
+    ensures { λ r. ⌜ ((s : Lent) → Ran every (tableOf (now (facts .entry))) (now (words .entry)) run s (now (buf .entry)) (now (front .entry)) r s (now (buf .exit)) (now (front .exit))) ⌝ }
+{
+    let mut sofar = run.sofar;
+    let mut next = run.next;
+    let mut left = run.left;
+    while goes_on(words, next, left) {
+        let incoming = decision::permitted((words[next] % policy_model::HALF) as u16, words.len());
+        let kept = keep_node(words, facts, incoming, sofar.kept, buf, named, front);
+        let decision = fold_next(words, every, sofar.decision, sofar.begun, incoming, buf);
+        sofar = with_resolved(sofar, decision, kept, incoming.permit);
+        next += 1;
+        left -= 1;
+    }
+    Run { sofar, next, left }
+}
+
 // The policy at `at`, of at most `depth` levels.
 pub fn reduce_policy(
     words: &[u32],
@@ -510,6 +568,20 @@ fn reduce_list(
     let mut listed = count;
     let mut left = arms;
     while left != 0 {
+        if left > FEW_ARMS {
+            let run = reduce_settled(
+                words,
+                every,
+                Run { sofar, next, left },
+                facts,
+                buf,
+                named,
+                front,
+            );
+            sofar = run.sofar;
+            next = run.next;
+            left = run.left;
+        }
         let behind = sizes::tail_from(sofar.kept, front.len());
         let from = sizes::tail_from(sofar.size, out.len());
         let arm = reduce_policy(

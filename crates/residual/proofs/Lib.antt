@@ -1,2 +1,3 @@
 pub mod Laying
+pub mod Short
 pub mod Listing

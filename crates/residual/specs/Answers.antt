@@ -1,15 +1,21 @@
 -- What the writers of a residual's parts leave in the output that they are lent.
 use mathlib.Core.Path.{_≡_}
-use mathlib.Core.List.{List, _∷_, _++_}
+use mathlib.Core.Option.{none}
+use mathlib.Core.List.{List, [], _∷_, _++_}
 use Prim.Native.Nat.{ℕ, _+_, _-_, _≤_}
 use lib.ListN.{length, take, drop}
 use Rattle.model.specs.Facts.{Table}
+use Rattle.model.specs.Decision.{Decision as Decided, permits}
 use Rattle.model.specs.Policy.{stored}
 use Rattle.decision.specs.declared.Decision.{Decision}
 use Rattle.decision.specs.Meaning.{decisionOf, Sound}
 use Rattle.record.specs.Nodes.{decisionWords}
 use Rattle.sizes.specs.Laid.{mostWords, tooMany, capped, Laid}
 use Rattle.residual.specs.Weight.{weight}
+
+-- A permit with nothing but its outcome and one fact.
+abbrev pub onFact : ℕ → ℕ → Decided ℕ
+onFact o f = permits (record { outcome = o; obligations = []; label = none; facts = f ∷ [] })
 
 -- The node of a decision was laid. The bytes of the decision's obligations stand in its buffer as they stood.
 pub record NodeLaid (W : List ℕ) (T : Table) (d : Decision) (before after : List ℕ) (out : List ℕ) (r : ℕ) : Type 0 where

@@ -1,15 +1,63 @@
 // What a residual keeps, after gatekeep's partial.rs: the node of a resolved part, and a list of such nodes and pending arms.
 // An output may be too short for the words, and then only their size is right.
 use decision::Decision;
-ghost use Prim.Native.Nat.{_+_, _*_, _≤_, min};
+ghost use mathlib.Core.Path.{_≡_};
+ghost use mathlib.Core.Bool.{true};
+ghost use mathlib.Core.List.{[]};
+ghost use Prim.Native.Nat.{_+_, _*_, _≤_, _<_, min};
 ghost use lib.ListN.{length};
 ghost use Rattle.model.specs.Facts.{tableOf};
+ghost use Rattle.model.specs.Decision.{permits, combined};
 ghost use Rattle.model.specs.Writing.{mostListed};
-ghost use Rattle.sizes.specs.Laid.{tooMany};
-ghost use Rattle.residual.specs.Answers.{NodeLaid, Moved, ListPut};
+ghost use Rattle.decision.specs.Meaning.{permittedAt};
+ghost use Rattle.record.specs.Nodes.{decisionWords};
+ghost use Rattle.sizes.specs.Laid.{tooMany, Laid};
+ghost use Rattle.residual.specs.Answers.{onFact, NodeLaid, Moved, ListPut};
 
 // No node lists more facts.
 const MOST_LISTED: usize = 4095;
+
+// The first word of a PermitWithTrace without obligations, but for its outcome.
+const PERMIT_WITH_TRACE: u32 = 3221225472;
+
+// Whether a decision is a permit that takes all but its outcome from one node, or from none.
+fn from_one_node(decision: Decision) -> bool
+    ensures { λ r. ⌜ (r ≡ true → decision ≡ permittedAt (decision .outcome) (decision .clause) (decision .clause) 0) ⌝ }
+{
+    if !decision.permit {
+        return false;
+    }
+    if decision.count != 0 {
+        return false;
+    }
+    decision.held == decision.clause
+}
+
+// Lays the node of a permit with nothing but its outcome.
+fn lay_bare(outcome: u16, out: &mut [u32]) -> usize
+    ensures { λ r. ⌜ Laid 2 (decisionWords (permits (combined outcome []))) (now (out .exit)) r ⌝ }
+{
+    if out.len() < 2 {
+        return 2;
+    }
+    out[0] = PERMIT_WITH_TRACE + outcome as u32;
+    out[1] = 0;
+    2
+}
+
+// Lays the node of a permit with its outcome and one fact: in word two no label and a count of 1, and the fact in the upper half of word three.
+fn lay_on_fact(outcome: u16, fact: u32, out: &mut [u32]) -> usize
+    requires { ⌜ fact < 1024 ⌝ }
+    ensures { λ r. ⌜ Laid 3 (decisionWords (onFact outcome fact)) (now (out .exit)) r ⌝ }
+{
+    if out.len() < 3 {
+        return 3;
+    }
+    out[0] = PERMIT_WITH_TRACE + outcome as u32;
+    out[1] = 1;
+    out[2] = fact * policy_model::HALF;
+    3
+}
 
 // Lays the node of a resolved part, a PermitWithTrace or a DenyWithTrace, at the front of `out`, and returns its size: too many words for a record
 // where its facts can't be counted.
@@ -24,6 +72,16 @@ pub fn policy_from_decision(
     requires { ⌜ (decision .count ≤ 64) × (64 ≤ length (now buf)) × (length (now words) ≤ length (now named)) × (min (2 * length (now words)) mostListed ≤ length (now named)) ⌝ }
     ensures { λ r. ⌜ NodeLaid (now (words .entry)) (tableOf (now (facts .entry))) decision (now (buf .entry)) (now (buf .exit)) (now (out .exit)) r ⌝ }
 {
+    // The commonest nodes, those of a Permit and of a grant on one fact, are short.
+    if from_one_node(decision) {
+        let at = decision.clause;
+        if words.len() <= at {
+            return lay_bare(decision.outcome, out);
+        }
+        if policy_model::plain_grant(words, at) {
+            return lay_on_fact(decision.outcome, words[at + 2] % policy_model::FACTS, out);
+        }
+    }
     let held = decision::obligations(words, decision, buf);
     let facts_named = clause::clause_facts(words, decision.clause, facts, named);
     if facts_named > MOST_LISTED {

@@ -2,6 +2,7 @@
 -- what answers for the arms that are left answers for all. The measure is the depth, and within a level the list rule, then the policy.
 -- Assumes nothing.
 use borrow.Author.Needs.{needs}
+use mathlib.Core.Logic.{⊎-elim}
 use borrow.Author.Tests.{not-true, not-false}
 use mathlib.Core.Path.{refl, sym, _∙_}
 use Prim.Native.Nat.{ℕ, _+_, _*_, _<_}
@@ -10,9 +11,10 @@ use lib.ListN.{length}
 use Rattle.model.specs.Facts.{tableOf}
 use Rattle.condition.specs.Listing.{lent}
 use Rattle.policy_model.specs.declared.PolicyHead.the-variants.{Grant, All, Any, OrElse}
-use Rattle.partial_policy.specs.Reducing.{ReducesBy, listHead}
+use Rattle.partial_policy.specs.Reducing.{ReducesBy, ArmsLeft, listHead}
 use Rattle.partial_policy.proofs.Nodes.{by-head, reduce-end, reduce-limit, reduce-constant, all-below, any-below}
-use Rattle.partial_policy.proofs.Arms.{ArmsLeft, Going, sofar-more, arm-goes, arm-stops, arms-end, list-node, or-permits, or-denies, or-open}
+use Rattle.partial_policy.proofs.Arms.{Going, sofar-more, arm-goes, arm-stops, arms-end, list-node, or-permits, or-denies, or-open}
+use Rattle.partial_policy.proofs.Running.{Turn, turn-run}
 use borrow.Fn.Kinds.{In}
 use borrow.Fn.PlainCycle.{Measures, is, falls, and}
 use Rattle.partial_policy.proofs.reduce_list.Reads as reduce-list
@@ -30,6 +32,7 @@ use Rattle.partial_policy.proofs.end_or_else.Reads as end-or-else-reads
 use Rattle.partial_policy.proofs.left.Reads as left-reads
 use Rattle.partial_policy.proofs.reduce_constant.Reads as reduce-constant-reads
 use Rattle.partial_policy.proofs.reduce_grant.Reads as reduce-grant-reads
+use Rattle.partial_policy.proofs.reduce_settled.Reads as reduce-settled-reads
 use Rattle.partial_policy.proofs.resolved.Reads as resolved-reads
 use Rattle.partial_policy.proofs.stops.Reads as stops-reads
 use Rattle.partial_policy.proofs.with_arm.Reads as with-arm-reads
@@ -92,7 +95,7 @@ module _ (t : ℕ) where
 
   -- what `reduce-list` calls
   abbrev reduce-list-calls : reduce-list-lts.Claims
-  reduce-list-calls = (denied-reads.Asked, denied-reads.Learnt, tail-from-reads.Asked, tail-from-reads.Learnt, reduce-policy-below, reduce-policy.Post, stops-reads.Asked, stops-reads.Learnt, skip-policies-reads.Asked, skip-policies-reads.Learnt, resolved-reads.Asked, resolved-reads.Learnt, with-arm-reads.Asked, with-arm-reads.Learnt, end-list-reads.Asked, end-list-reads.Learnt)
+  reduce-list-calls = (denied-reads.Asked, denied-reads.Learnt, reduce-settled-reads.Asked, reduce-settled-reads.Learnt, tail-from-reads.Asked, tail-from-reads.Learnt, reduce-policy-below, reduce-policy.Post, stops-reads.Asked, stops-reads.Learnt, skip-policies-reads.Asked, skip-policies-reads.Learnt, resolved-reads.Asked, resolved-reads.Learnt, with-arm-reads.Asked, with-arm-reads.Learnt, end-list-reads.Asked, end-list-reads.Learnt)
 
   reduce-list-denied-requires : reduce-list-lts.Need-denied-requires reduce-list-calls reduce-list-at reduce-list.Post reduce-list-Inv-loop reduce-list-μ-loop
   reduce-list-denied-requires c κs = search needs
@@ -115,6 +118,52 @@ module _ (t : ℕ) where
         goes = λ r t buf out e. list-node _ _ _ _ _ _ _ r t _ _ _ buf out _ refl (c .before .before .before .before .before .before .before .before .before .pre .1 .0) e;
       })
 
+  reduce-list-reduce-settled-requires : reduce-list-lts.Need-reduce-settled-requires reduce-list-calls reduce-list-at reduce-list.Post reduce-list-Inv-loop reduce-list-μ-loop
+  reduce-list-reduce-settled-requires c κs =
+      let turn = c .before .before .before .before in
+      let start = turn .before .before .before .before .before .before .before .before .before .before .before in
+      let inv = turn .before .loop .inv in (
+        inv .bounds,
+        omega (arith, inv .arms-left, start .pre),
+        omega (arith, inv .buf-long, start .pre),
+        omega (arith, inv .named-long, start .pre),
+        omega (arith, inv .named-long, start .pre),
+      )
+
+  -- After the run, where there was one, the invariant holds of what it left, and an arm is left.
+  abbrev reduce-list-Turn : reduce-list-lts.Joined1 reduce-list-calls reduce-list-at reduce-list.Post reduce-list-Inv-loop reduce-list-μ-loop → Type 0
+  reduce-list-Turn c =
+      let start = c .before .before .before .before .before .before .before .before .before .before .before .before in
+      let loop = c .before .before .loop in
+      Turn
+      (Going
+      (ArmsLeft (start .args .every) (tableOf (start .args .facts .now)) (start .args .words .now) (c .if1 .sofar) (c .if1 .buf) (c .if1 .front) (loop .out) (c .if1 .next) (start .args .depth) (c .if1 .left) (lent (loop .listed) (loop .entries) (loop .seen)))
+      (λ r t buf′ out′. ReducesBy (listHead (start .args .every) (start .args .arms)) (tableOf (start .args .facts .now)) (start .args .words .now) (start .args .at) (start .args .depth) (lent (start .args .count) (start .args .entries .now) (start .args .seen .now)) r t buf′ (length (start .args .front .now)) out′)
+      (lent (start .args .count) (start .args .entries .now) (start .args .seen .now))
+      (lent (loop .listed) (loop .entries) (loop .seen))
+      (c .if1 .sofar)
+      (start .args .arms)
+      (c .if1 .left)
+      (start .args .buf .now)
+      (c .if1 .buf)
+      (start .args .named .now)
+      (c .if1 .named)
+      (start .args .front .now)
+      (c .if1 .front)
+      (start .args .out .now)
+      (loop .out))
+      (loop .left)
+      (c .if1 .left)
+
+  reduce-list-turn : (c : reduce-list-lts.Joined1 reduce-list-calls reduce-list-at reduce-list.Post reduce-list-Inv-loop reduce-list-μ-loop) → reduce-list-Turn c
+  reduce-list-turn c =
+      let inv = c .before .before .loop .inv in
+      ⊎-elim
+      (λ w. rw (w .12, w .13, w .14, w .15, w .16, w .17)
+      (turn-run inv (w .4 .ensures (lent (c .before .before .loop .listed) (c .before .before .loop .entries) (c .before .before .loop .seen))) (c .before .loop-test .taken) refl refl (w .5 .given) (w .7 .given) (w .9 .given)))
+      (λ w. rw (w .1, w .2, w .3, w .4, w .5, w .6) (record { goes = inv; some = c .before .loop-test .taken; fewer = omega arith }))
+      (c .if1 .came)
+
   reduce-list-tail-from-requires : reduce-list-lts.Need-tail-from-requires reduce-list-calls reduce-list-at reduce-list.Post reduce-list-Inv-loop reduce-list-μ-loop
   reduce-list-tail-from-requires c κs = search needs
 
@@ -122,16 +171,16 @@ module _ (t : ℕ) where
   reduce-list-tail-from-requires-2 c κs = search needs
 
   reduce-list-sub-reduce-policy : reduce-list-lts.Need-sub-reduce-policy reduce-list-calls reduce-list-at reduce-list.Post reduce-list-Inv-loop reduce-list-μ-loop
-  reduce-list-sub-reduce-policy c = search needs
+  reduce-list-sub-reduce-policy c = omega (arith, reduce-list-turn (c .before .before .before .before) .goes .buf-long, c .before .before .before .before .before .before .before .before .before .before .before .before .before .before .before .before .pre)
 
   reduce-list-part-reduce-policy-start : reduce-list-lts.Need-part-reduce-policy-start reduce-list-calls reduce-list-at reduce-list.Post reduce-list-Inv-loop reduce-list-μ-loop
-  reduce-list-part-reduce-policy-start c = search needs
+  reduce-list-part-reduce-policy-start c = omega (arith, reduce-list-turn (c .before .before .before .before) .goes .buf-long, c .before .before .before .before .before .before .before .before .before .before .before .before .before .before .before .before .pre)
 
   reduce-list-part-reduce-policy-end : reduce-list-lts.Need-part-reduce-policy-end reduce-list-calls reduce-list-at reduce-list.Post reduce-list-Inv-loop reduce-list-μ-loop
   reduce-list-part-reduce-policy-end c = search needs
 
   reduce-list-mul-reduce-policy : reduce-list-lts.Need-mul-reduce-policy reduce-list-calls reduce-list-at reduce-list.Post reduce-list-Inv-loop reduce-list-μ-loop
-  reduce-list-mul-reduce-policy c = search needs
+  reduce-list-mul-reduce-policy c = omega (arith, c .before .before .before .before .before .tail-from .ensures, reduce-list-turn (c .before .before .before .before .before .before) .goes .front-long, c .before .before .before .before .before .before .before .before .before .before .before .before .before .before .before .before .before .before)
 
   reduce-list-sub-reduce-policy-2 : reduce-list-lts.Need-sub-reduce-policy-2 reduce-list-calls reduce-list-at reduce-list.Post reduce-list-Inv-loop reduce-list-μ-loop
   reduce-list-sub-reduce-policy-2 c = search needs
@@ -143,7 +192,7 @@ module _ (t : ℕ) where
   reduce-list-part-reduce-policy-end-2 c = search needs
 
   reduce-list-mul-reduce-policy-2 : reduce-list-lts.Need-mul-reduce-policy-2 reduce-list-calls reduce-list-at reduce-list.Post reduce-list-Inv-loop reduce-list-μ-loop
-  reduce-list-mul-reduce-policy-2 c = search needs
+  reduce-list-mul-reduce-policy-2 c = omega (arith, c .before .before .before .before .before .tail-from2 .ensures, reduce-list-turn (c .before .before .before .before .before .before .before) .goes .out-long, c .before .before .before .before .before .before .before .before .before .before .before .before .before .before .before .before .before .before .before)
 
   reduce-list-sub-reduce-policy-3 : reduce-list-lts.Need-sub-reduce-policy-3 reduce-list-calls reduce-list-at reduce-list.Post reduce-list-Inv-loop reduce-list-μ-loop
   reduce-list-sub-reduce-policy-3 c = search needs
@@ -155,86 +204,99 @@ module _ (t : ℕ) where
   reduce-list-part-reduce-policy-end-3 c = search needs
 
   reduce-list-reduce-policy-requires : reduce-list-lts.Need-reduce-policy-requires reduce-list-calls reduce-list-at reduce-list.Post reduce-list-Inv-loop reduce-list-μ-loop
-  reduce-list-reduce-policy-requires c κs = search needs
+  reduce-list-reduce-policy-requires c κs =
+      let inv = reduce-list-turn (c .before .before .before .before .before .before .before .before) .goes in
+      let pre = c .before .before .before .before .before .before .before .before .before .before .before .before .before .before .before .before .before .before .before .before .pre in (
+        omega (arith, pre .0),
+        (
+          omega (arith, pre .1 .1),
+          omega (arith, c .before .before .before .reduce-policy-arg3 .given, inv .buf-long, pre .1 .3),
+          pre .1 .4,
+          omega (arith, inv .named-long, pre .1 .5),
+          omega (arith, inv .named-long, pre .1 .6),
+        ),
+      )
 
   reduce-list-sub-left : reduce-list-lts.Need-sub-left reduce-list-calls reduce-list-at reduce-list.Post reduce-list-Inv-loop reduce-list-μ-loop
-  reduce-list-sub-left c = omega (arith, c .before .before .before .before .before .before .before .before .before .before .before .before .before .before .before .before .before .before .before .before .before .loop-test .taken)
+  reduce-list-sub-left c = omega (arith, reduce-list-turn (c .before .before .before .before .before .before .before .before .before .before .before .before .before .before .before .before .before .before .before .before .before .before) .some)
 
   reduce-list-stops-requires : reduce-list-lts.Need-stops-requires reduce-list-calls reduce-list-at reduce-list.Post reduce-list-Inv-loop reduce-list-μ-loop
   reduce-list-stops-requires c κs = search needs
 
   reduce-list-skip-policies-requires : reduce-list-lts.Need-skip-policies-requires reduce-list-calls reduce-list-at reduce-list.Post reduce-list-Inv-loop reduce-list-μ-loop
-  reduce-list-skip-policies-requires c κs = c .before .before .before .before .before .before .before .before .before .before .before .before .before .before .before .before .before .before .before .before .before .before .before .before .before .before .before .before .before .before .before .before .before .before .pre .1 .4
+  reduce-list-skip-policies-requires c κs = c .before .before .before .before .before .before .before .before .before .before .before .before .before .before .before .before .before .before .before .before .before .before .before .before .before .before .before .before .before .before .before .before .before .before .before .before .pre .1 .4
 
   reduce-list-resolved-requires : reduce-list-lts.Need-resolved-requires reduce-list-calls reduce-list-at reduce-list.Post reduce-list-Inv-loop reduce-list-μ-loop
   reduce-list-resolved-requires c κs = search needs
 
   reduce-list-same-length : reduce-list-lts.Need-same-length reduce-list-calls reduce-list-at reduce-list.Post reduce-list-Inv-loop reduce-list-μ-loop
-  reduce-list-same-length c = omega (arith, c .before .before .before .before .before .before .before .before .before .before .before .before .before .before .before .entries .given, c .before .before .before .before .before .before .before .before .before .before .before .before .before .before .before .before .before .before .before .before .before .before .before .before .before .before .loop .inv .entries-long)
+  reduce-list-same-length c = omega (arith, c .before .before .before .before .before .before .before .before .before .before .before .before .before .before .before .before .entries .given, reduce-list-turn (c .before .before .before .before .before .before .before .before .before .before .before .before .before .before .before .before .before .before .before .before .before .before .before .before .before .before) .goes .entries-long)
 
   reduce-list-same-length-2 : reduce-list-lts.Need-same-length-2 reduce-list-calls reduce-list-at reduce-list.Post reduce-list-Inv-loop reduce-list-μ-loop
-  reduce-list-same-length-2 c = omega (arith, c .before .before .before .before .before .before .before .before .before .before .before .before .before .seen .given, c .before .before .before .before .before .before .before .before .before .before .before .before .before .before .before .before .before .before .before .before .before .before .before .before .before .before .loop .inv .seen-long)
+  reduce-list-same-length-2 c = omega (arith, c .before .before .before .before .before .before .before .before .before .before .before .before .before .before .seen .given, reduce-list-turn (c .before .before .before .before .before .before .before .before .before .before .before .before .before .before .before .before .before .before .before .before .before .before .before .before .before .before) .goes .seen-long)
 
   reduce-list-same-length-3 : reduce-list-lts.Need-same-length-3 reduce-list-calls reduce-list-at reduce-list.Post reduce-list-Inv-loop reduce-list-μ-loop
-  reduce-list-same-length-3 c = omega (arith, c .before .before .before .before .before .before .before .before .before .before .before .buf .given, c .before .before .before .before .before .before .before .before .before .before .before .before .before .before .before .before .before .before .before .before .before .before .before .before .before .before .loop .inv .buf-long)
+  reduce-list-same-length-3 c = omega (arith, c .before .before .before .before .before .before .before .before .before .before .before .before .buf2 .given, reduce-list-turn (c .before .before .before .before .before .before .before .before .before .before .before .before .before .before .before .before .before .before .before .before .before .before .before .before .before .before) .goes .buf-long)
 
   reduce-list-same-length-4 : reduce-list-lts.Need-same-length-4 reduce-list-calls reduce-list-at reduce-list.Post reduce-list-Inv-loop reduce-list-μ-loop
-  reduce-list-same-length-4 c = omega (arith, c .before .before .before .before .before .before .before .before .before .named .given, c .before .before .before .before .before .before .before .before .before .before .before .before .before .before .before .before .before .before .before .before .before .before .before .before .before .before .loop .inv .named-long)
+  reduce-list-same-length-4 c = omega (arith, c .before .before .before .before .before .before .before .before .before .before .named2 .given, reduce-list-turn (c .before .before .before .before .before .before .before .before .before .before .before .before .before .before .before .before .before .before .before .before .before .before .before .before .before .before) .goes .named-long)
 
   reduce-list-same-length-5 : reduce-list-lts.Need-same-length-5 reduce-list-calls reduce-list-at reduce-list.Post reduce-list-Inv-loop reduce-list-μ-loop
-  reduce-list-same-length-5 c = omega (arith, c .before .before .before .before .before .before .before .front .given, c .before .before .before .before .before .before .before .before .before .before .before .before .before .before .before .before .before .before .before .before .before .before .before .before .before .before .loop .inv .front-long)
+  reduce-list-same-length-5 c = omega (arith, c .before .before .before .before .before .before .before .before .front2 .given, reduce-list-turn (c .before .before .before .before .before .before .before .before .before .before .before .before .before .before .before .before .before .before .before .before .before .before .before .before .before .before) .goes .front-long)
 
   reduce-list-same-length-6 : reduce-list-lts.Need-same-length-6 reduce-list-calls reduce-list-at reduce-list.Post reduce-list-Inv-loop reduce-list-μ-loop
-  reduce-list-same-length-6 c = omega (arith, c .before .before .before .before .before .out .given, c .before .before .before .before .before .before .before .before .before .before .before .before .before .before .before .before .before .before .before .before .before .before .before .before .before .before .loop .inv .out-long)
+  reduce-list-same-length-6 c = omega (arith, c .before .before .before .before .before .before .out .given, reduce-list-turn (c .before .before .before .before .before .before .before .before .before .before .before .before .before .before .before .before .before .before .before .before .before .before .before .before .before .before) .goes .out-long)
 
   reduce-list-returns : reduce-list-lts.Need-returns reduce-list-calls reduce-list-at reduce-list.Post reduce-list-Inv-loop reduce-list-μ-loop
   reduce-list-returns c =
-      let call = c .before .before .before .before .before .before .before .before .before .before .before .before .before .before .before .before in
-      let turn = c .before .before .before .before .before .before .before .before .before .before .before .before .before .before .before .before .before .before .before .before .before .before .before .before .before in
+      let call = c .before .before .before .before .before .before .before .before .before .before .before .before .before .before .before .before .before in
+      let turn = reduce-list-turn (c .before .before .before .before .before .before .before .before .before .before .before .before .before .before .before .before .before .before .before .before .before .before .before .before .before .before) in
       rw (c .resolved .ensures)
-      (turn .before .loop .inv .goes _ _ _ _
-      (arm-stops _ _ _ _ _ _ _ _ _ _ _ _ _ _ _ _ _ _ _ (turn .loop-test .taken) (call .reduce-policy .ensures) (sym (c .before .before .if1 .taken) ∙ c .before .before .before .stops .ensures) (c .before .skip-policies .ensures)))
+      (turn .goes .goes _ _ _ _
+      (arm-stops _ _ _ _ _ _ _ _ _ _ _ _ _ _ _ _ _ _ _ (turn .some) (call .reduce-policy .ensures) (sym (c .before .before .if2 .taken) ∙ c .before .before .before .stops .ensures) (c .before .skip-policies .ensures)))
 
   reduce-list-with-arm-requires : reduce-list-lts.Need-with-arm-requires reduce-list-calls reduce-list-at reduce-list.Post reduce-list-Inv-loop reduce-list-μ-loop
   reduce-list-with-arm-requires c κs =
-      let call = c .before .before .before .before .before .before .before .before .before .before .before .before .before .before .before .before .before in
-      let turn = c .before .before .before .before .before .before .before .before .before .before .before .before .before .before .before .before .before .before .before .before .before .before .before .before .before .before in
-      let inv = turn .before .loop .inv in
-      let start = c .before .before .before .before .before .before .before .before .before .before .before .before .before .before .before .before .before .before .before .before .before .before .before .before .before .before .before .before .before .before .before .before .before .before .before .before .before in (
+      let call = c .before .before .before .before .before .before .before .before .before .before .before .before .before .before .before .before .before .before in
+      let turn = reduce-list-turn (c .before .before .before .before .before .before .before .before .before .before .before .before .before .before .before .before .before .before .before .before .before .before .before .before .before .before .before) in
+      let inv = turn .goes in
+      let start = c .before .before .before .before .before .before .before .before .before .before .before .before .before .before .before .before .before .before .before .before .before .before .before .before .before .before .before .before .before .before .before .before .before .before .before .before .before .before .before in (
         inv .bounds,
-        omega (arith, inv .arms-left, turn .loop-test .taken, start .pre),
+        omega (arith, inv .arms-left, turn .some, start .pre),
         call .reduce-policy .ensures .few,
         call .reduce-policy .ensures .bound,
-        omega (arith, c .before .before .before .before .before .before .before .before .before .before .before .before .buf .given, inv .buf-long, start .pre),
-        omega (arith, c .before .before .before .before .before .before .before .before .before .before .named .given, inv .named-long, start .pre),
-        omega (arith, c .before .before .before .before .before .before .before .before .before .before .named .given, inv .named-long, start .pre),
+        omega (arith, c .before .before .before .before .before .before .before .before .before .before .before .before .before .buf2 .given, inv .buf-long, start .pre),
+        omega (arith, c .before .before .before .before .before .before .before .before .before .before .before .named2 .given, inv .named-long, start .pre),
+        omega (arith, c .before .before .before .before .before .before .before .before .before .before .before .named2 .given, inv .named-long, start .pre),
       )
 
   reduce-list-loop-less : reduce-list-lts.Need-loop-less reduce-list-calls reduce-list-at reduce-list.Post reduce-list-Inv-loop reduce-list-μ-loop
-  reduce-list-loop-less c = omega (arith, c .before .before .before .before .before .before .before .before .before .before .before .before .before .before .before .before .before .before .before .before .before .before .before .before .before .before .before .before .before .before .before .before .before .loop-test .taken)
+  reduce-list-loop-less c =
+      let turn = reduce-list-turn (c .before .before .before .before .before .before .before .before .before .before .before .before .before .before .before .before .before .before .before .before .before .before .before .before .before .before .before .before .before .before .before .before .before .before) in
+      omega (arith, turn .some, turn .fewer)
 
   reduce-list-loop-again : reduce-list-lts.Need-loop-again reduce-list-calls reduce-list-at reduce-list.Post reduce-list-Inv-loop reduce-list-μ-loop
   reduce-list-loop-again c =
       let more = c .before .before .before .before .before .before in
-      let call = c .before .before .before .before .before .before .before .before .before .before .before .before .before .before .before .before .before .before .before .before .before .before .before .before in
-      let turn = c .before .before .before .before .before .before .before .before .before .before .before .before .before .before .before .before .before .before .before .before .before .before .before .before .before .before .before .before .before .before .before .before .before in
-      let inv = turn .before .loop .inv in
-      let start = c .before .before .before .before .before .before .before .before .before .before .before .before .before .before .before .before .before .before .before .before .before .before .before .before .before .before .before .before .before .before .before .before .before .before .before .before .before .before .before .before .before .before .before .before in
+      let call = c .before .before .before .before .before .before .before .before .before .before .before .before .before .before .before .before .before .before .before .before .before .before .before .before .before in
+      let turn = reduce-list-turn (c .before .before .before .before .before .before .before .before .before .before .before .before .before .before .before .before .before .before .before .before .before .before .before .before .before .before .before .before .before .before .before .before .before .before) in
+      let inv = turn .goes in
+      let start = c .before .before .before .before .before .before .before .before .before .before .before .before .before .before .before .before .before .before .before .before .before .before .before .before .before .before .before .before .before .before .before .before .before .before .before .before .before .before .before .before .before .before .before .before .before .before in
       record {
-        entries-long = omega (arith, c .before .before .before .before .before .before .before .before .before .before .before .before .before .before .before .before .before .before .before .before .before .before .before .entries .given, inv .entries-long);
-        seen-long = omega (arith, c .before .before .before .before .before .before .before .before .before .before .before .before .before .before .before .before .before .before .before .before .before .seen .given, inv .seen-long);
-        buf-long = omega (arith, c .before .before .before .before .before .buf2 .given, c .before .before .before .before .before .before .before .before .before .before .before .before .before .before .before .before .before .before .before .buf .given, inv .buf-long);
-        named-long = omega (arith, c .before .before .before .named2 .given, c .before .before .before .before .before .before .before .before .before .before .before .before .before .before .before .before .before .named .given, inv .named-long);
-        front-long = omega (arith, c .before .front2 .given, c .before .before .before .before .before .before .before .before .before .before .before .before .before .before .before .front .given, inv .front-long);
-        out-long = omega (arith, c .before .before .before .before .before .before .before .before .before .before .before .before .before .out .given, inv .out-long);
+        entries-long = omega (arith, c .before .before .before .before .before .before .before .before .before .before .before .before .before .before .before .before .before .before .before .before .before .before .before .before .entries .given, inv .entries-long);
+        seen-long = omega (arith, c .before .before .before .before .before .before .before .before .before .before .before .before .before .before .before .before .before .before .before .before .before .before .seen .given, inv .seen-long);
+        buf-long = omega (arith, c .before .before .before .before .before .buf3 .given, c .before .before .before .before .before .before .before .before .before .before .before .before .before .before .before .before .before .before .before .before .buf2 .given, inv .buf-long);
+        named-long = omega (arith, c .before .before .before .named3 .given, c .before .before .before .before .before .before .before .before .before .before .before .before .before .before .before .before .before .before .named2 .given, inv .named-long);
+        front-long = omega (arith, c .before .front3 .given, c .before .before .before .before .before .before .before .before .before .before .before .before .before .before .before .before .front2 .given, inv .front-long);
+        out-long = omega (arith, c .before .before .before .before .before .before .before .before .before .before .before .before .before .before .out .given, inv .out-long);
         bounds = more .with-arm .ensures .bounds;
-        arms-left = omega (arith, more .with-arm .ensures .arms-most, inv .arms-left, turn .loop-test .taken);
+        arms-left = omega (arith, more .with-arm .ensures .arms-most, inv .arms-left, turn .some);
         goes = λ r t buf out e. inv .goes r t buf out
-            (arm-goes _ _ _ _ _ _ t _ r _ _ _ _ _ _ _ buf out _ _ (turn .loop-test .taken) (call .reduce-policy .ensures) _ _ _ _ (omega (arith, c .before .front2 .given, c .before .before .before .before .before .before .before .before .before .before .before .before .before .before .before .front .given))
-            (sofar-more _ _ _ _ _ _ _ _ (call .reduce-policy .last .1 .1 .1 .1 .1 .1 .1 .1 .1 .0) _ _ _ _ _ _ _ _ (c .before .before .before .before .before .before .before .before .before .before .before .before .before .before .before .before .before .before .before .before .before .before .before .before .before .before .before .before .before .before .before .before .tail-from .ensures) (c .before .before .before .before .before .before .before .before .before .before .before .before .before .before .before .before .before .before .before .before .before .before .before .before .before .before .before .before .before .before .before .tail-from2 .ensures) (more .with-arm .ensures) (omega (arith, c .before .front2 .given, c .before .before .before .before .before .before .before .before .before .before .before .before .before .before .before .front .given)) (inv .bounds)
-            (omega (arith, c .before .before .before .before .before .before .before .before .before .before .before .before .before .before .before .before .before .before .before .before .before .before .before .before .before .before .before .before .reduce-policy-arg3 .given, c .before .before .before .before .before .before .before .before .before .before .before .before .before .before .before .before .before .before .before .buf .given, inv .buf-long, start .pre, call .reduce-policy .ensures .few)) (omega (arith, inv .buf-long, start .pre))
-            (omega (arith, c .before .before .before .before .before .before .before .before .before .before .before .before .before .before .before .before .before .before .before .before .before .before .before .before .before .before .reduce-policy-arg5 .given, c .before .before .before .before .before .before .before .before .before .before .before .before .before .before .before .front .given)) (omega (arith, c .before .before .before .before .before .before .before .before .before .before .before .before .before .before .before .before .before .before .before .before .before .before .before .before .before .before .reduce-policy-arg5 .given, c .before .before .before .before .before .before .before .before .before .before .before .before .before .before .before .before .before .before .before .before .before .before .before .before .before .before .before .before .before .before .before .before .tail-from .ensures)) (omega (arith, c .before .before .before .before .before .before .before .before .before .before .before .before .before .before .before .before .before .before .before .before .before .before .before .before .before .reduce-policy-arg6 .given, c .before .before .before .before .before .before .before .before .before .before .before .before .before .out .given)))
-            (sym (c .before .before .before .before .before .before .before .before .before .before .if1 .left) ∙ c .before .before .before .before .before .before .before .before .before .before .before .stops .ensures) e);
+            (arm-goes _ _ _ _ _ _ t _ r _ _ _ _ _ _ _ buf out _ _ (turn .some) (call .reduce-policy .ensures) _ _ _ _ (omega (arith, c .before .front3 .given, c .before .before .before .before .before .before .before .before .before .before .before .before .before .before .before .before .front2 .given))
+            (sofar-more _ _ _ _ _ _ _ _ (call .reduce-policy .last .1 .1 .1 .1 .1 .1 .1 .1 .1 .0) _ _ _ _ _ _ _ _ (c .before .before .before .before .before .before .before .before .before .before .before .before .before .before .before .before .before .before .before .before .before .before .before .before .before .before .before .before .before .before .before .before .before .tail-from .ensures) (c .before .before .before .before .before .before .before .before .before .before .before .before .before .before .before .before .before .before .before .before .before .before .before .before .before .before .before .before .before .before .before .before .tail-from2 .ensures) (more .with-arm .ensures) (omega (arith, c .before .front3 .given, c .before .before .before .before .before .before .before .before .before .before .before .before .before .before .before .before .front2 .given)) (inv .bounds)
+            (omega (arith, c .before .before .before .before .before .before .before .before .before .before .before .before .before .before .before .before .before .before .before .before .before .before .before .before .before .before .before .before .before .reduce-policy-arg3 .given, c .before .before .before .before .before .before .before .before .before .before .before .before .before .before .before .before .before .before .before .before .buf2 .given, inv .buf-long, start .pre, call .reduce-policy .ensures .few)) (omega (arith, inv .buf-long, start .pre))
+            (omega (arith, c .before .before .before .before .before .before .before .before .before .before .before .before .before .before .before .before .before .before .before .before .before .before .before .before .before .before .before .reduce-policy-arg5 .given, c .before .before .before .before .before .before .before .before .before .before .before .before .before .before .before .before .front2 .given)) (omega (arith, c .before .before .before .before .before .before .before .before .before .before .before .before .before .before .before .before .before .before .before .before .before .before .before .before .before .before .before .reduce-policy-arg5 .given, c .before .before .before .before .before .before .before .before .before .before .before .before .before .before .before .before .before .before .before .before .before .before .before .before .before .before .before .before .before .before .before .before .before .tail-from .ensures)) (omega (arith, c .before .before .before .before .before .before .before .before .before .before .before .before .before .before .before .before .before .before .before .before .before .before .before .before .before .before .reduce-policy-arg6 .given, c .before .before .before .before .before .before .before .before .before .before .before .before .before .before .out .given)))
+            (sym (c .before .before .before .before .before .before .before .before .before .before .if2 .left) ∙ c .before .before .before .before .before .before .before .before .before .before .before .stops .ensures) e);
       }
 
   reduce-list-end-list-requires : reduce-list-lts.Need-end-list-requires reduce-list-calls reduce-list-at reduce-list.Post reduce-list-Inv-loop reduce-list-μ-loop
@@ -578,6 +640,7 @@ pub +reduce-list+reduce-or-else+reduce-policy-spec : {M : Type 1} → statement 
     (reduce-list-denied-requires t)
     (reduce-list-add-next t)
     (reduce-list-loop-holds t)
+    (reduce-list-reduce-settled-requires t)
     (reduce-list-tail-from-requires t)
     (reduce-list-tail-from-requires-2 t)
     (reduce-list-sub-reduce-policy t)

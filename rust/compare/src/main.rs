@@ -150,7 +150,7 @@ fn main() -> io::Result<()> {
     }
 }
 
-/// Cases are drawn in batches, so that a long run holds few of them at a time.
+/// Cases are drawn in batches, so that a long run holds few of them at a time. One in ten has a list of many arms.
 #[cfg(feature = "proved")]
 fn proved(sample: &Sample) -> io::Result<()> {
     use compare::proved::agrees;
@@ -158,7 +158,10 @@ fn proved(sample: &Sample) -> io::Result<()> {
     const BATCH: usize = 20_000;
     for (batch, first) in (0..sample.count).step_by(BATCH).enumerate() {
         let count = BATCH.min(sample.count - first);
-        for case in cases::draw(sample.seed + batch as u64, count, &Call::ALL) {
+        let seed = sample.seed + batch as u64;
+        let wide = cases::draw_wide(seed, count / 10, &Call::ALL);
+        let others = cases::draw(seed, count - wide.len(), &Call::ALL);
+        for case in others.into_iter().chain(wide) {
             if !agrees(&case) {
                 let line = answers::line(&case, &case.answer());
                 return Err(io::Error::other(format!(

@@ -10,24 +10,45 @@ use crate::words::write;
 /// The lead of a Pending record without consulted entries.
 const PENDING: u32 = 0xF000_0000;
 
+/// The words that a case is about.
+type Words = fn(&mut Rng, &Alphabet, Call) -> Vec<u32>;
+
 /// This many cases of these calls; a call that is listed twice comes twice as often.
 pub fn draw(seed: u64, count: usize, calls: &[Call]) -> Vec<Case> {
+    draw_of(seed, count, calls, |rng, alphabet, call| {
+        if call.reads_sheet() {
+            grown(rng, |rng| Grower::of_sheets(rng, alphabet))
+        } else {
+            record(rng, alphabet)
+        }
+    })
+}
+
+/// The same with lists of many arms, which the others have too seldom.
+pub fn draw_wide(seed: u64, count: usize, calls: &[Call]) -> Vec<Case> {
+    draw_of(seed, count, calls, |rng, alphabet, call| {
+        if call.reads_sheet() {
+            write::tree(&Grower::of_sheets(rng, alphabet).wide())
+        } else {
+            let tree = write::tree(&Grower::of_records(rng, alphabet).wide());
+            [&[PENDING], tree.as_slice()].concat()
+        }
+    })
+}
+
+fn draw_of(seed: u64, count: usize, calls: &[Call], words: Words) -> Vec<Case> {
     let mut rng = Rng::new(seed);
     (0..count)
         .map(|_| {
             let call = rng.pick(calls);
-            case(&mut rng, call)
+            case(&mut rng, call, words)
         })
         .collect()
 }
 
-fn case(rng: &mut Rng, call: Call) -> Case {
+fn case(rng: &mut Rng, call: Call, words: Words) -> Case {
     let alphabet = Alphabet::draw(rng);
-    let mut words = if call.reads_sheet() {
-        grown(rng, |rng| Grower::of_sheets(rng, &alphabet))
-    } else {
-        record(rng, &alphabet)
-    };
+    let mut words = words(rng, &alphabet, call);
     if rng.percent(20) {
         damage::damage(rng, &mut words);
     }

@@ -148,6 +148,23 @@ impl<'a> Grower<'a> {
         }
     }
 
+    /// A list of many arms, most of them a Permit or a grant of three words on one of a few facts.
+    pub fn wide(&mut self) -> Residual {
+        let focus = self.fact();
+        let short = self.rng.pick(&[60, 90, 98]);
+        let count = self.rng.between(8, 40);
+        let arms = (0..count)
+            .map(|_| {
+                if self.rng.percent(short) {
+                    self.short_arm(focus)
+                } else {
+                    self.arm(focus)
+                }
+            })
+            .collect();
+        self.list(arms)
+    }
+
     /// A list with this many arms of one word.
     pub fn flat(&mut self, arms: usize) -> Residual {
         let arms = (0..arms).map(|_| self.leaf()).collect();
@@ -297,6 +314,23 @@ impl<'a> Grower<'a> {
                 Tree::OrElse(Box::new(primary), Box::new(fallback))
             }
         }
+    }
+
+    /// A Permit, or a grant on a fact, most often this one, with nothing but its shape.
+    fn short_arm(&mut self, focus: u16) -> Residual {
+        if self.rng.percent(40) {
+            return Tree::Permit(self.outcome());
+        }
+        let other = self.fact();
+        let fact = self.rng.pick(&[focus, focus, focus, other]);
+        Tree::Grant(Grant {
+            outcome: self.outcome(),
+            shape: self.shape(),
+            label: None,
+            reason: None,
+            obligations: Vec::new(),
+            condition: Condition::Has(fact),
+        })
     }
 
     /// A grant on a fact, most often this one, or one that every table decides.

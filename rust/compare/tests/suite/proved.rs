@@ -4,7 +4,7 @@ use std::thread;
 
 use compare::answers;
 use compare::case::{Call, Case};
-use compare::generate::cases::draw;
+use compare::generate::cases::{draw, draw_wide};
 use compare::generate::chains::{Chain, room};
 use compare::generate::grow::{Alphabet, Grower};
 use compare::generate::limits;
@@ -79,6 +79,12 @@ fn chains_end_as_one_sitting() {
         let chain = Chain::draw(&mut rng, &alphabet, words);
         ends_as_one_sitting(&mut rng, &chain);
     }
+    for _ in 0..1_000 {
+        let alphabet = Alphabet::draw(&mut rng);
+        let tree = Grower::of_sheets(&mut rng, &alphabet).wide();
+        let chain = Chain::over(&mut rng, write::tree(&tree));
+        ends_as_one_sitting(&mut rng, &chain);
+    }
     for _ in 0..50 {
         let alphabet = Alphabet::wide(&mut rng);
         let words = rng.between(500, 4_096);
@@ -91,6 +97,14 @@ fn chains_end_as_one_sitting() {
 #[test]
 fn generated_and_damaged_cases_agree() {
     all_agree(draw(SEED, 40_000, &Call::ALL));
+}
+
+#[test]
+fn lists_of_many_arms_agree() {
+    let cases = draw_wide(SEED, 8_000, &Call::ALL);
+    let many = |case: &Case| case.answer().is_ok() && case.words.len() > 40;
+    assert!(cases.iter().filter(|case| many(case)).count() > 4_000);
+    all_agree(cases);
 }
 
 /// 4,095 arms, 32 levels, 4,096 words and their neighbours, in a thread with 256 KiB of stack.

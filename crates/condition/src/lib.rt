@@ -121,7 +121,7 @@ pub fn skip_conditions(words: &[u32], at: usize, count: u32) -> usize
 }
 
 // A Has, whose words end at `next`: satisfied on Present. Its fact is consulted.
-fn eval_has(
+pub fn eval_has(
     fact: u32,
     next: usize,
     facts: &[u8],

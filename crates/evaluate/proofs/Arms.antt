@@ -30,7 +30,7 @@ use Rattle.decision.proofs.Standing.{denied-is, sound-denied}
 use Rattle.decision.proofs.Buffers.{deny-decision, deny-sound}
 use Rattle.evaluate.specs.declared.PolicyEval.{PolicyEval}
 use Rattle.evaluate.specs.Folding.{meetNext, allOf, joinNext, anyOf, all-is, any-is}
-use Rattle.evaluate.specs.Evaluating.{evalOf, Answers, EvaluatesP, EvaluatesBy, Folds}
+use Rattle.evaluate.specs.Evaluating.{evalOf, Answers, EvaluatesP, EvaluatesBy, Folds, ArmsLeft, anyLeft}
 use Rattle.evaluate.proofs.Nodes.{node-holds}
 
 -- ---- what a decision decides
@@ -47,12 +47,6 @@ unfolding decisionOf
 decides-as W T buf d = decides-at (d .permit) W T buf d
 
 -- ---- arms
--- The answer for the arms that are left, given the decision so far and its buffer. Of arms that don't read nothing is said.
-pub record ArmsLeft (value : Policies ℕ → Decided ℕ) (reads : Policies ℕ → Consulted → Consulted) (T : Table) (W : List ℕ) (sofar : Decision) (before : List ℕ) (at depth : ℕ) (arms : ℕ) (s : Lent) (r : PolicyEval) (t : Lent) (buf : List ℕ) : Type 0 where
-  pub few : r .decision .count ≤ 64
-  pub says : Sound W before sofar →
-      Holds (λ ps rest. Answers T W (value ps) (at + wordss ps) (reads ps) s r t buf) (many pnil pcons (readPolicy (productSets .value) true depth) arms (drop at W))
-
 -- What a list rule, of its first arm, leaves to the others.
 pub record LeavesTo (T : Table) (value others : Policies ℕ → Decided ℕ) (reads readOn : Policies ℕ → Consulted → Consulted) (p : Policy ℕ) (ps : Policies ℕ) : Type 0 where
   pub value-is : value (pcons p ps) ≡ others ps
@@ -136,13 +130,9 @@ after-permit-stop : (x : Decided ℕ) (here on : Consulted) → decides x ≡ fa
 after-permit-stop (permits p) here on e = cc
 after-permit-stop (denies d) here on e = refl
 
-module _ (T : Table) (W : List ℕ) where
-  -- The rules of a decision so far, with its buffer.
-  abbrev pub allLeft : Decision → List ℕ → Policies ℕ → Decided ℕ
-  allLeft sofar before ps = allOf (decisionOf W T before sofar) (evalPolicies productSets T ps)
-
-  abbrev pub anyLeft : Bool → Decision → List ℕ → Policies ℕ → Decided ℕ
-  anyLeft begun sofar before ps = anyOf begun (decisionOf W T before sofar) (evalPolicies productSets T ps)
+-- The rule of a decision so far, with its buffer.
+abbrev pub allLeft : Table → List ℕ → Decision → List ℕ → Policies ℕ → Decided ℕ
+allLeft T W sofar before ps = allOf (decisionOf W T before sofar) (evalPolicies productSets T ps)
 
 module _ (T : Table) (W : List ℕ) (depth : ℕ) (s m t : Lent) (a r : PolicyEval) (sofar : Decision) (before part buf : List ℕ) (at arms : ℕ) (some : arms ≡ 0 → ⊥)
     (first : EvaluatesP T W at depth s a m part) where
@@ -287,10 +277,14 @@ module _ (T : Table) (W : List ℕ) (at depth : ℕ) (s m : Lent) (a : PolicyEva
         }))));
   }
 
--- ---- a loop over arms: what was lent is s and buf₀, and is u and buf now; what answers for the arms that are left answers for all
-pub record Going (Left Whole : PolicyEval → Lent → List ℕ → Type 0) (s u : Lent) (sofar : Decision) (buf₀ buf : List ℕ) : Type 0 where
+-- ---- a loop over arms: what was lent, s and buf₀, is u and buf now, as long as it was; and what is known of the arms that are left
+pub record Going (Known : Type 0) (s u : Lent) (buf₀ buf : List ℕ) : Type 0 where
   pub entries-long : length (u .entries) ≡ length (s .entries)
   pub seen-long : length (u .seen) ≡ length (s .seen)
   pub buf-long : length buf ≡ length buf₀
+  pub known : Known
+
+-- Under All, that what answers for the arms that are left answers for all.
+pub record Leads (Left Whole : PolicyEval → Lent → List ℕ → Type 0) (sofar : Decision) : Type 0 where
   pub few : sofar .count ≤ 64
   pub goes : (r : PolicyEval) (t : Lent) (end : List ℕ) → Left r t end → Whole r t end

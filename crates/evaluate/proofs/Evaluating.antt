@@ -22,17 +22,18 @@ use Rattle.policy_model.specs.declared.PolicyHead.{PolicyHead}
 use Rattle.policy_model.specs.declared.PolicyHead.the-variants.{Permit, Deny, Grant, PermitWithTrace, DenyWithTrace, BadKind, BadField}
 use Rattle.policy_model.specs.Heads.{policyHead, policyNode}
 use Rattle.policy_model.specs.HeadLaws.{policy-deep, permit-word}
+use Rattle.policy_model.specs.Plain.{plainGrant, plain-reads}
 use Rattle.policy_model.proofs.Checking.{no-word}
 use Rattle.condition.specs.declared.ConditionEval.{ConditionEval}
 use Rattle.condition.specs.Listing.{Lent, lent}
-use Rattle.condition.specs.Evaluating.{isSatisfied, Evaluated, EvaluatesC}
+use Rattle.condition.specs.Evaluating.{isSatisfied, Evaluated, EvaluatesC, EvaluatesHas}
 use Rattle.condition.proofs.Listing.{consults-none, consults-as}
 use Rattle.decision.specs.Nodes.{nodeAt}
 use Rattle.decision.specs.Meaning.{deniedAt, permittedAt, decisionOf, past, reads, Sound}
 use Rattle.decision.proofs.Standing.{node-reads, as-permit, denied-is, denied-grant, denied-stored, permitted-is, permitted-grant, permitted-stored, sound-denied, sound-permitted}
 use Rattle.evaluate.specs.declared.PolicyEval.{PolicyEval}
 use Rattle.evaluate.specs.Evaluating.{evalOf, grantedAt, Answers, EvaluatesP, EvaluatesBy}
-use Rattle.evaluate.proofs.Nodes.{held-at, in-sheet, node-holds, node-knows, grant-reads, permit-reads, deny-reads}
+use Rattle.evaluate.proofs.Nodes.{held-at, in-fewer, in-sheet, node-holds, node-knows, grant-reads, permit-reads, deny-reads}
 
 -- The answer to a policy at `at`.
 abbrev pub Answered : Table → List ℕ → ℕ → Lent → PolicyEval → Lent → List ℕ → Policy ℕ → List ℕ → Type 0
@@ -193,6 +194,17 @@ module _ (T : Table) (W : List ℕ) (at depth : ℕ) (hidden : Bool) (n o : ℕ)
         (subst (λ i. Answered T W at s (evalOf (grantedAt (a .satisfied) i at (length W)) (a .next) (a .count)) t buf (grant clause (g .inner)) rest) (g .outcome-is)
         (granted-answers T W at buf clause (g .inner) rest (g .node) a s t _ (g .answer) (sym (g .words-are))))) (grant-known a s t c e);
   }
+
+-- A grant on one fact that its three words tell.
+pub eval-plain : (T : Table) (W : List ℕ) (at depth : ℕ) (s : Lent) (a : ConditionEval) (t : Lent) (buf : List ℕ) → plainGrant (drop at W) ≡ true →
+    EvaluatesHas T (getD W (at + 2) 0 % 1024) (at + 3) s a t → EvaluatesP T W at depth s (evalOf (grantedAt (a .satisfied) (getD W at 0 % 65536) at (length W)) (a .next) (a .count)) t buf
+eval-plain T W at depth s a t buf plain h =
+    let rest = drop (at + 3) W in
+    let node = node-reads W at 2 true _ rest (omega arith) (plain-reads W at plain true 0) in
+    record {
+      few = granted-few (a .satisfied) (getD W at 0 % 65536) at (length W);
+      says = in-fewer depth (suc (suc depth)) (drop at W) (omega arith) (rw (plain-reads W at plain true depth) (fine (granted-answers T W at buf _ _ rest node a s t (at + 3) (h .says) refl)));
+    }
 
 -- ---- stored decisions
 module _ (T : Table) (W : List ℕ) (at depth : ℕ) (lt : at < length W) (deep : depth < 32) where

@@ -36,12 +36,16 @@ anything : {A : Type 0} (q : Parsed A) → Holds (λ _ _. Unit {0}) q
 anything (refuse n) = nothing
 anything (got a ws) = fine tt
 
--- What holds of a policy where nodes 12 and 13 are allowed holds of it in a sheet too.
+-- What holds of a policy where nodes 12 and 13 and more levels are allowed holds of it with fewer levels, and in a sheet.
+pub in-fewer : {Q : Policy ℕ → List ℕ → Type 0} (d depth : ℕ) (ws : List ℕ) → d ≤ depth → Holds Q (readPolicy (productSets .value) true depth ws) → (res : Bool) →
+    Holds Q (readPolicy (productSets .value) res d ws)
+in-fewer d depth ws l h res =
+    weaker (readPolicy (productSets .value) res d ws)
+    (λ p rest e. held-at h (follows-got (deeper (productSets .value) res d depth ws l) e))
+    (itself (readPolicy (productSets .value) res d ws))
+
 pub in-sheet : {Q : Policy ℕ → List ℕ → Type 0} (depth : ℕ) (ws : List ℕ) → Holds Q (readPolicy (productSets .value) true depth ws) → (res : Bool) → Holds Q (readPolicy (productSets .value) res depth ws)
-in-sheet depth ws h res =
-    weaker (readPolicy (productSets .value) res depth ws)
-    (λ p rest e. held-at h (follows-got (deeper (productSets .value) res depth depth ws (omega arith)) e))
-    (itself (readPolicy (productSets .value) res depth ws))
+in-sheet depth ws h res = in-fewer depth depth ws (omega arith) h res
 
 -- A policy by its head, at its position.
 module _ (W : List ℕ) (at depth : ℕ) (h : PolicyHead) (lt : at < length W) (e : h ≡ policyHead (getD W at 0) true) where

@@ -1,4 +1,5 @@
-// Evaluation of policies, after gatekeep's evaluate.rs. A policy hands its arms to the list rule, and the list rule hands each arm back.
+// Evaluation of policies, after gatekeep's evaluate.rs. A policy hands its arms to the list rule, and the list rule hands each arm back; of a long Any
+// it reads by itself those that are short.
 // Lent down the walk: the consulted list (`entries`, of which the first `count` are in use, and `seen`, the set of the facts in them), and `buf`,
 // 64 bytes for each level that is left and 64 more, where a list rule keeps united obligations at the front and lends the tail to its arms.
 // A sheet is read as a residual is: where nodes 12 and 13 don't stand, it makes no difference that they may.
@@ -6,7 +7,7 @@ use condition::ConditionEval;
 use decision::Decision;
 use policy_model::PolicyHead;
 ghost use mathlib.Core.Path.{_≡_};
-ghost use mathlib.Core.Bool.{Bool, true};
+ghost use mathlib.Core.Bool.{Bool, true, false};
 ghost use mathlib.Core.List.{List};
 ghost use Prim.Native.Nat.{ℕ, _+_, _*_, _≤_, _<_};
 ghost use lib.ListN.{length, drop};
@@ -15,7 +16,7 @@ ghost use Rattle.policy_model.specs.declared.PolicyHead.the-variants.{Grant, Al
 ghost use Rattle.condition.specs.Listing.{lent};
 ghost use Rattle.decision.specs.Meaning.{deniedAt, permittedAt};
 ghost use Rattle.evaluate.specs.Folding.{joinNext};
-ghost use Rattle.evaluate.specs.Evaluating.{evalOf, grantedAt, EvaluatesP, EvaluatesBy, Met, Folds, Stands};
+ghost use Rattle.evaluate.specs.Evaluating.{evalOf, grantedAt, EvaluatesP, EvaluatesBy, Met, Folds, Stands, Short, Joins, Passes};
 
 // What was decided, the position after the policy's words, and how many entries are in use.
 pub struct PolicyEval {
@@ -335,8 +336,128 @@ fn eval_all(
     }
 }
 
-// The Any at `at`, whose `arms` have at most `depth` levels: joins the permits, or denies with the first deny. Every arm is read.
-// The first arm has none before it, so its decision is the decision so far.
+// Whether the policy at `at` is short: a Permit, or a grant on one fact without label, reason and obligations.
+fn is_short(words: &[u32], at: usize) -> bool
+    ensures { λ r. ⌜ (r ≡ true → Short (now (words .entry)) at) ⌝ }
+{
+    if words.len() <= at {
+        return false;
+    }
+    if words[at] / policy_model::HALF == policy_model::PERMIT {
+        return true;
+    }
+    policy_model::plain_grant(words, at)
+}
+
+// The short policy at `at`. It needs no buffer, and two levels at most.
+fn eval_short(
+    words: &[u32],
+    at: usize,
+    facts: &[u8],
+    entries: &mut [u16],
+    seen: &mut [u64],
+    count: usize,
+) -> PolicyEval
+    requires { ⌜ Short (now words) at ⌝ }
+    ensures { λ r. ⌜ ((depth : ℕ) (buf : List ℕ) → EvaluatesP (tableOf (now (facts .entry))) (now (words .entry)) at depth (lent count (now (entries .entry)) (now (seen .entry))) r (lent (r .count) (now (entries .exit)) (now (seen .exit))) buf) ⌝ }
+{
+    let none = words.len();
+    let word = words[at];
+    let outcome = (word % policy_model::HALF) as u16;
+    if word / policy_model::HALF == policy_model::PERMIT {
+        return permitted(outcome, none, at + 1, count);
+    }
+    let fact = words[at + 2] % policy_model::FACTS;
+    let condition = condition::eval_has(fact, at + 3, facts, entries, seen, count);
+    granted(at, outcome, none, condition)
+}
+
+// An Any under way, after its first arm: the decision so far, the position of the next arm, how many arms are left, and how many entries are in use.
+struct Run {
+    sofar: Decision,
+    next: usize,
+    left: u32,
+    count: usize,
+}
+
+// An Any of `arms` after its first arm, which has none before it: its decision is the decision so far.
+fn start_any(first: PolicyEval, arms: u32, buf: &mut [u8]) -> Run
+    requires { ⌜ (first .decision .count ≤ 64) × (128 ≤ length (now buf)) × (0 < arms) ⌝ }
+    ensures { λ r. ⌜ ((words : List ℕ) (none : Decision) → Joins false words none arms first (now (buf .entry)) r (now (buf .exit))) ⌝ }
+{
+    let decision = first.decision;
+    let sofar = decision::keep(decision, buf);
+    Run {
+        sofar,
+        next: first.next,
+        left: arms - 1,
+        count: first.count,
+    }
+}
+
+// The same after one more arm.
+fn after_arm(words: &[u32], run: Run, arm: PolicyEval, buf: &mut [u8]) -> Run
+    requires { ⌜ (run .sofar .count ≤ 64) × (arm .decision .count ≤ 64) × (128 ≤ length (now buf)) × (0 < run .left) ⌝ }
+    ensures { λ r. ⌜ Joins true (now (words .entry)) (run .sofar) (run .left) arm (now (buf .entry)) r (now (buf .exit)) ⌝ }
+{
+    let decision = arm.decision;
+    let sofar = join_arm(words, run.sofar, decision, buf);
+    Run {
+        sofar,
+        next: arm.next,
+        left: run.left - 1,
+        count: arm.count,
+    }
+}
+
+// With so few arms left, setting out on a run of short ones costs more than it saves.
+const FEW_ARMS: u32 = 7;
+
+// Goes on over the next arms as long as they are short, with no call back for any of them.
+fn join_short(
+    words: &[u32],
+    run: Run,
+    facts: &[u8],
+    entries: &mut [u16],
+    seen: &mut [u64],
+    buf: &mut [u8],
+) -> Run
+    requires { ⌜ (run .sofar .count ≤ 64) × (128 ≤ length (now buf)) ⌝ }
+    ensures { λ r. ⌜ ((depth : ℕ) → Passes (tableOf (now (facts .entry))) (now (words .entry)) depth run (now (buf .entry)) (lent (run .count) (now (entries .entry)) (now (seen .entry))) r (now (buf .exit)) (lent (r .count) (now (entries .exit)) (now (seen .exit)))) ⌝ }
+{
+    if run.left <= FEW_ARMS {
+        return run;
+    }
+    let mut sofar = run.sofar;
+    let mut next = run.next;
+    let mut left = run.left;
+    let mut listed = run.count;
+    while left != 0 {
+        if !is_short(words, next) {
+            return Run {
+                sofar,
+                next,
+                left,
+                count: listed,
+            };
+        }
+        let arm = eval_short(words, next, facts, entries, seen, listed);
+        next = arm.next;
+        listed = arm.count;
+        left -= 1;
+        let decision = arm.decision;
+        sofar = join_arm(words, sofar, decision, buf);
+    }
+    Run {
+        sofar,
+        next,
+        left,
+        count: listed,
+    }
+}
+
+// The Any at `at`, whose `arms` have at most `depth` levels: joins the permits, or denies with the first deny. Every arm is read:
+// the first, and then one at a time, with the short ones after it.
 fn eval_any(
     words: &[u32],
     at: usize,
@@ -364,32 +485,26 @@ fn eval_any(
         count,
         &mut buf[OBLIGATIONS..],
     );
-    let mut next = first.next;
-    let mut listed = first.count;
-    let mut left = arms - 1;
-    let decision = first.decision;
-    let mut sofar = decision::keep(decision, buf);
-    while left != 0 {
+    let mut run = start_any(first, arms, buf);
+    while run.left != 0 {
         let arm = eval_arm(
             words,
-            next,
+            run.next,
             depth,
             facts,
             entries,
             seen,
-            listed,
+            run.count,
             &mut buf[OBLIGATIONS..],
         );
-        next = arm.next;
-        listed = arm.count;
-        left -= 1;
-        let decision = arm.decision;
-        sofar = join_arm(words, sofar, decision, buf);
+        run = after_arm(words, run, arm, buf);
+        run = join_short(words, run, facts, entries, seen, buf);
     }
+    let decision = run.sofar;
     PolicyEval {
-        decision: sofar,
-        next,
-        count: listed,
+        decision,
+        next: run.next,
+        count: run.count,
     }
 }
 

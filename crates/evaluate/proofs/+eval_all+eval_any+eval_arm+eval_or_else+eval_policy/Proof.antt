@@ -4,19 +4,22 @@
 use borrow.Author.Needs.{needs}
 use borrow.Author.Tests.{not-true, not-false}
 use mathlib.Core.Path.{refl, sym, _∙_}
-use mathlib.Core.Bool.{true, false}
+use mathlib.Core.Bool.{false}
+use mathlib.Core.List.{[]}
 use Prim.Native.Nat.{ℕ, _+_, _*_, _≤_, _<_}
 use native.Mathlib.Omega.{arith}
 use lib.ListN.{length}
 use Rattle.model.specs.Facts.{tableOf}
 use Rattle.model.specs.Outcome.{productSets}
-use Rattle.model.specs.Consulted.{readAll, readAny}
+use Rattle.model.specs.Consulted.{readAll}
 use Rattle.policy_model.specs.declared.PolicyHead.the-variants.{Permit, Deny, Grant, All, Any, OrElse, PermitWithTrace, DenyWithTrace, BadKind, BadField}
 use Rattle.condition.specs.Listing.{lent}
-use Rattle.evaluate.specs.Evaluating.{EvaluatesBy}
-use Rattle.evaluate.proofs.Folds.{join-first, lent-folds}
+use Rattle.decision.specs.Meaning.{deniedAt}
+use Rattle.evaluate.specs.Evaluating.{EvaluatesBy, ArmsLeft, Passes}
+use Rattle.evaluate.proofs.Folds.{lent-folds}
 use Rattle.evaluate.proofs.Evaluating.{by-head, eval-end, eval-limit, eval-bad-kind, eval-bad-field, eval-permit, eval-permit-word, eval-deny}
-use Rattle.evaluate.proofs.Arms.{ArmsLeft, allLeft, anyLeft, arms-none, arms-passed, all-more, all-stop, any-more, all-node, any-node, or-permits, or-denies, Going}
+use Rattle.evaluate.proofs.Arms.{allLeft, arms-none, arms-passed, all-more, all-stop, all-node, any-node, or-permits, or-denies, Going, Leads}
+use Rattle.evaluate.proofs.Runs.{passes-none, passes-then, passes-next, any-next, joins-few, joins-left}
 use borrow.Fn.Kinds.{In}
 use borrow.Fn.PlainCycle.{Measures, is, falls, and}
 use Rattle.evaluate.proofs.eval_all.Reads as eval-all
@@ -37,8 +40,9 @@ use Rattle.evaluate.proofs.+eval_all+eval_any+eval_arm+eval_or_else+eva
 use Rattle.decision.proofs.denied.Reads as denied-reads
 use Rattle.evaluate.proofs.denied.Reads as denied-reads′
 use Rattle.evaluate.proofs.eval_grant.Reads as eval-grant-reads
-use Rattle.evaluate.proofs.join_arm.Reads as join-arm-reads
-use Rattle.decision.proofs.keep.Reads as keep-reads
+use Rattle.evaluate.proofs.start_any.Reads as start-any-reads
+use Rattle.evaluate.proofs.after_arm.Reads as after-arm-reads
+use Rattle.evaluate.proofs.join_short.Reads as join-short-reads
 use Rattle.evaluate.proofs.met.Reads as met-reads
 use Rattle.evaluate.proofs.permitted.Reads as permitted-reads
 use Rattle.evaluate.proofs.stored_deny.Reads as stored-deny-reads
@@ -66,11 +70,12 @@ abbrev μ-eval-policy : Measures 5 eval-policy-kinds.ps ℕ
 abbrev eval-all-Inv-loop : eval-all-lts.InvT-loop
 eval-all-Inv-loop words at depth arms facts entries₀ seen₀ count buf₀ sofar₀ next₀ listed₀ left₀ entries seen buf sofar next listed left =
     Going
+    (Leads
     (ArmsLeft (allLeft (tableOf facts) words sofar buf) (readAll productSets (tableOf facts)) (tableOf facts) words sofar buf next depth left (lent listed entries seen))
     (EvaluatesBy (All arms) (tableOf facts) words at depth (lent count entries₀ seen₀))
+    sofar)
     (lent count entries₀ seen₀)
     (lent listed entries seen)
-    sofar
     buf₀
     buf
 
@@ -78,19 +83,17 @@ abbrev eval-all-μ-loop : eval-all-lts.MeasureT-loop
 eval-all-μ-loop words at depth arms facts entries₀ seen₀ count buf₀ sofar₀ next₀ listed₀ left₀ entries seen buf sofar next listed left = left
 
 abbrev eval-any-Inv-loop : eval-any-lts.InvT-loop
-eval-any-Inv-loop words at depth arms facts entries₀ seen₀ count buf₀ next₀ listed₀ left₀ sofar₀ entries seen buf next listed left sofar =
+eval-any-Inv-loop words at depth arms facts entries₀ seen₀ count buf₀ run₀ entries seen buf run =
     (64 * (depth + 2) ≤ length buf)
     × Going
-    (ArmsLeft (anyLeft (tableOf facts) words true sofar buf) (readAny productSets (tableOf facts)) (tableOf facts) words sofar buf next depth left (lent listed entries seen))
-    (ArmsLeft (anyLeft (tableOf facts) words true sofar₀ buf₀) (readAny productSets (tableOf facts)) (tableOf facts) words sofar₀ buf₀ next₀ depth left₀ (lent listed₀ entries₀ seen₀))
-    (lent listed₀ entries₀ seen₀)
-    (lent listed entries seen)
-    sofar
+    (Passes (tableOf facts) words depth run₀ buf₀ (lent (run₀ .count) entries₀ seen₀) run buf (lent (run .count) entries seen))
+    (lent (run₀ .count) entries₀ seen₀)
+    (lent (run .count) entries seen)
     buf₀
     buf
 
 abbrev eval-any-μ-loop : eval-any-lts.MeasureT-loop
-eval-any-μ-loop words at depth arms facts entries₀ seen₀ count buf₀ next₀ listed₀ left₀ sofar₀ entries seen buf next listed left sofar = left
+eval-any-μ-loop words at depth arms facts entries₀ seen₀ count buf₀ run₀ entries seen buf run = run .left
 
 module _ (t : ℕ) where
   abbrev eval-all-at : In 5 eval-all-kinds.ps
@@ -140,8 +143,7 @@ module _ (t : ℕ) where
         entries-long = refl;
         seen-long = refl;
         buf-long = refl;
-        few = omega arith;
-        goes = λ r t end e. all-node _ _ _ _ _ _ r t _ end _ refl (c .before .before .before .before .before .before .pre .1 .0) e;
+        known = record { few = omega arith; goes = λ r t end e. all-node _ _ _ _ _ _ r t _ end _ refl (c .before .before .before .before .before .before .pre .1 .0) e };
       })
 
   eval-all-sub-eval-arm : eval-all-lts.Need-sub-eval-arm eval-all-calls eval-all-at eval-all.Post eval-all-Inv-loop eval-all-μ-loop
@@ -177,7 +179,7 @@ module _ (t : ℕ) where
       let call = back .before .before .before .before .before in
       let turn = call .before .before .before .before in
       let loop = turn .before in
-      loop .loop .inv .goes _ _ _
+      loop .loop .inv .known .goes _ _ _
       (all-stop _ _ _ _ _ _ _ _ _ _ _ _ _ _ (turn .loop-test .taken) (call .eval-arm .ensures) _ (not-true _ (c .before .if1 .taken))
       (arms-passed _ _ _ _ _ _ _ _ _ _ (call .eval-arm .ensures .few) (c .skip-policies .ensures)))
 
@@ -187,7 +189,7 @@ module _ (t : ℕ) where
       let call = back .before .before .before .before .before in
       let loop = call .before .before .before .before .before in
       let start = loop .before .before .before .before .before .before .before in
-      (loop .loop .inv .few, call .eval-arm .ensures .few, omega (arith, back .buf .given, loop .loop .inv .buf-long, start .pre))
+      (loop .loop .inv .known .few, call .eval-arm .ensures .few, omega (arith, back .buf .given, loop .loop .inv .buf-long, start .pre))
 
   eval-all-loop-less : eval-all-lts.Need-loop-less eval-all-calls eval-all-at eval-all.Post eval-all-Inv-loop eval-all-μ-loop
   eval-all-loop-less c = omega arith
@@ -205,11 +207,13 @@ module _ (t : ℕ) where
         entries-long = omega (arith, back .before .before .before .before .entries .given, loop .loop .inv .entries-long);
         seen-long = omega (arith, back .before .before .seen .given, loop .loop .inv .seen-long);
         buf-long = omega (arith, c .before .buf2 .given, back .buf .given, loop .loop .inv .buf-long);
-        few = meet .met .ensures .few;
-        goes = λ r t end e. loop .loop .inv .goes r t end
-            (all-more _ _ _ _ _ t _ r _ _ _ end _ _ (turn .loop-test .taken) (call .eval-arm .ensures) _ _ (not-false _ (permit .if1 .left))
-            (lent-folds _ _ _ _ _ _ _ _ (omega (arith, loop .loop .inv .buf-long, start .pre)) (loop .loop .inv .few) (omega (arith, back .buf .given, loop .loop .inv .buf-long, start .pre, call .eval-arm .ensures .few)) _
-            (meet .met .ensures .folds (not-false _ (permit .if1 .left)))) e);
+        known = record {
+          few = meet .met .ensures .few;
+          goes = λ r t end e. loop .loop .inv .known .goes r t end
+              (all-more _ _ _ _ _ t _ r _ _ _ end _ _ (turn .loop-test .taken) (call .eval-arm .ensures) _ _ (not-false _ (permit .if1 .left))
+              (lent-folds _ _ _ _ _ _ _ _ (omega (arith, loop .loop .inv .buf-long, start .pre)) (loop .loop .inv .known .few) (omega (arith, back .buf .given, loop .loop .inv .buf-long, start .pre, call .eval-arm .ensures .few)) _
+              (meet .met .ensures .folds (not-false _ (permit .if1 .left)))) e);
+        };
       }
 
   eval-all-same-length-4 : eval-all-lts.Need-same-length-4 eval-all-calls eval-all-at eval-all.Post eval-all-Inv-loop eval-all-μ-loop
@@ -224,11 +228,11 @@ module _ (t : ℕ) where
   eval-all-returns-2 : eval-all-lts.Need-returns-2 eval-all-calls eval-all-at eval-all.Post eval-all-Inv-loop eval-all-μ-loop
   eval-all-returns-2 c =
       let loop = c .before in
-      loop .loop .inv .goes _ _ _ (arms-none _ _ _ _ _ _ _ _ _ _ _ (c .loop-test .left) (loop .loop .inv .few) refl (λ l. refl))
+      loop .loop .inv .known .goes _ _ _ (arms-none _ _ _ _ _ _ _ _ _ _ _ (c .loop-test .left) (loop .loop .inv .known .few) refl (λ l. refl))
 
   -- what `eval-any` calls
   abbrev eval-any-calls : eval-any-lts.Claims
-  eval-any-calls = (denied-reads′.Asked, denied-reads′.Learnt, eval-policy-below, eval-policy.Post, keep-reads.Asked, keep-reads.Learnt, eval-arm-below, eval-arm.Post, join-arm-reads.Asked, join-arm-reads.Learnt)
+  eval-any-calls = (denied-reads′.Asked, denied-reads′.Learnt, eval-policy-below, eval-policy.Post, start-any-reads.Asked, start-any-reads.Learnt, eval-arm-below, eval-arm.Post, after-arm-reads.Asked, after-arm-reads.Learnt, join-short-reads.Asked, join-short-reads.Learnt)
 
   eval-any-add-denied : eval-any-lts.Need-add-denied eval-any-calls eval-any-at eval-any.Post eval-any-Inv-loop eval-any-μ-loop
   eval-any-add-denied c = search needs
@@ -256,84 +260,88 @@ module _ (t : ℕ) where
   eval-any-eval-policy-requires : eval-any-lts.Need-eval-policy-requires eval-any-calls eval-any-at eval-any.Post eval-any-Inv-loop eval-any-μ-loop
   eval-any-eval-policy-requires c κs = search needs
 
-  eval-any-sub-left : eval-any-lts.Need-sub-left eval-any-calls eval-any-at eval-any.Post eval-any-Inv-loop eval-any-μ-loop
-  eval-any-sub-left c = search needs
-
-  eval-any-keep-requires : eval-any-lts.Need-keep-requires eval-any-calls eval-any-at eval-any.Post eval-any-Inv-loop eval-any-μ-loop
-  eval-any-keep-requires c κs =
-      let back = c .before .before .before in
+  eval-any-start-any-requires : eval-any-lts.Need-start-any-requires eval-any-calls eval-any-at eval-any.Post eval-any-Inv-loop eval-any-μ-loop
+  eval-any-start-any-requires c κs =
+      let back = c .before .before in
       let call = back .before .before .before .before .before in
       let start = call .before .before .before .before .before .before .before .before .before .before in
-      (call .eval-policy .ensures .few, omega (arith, back .buf .given, start .pre))
+      (call .eval-policy .ensures .few, omega (arith, back .buf .given, start .pre), omega (arith, call .before .before .before .before .if1 .left))
 
   eval-any-loop-holds : eval-any-lts.Need-loop-holds eval-any-calls eval-any-at eval-any.Post eval-any-Inv-loop eval-any-μ-loop
   eval-any-loop-holds c =
-      let kept = c .before .before in
-      let back = kept .before .before .before .before in
-      let call = back .before .before .before .before .before in
-      let start = call .before .before .before .before .before .before .before .before .before .before in (
+      let started = c .before .before in
+      let back = started .before .before .before in
+      let start = back .before .before .before .before .before .before .before .before .before .before .before .before .before .before .before in (
         omega (arith, c .before .buf2 .given, back .buf .given, start .pre),
         record {
           entries-long = refl;
           seen-long = refl;
           buf-long = refl;
-          few = rw (kept .keep .ensures .same) (call .eval-policy .ensures .few);
-          goes = λ r t end e. e;
+          known = passes-none _ _ _ _ _ _ (joins-few (started .start-any .ensures [] (deniedAt 0 0)));
         },
       )
 
   eval-any-sub-eval-arm : eval-any-lts.Need-sub-eval-arm eval-any-calls eval-any-at eval-any.Post eval-any-Inv-loop eval-any-μ-loop
   eval-any-sub-eval-arm c =
-      let loop = c .before .before .before in
+      let loop = c .before .before .before .before in
       omega (arith, loop .loop .inv .0)
 
   eval-any-part-eval-arm-start : eval-any-lts.Need-part-eval-arm-start eval-any-calls eval-any-at eval-any.Post eval-any-Inv-loop eval-any-μ-loop
   eval-any-part-eval-arm-start c =
-      let loop = c .before .before .before in
+      let loop = c .before .before .before .before in
       omega (arith, loop .loop .inv .0)
 
   eval-any-part-eval-arm-end : eval-any-lts.Need-part-eval-arm-end eval-any-calls eval-any-at eval-any.Post eval-any-Inv-loop eval-any-μ-loop
   eval-any-part-eval-arm-end c =
-      let loop = c .before .before .before in
+      let loop = c .before .before .before .before in
       omega (arith, loop .loop .inv .0)
 
   eval-any-eval-arm-requires : eval-any-lts.Need-eval-arm-requires eval-any-calls eval-any-at eval-any.Post eval-any-Inv-loop eval-any-μ-loop
   eval-any-eval-arm-requires c κs =
-      let loop = c .before .before .before .before in
-      let start = loop .before .before .before .before .before .before .before .before .before .before .before .before .before .before .before .before .before .before .before .before .before .before in
+      let loop = c .before .before .before .before .before in
+      let start = loop .before .before .before .before .before .before .before .before .before .before .before .before .before .before .before .before .before .before .before .before .before in
       (omega (arith, start .pre .0), (omega (arith, start .pre .1 .1), omega (arith, loop .loop .inv .0), start .pre .1 .3))
 
-  eval-any-sub-left-2 : eval-any-lts.Need-sub-left-2 eval-any-calls eval-any-at eval-any.Post eval-any-Inv-loop eval-any-μ-loop
-  eval-any-sub-left-2 c = search needs
-
-  eval-any-join-arm-requires : eval-any-lts.Need-join-arm-requires eval-any-calls eval-any-at eval-any.Post eval-any-Inv-loop eval-any-μ-loop
-  eval-any-join-arm-requires c κs =
-      let back = c .before .before .before in
+  eval-any-after-arm-requires : eval-any-lts.Need-after-arm-requires eval-any-calls eval-any-at eval-any.Post eval-any-Inv-loop eval-any-μ-loop
+  eval-any-after-arm-requires c κs =
+      let back = c .before .before in
       let call = back .before .before .before .before .before in
-      let loop = call .before .before .before .before .before in
-      (loop .loop .inv .1 .few, call .eval-arm .ensures .few, omega (arith, back .buf3 .given, loop .loop .inv .0))
+      let turn = call .before .before .before .before in
+      let loop = turn .before .before in
+      (loop .loop .inv .1 .known .few, call .eval-arm .ensures .few, omega (arith, back .buf3 .given, loop .loop .inv .0), omega (arith, turn .if2 .taken))
+
+  eval-any-join-short-requires : eval-any-lts.Need-join-short-requires eval-any-calls eval-any-at eval-any.Post eval-any-Inv-loop eval-any-μ-loop
+  eval-any-join-short-requires c κs =
+      let joined = c .before .before .before .before .before in
+      let back = joined .before .before .before in
+      let loop = back .before .before .before .before .before .before .before .before .before .before .before in
+      (joins-few (joined .after-arm .ensures), omega (arith, c .before .before .before .before .buf4 .given, back .buf3 .given, loop .loop .inv .0))
 
   eval-any-loop-less : eval-any-lts.Need-loop-less eval-any-calls eval-any-at eval-any.Post eval-any-Inv-loop eval-any-μ-loop
-  eval-any-loop-less c = omega arith
+  eval-any-loop-less c =
+      let short = c .before .before .before .before .before .before in
+      let joined = short .before .before .before .before .before .before in
+      omega (arith, short .join-short .ensures 0 .fewer, joins-left (joined .after-arm .ensures), joined .before .before .before .before .before .before .before .before .before .before .before .before .if2 .taken)
 
   eval-any-loop-again : eval-any-lts.Need-loop-again eval-any-calls eval-any-at eval-any.Post eval-any-Inv-loop eval-any-μ-loop
   eval-any-loop-again c =
-      let join = c .before .before in
-      let back = join .before .before .before .before in
+      let short = c .before .before .before .before .before .before in
+      let joined = short .before .before .before .before .before .before in
+      let back = joined .before .before .before in
       let call = back .before .before .before .before .before in
       let turn = call .before .before .before .before in
-      let loop = turn .before in
-      let going = loop .loop .inv .1 in (
-        omega (arith, c .before .buf4 .given, back .buf3 .given, loop .loop .inv .0),
+      let loop = turn .before .before in
+      let inv = loop .loop .inv .1 in (
+        omega (arith, c .before .buf5 .given, short .before .before .before .before .before .buf4 .given, back .buf3 .given, loop .loop .inv .0),
         record {
-          entries-long = omega (arith, back .before .before .before .before .entries2 .given, going .entries-long);
-          seen-long = omega (arith, back .before .before .seen2 .given, going .seen-long);
-          buf-long = omega (arith, c .before .buf4 .given, back .buf3 .given, going .buf-long);
-          few = join .join-arm .ensures .few;
-          goes = λ r t end e. going .goes r t end
-              (any-more _ _ _ _ _ t _ r _ _ _ end _ _ (turn .loop-test .taken) (call .eval-arm .ensures) true _ _
-              (lent-folds _ _ _ _ _ _ _ _ (omega (arith, loop .loop .inv .0)) (going .few) (omega (arith, back .buf3 .given, loop .loop .inv .0, call .eval-arm .ensures .few)) _
-              (join .join-arm .ensures)) e);
+          entries-long = omega (arith, c .before .before .before .before .before .entries3 .given, back .before .before .before .before .entries2 .given, inv .entries-long);
+          seen-long = omega (arith, c .before .before .before .seen3 .given, back .before .before .seen2 .given, inv .seen-long);
+          buf-long = omega (arith, c .before .buf5 .given, short .before .before .before .before .before .buf4 .given, back .buf3 .given, inv .buf-long);
+          known = passes-then _ _ _ (inv .known)
+              (passes-then _ _ _
+              (passes-next _ _ _ _ _ _ _ _ _ _ _ _ _ (turn .if2 .taken) (omega (arith, loop .loop .inv .0)) (inv .known .few) (omega (arith, back .buf3 .given, loop .loop .inv .0, call .eval-arm .ensures .few))
+              (call .eval-arm .ensures) (joined .after-arm .ensures))
+              (short .join-short .ensures _));
         },
       )
 
@@ -348,16 +356,16 @@ module _ (t : ℕ) where
 
   eval-any-returns-2 : eval-any-lts.Need-returns-2 eval-any-calls eval-any-at eval-any.Post eval-any-Inv-loop eval-any-μ-loop
   eval-any-returns-2 c =
-      let loop = c .before in
-      let kept = loop .before .before .before in
-      let back = kept .before .before .before .before in
+      let loop = c .before .before .before in
+      let started = loop .before .before .before in
+      let back = started .before .before .before in
       let call = back .before .before .before .before .before in
       let start = call .before .before .before .before .before .before .before .before .before .before in
+      let none = length (start .args .words .now) in
       any-node _ _ _ _ _ _ _ _ (start .args .buf .now) _ _ refl (start .pre .1 .0)
-      (any-more _ _ _ _ _ _ _ _ _ _ _ _ _ _ (call .before .before .before .before .if1 .left) (call .eval-policy .ensures) false _ _
-      (lent-folds _ _ _ _ _ _ _ _ (omega (arith, start .pre)) (omega arith) (omega (arith, back .buf .given, start .pre, call .eval-policy .ensures .few)) _
-      (join-first _ _ _ _ _ _ false refl (call .eval-policy .ensures .few) (kept .keep .ensures)))
-      (loop .loop .inv .1 .goes _ _ _ (arms-none _ _ _ _ _ _ _ _ _ _ _ (c .loop-test .left) (loop .loop .inv .1 .few) refl (λ l. refl))))
+      (any-next _ _ _ _ _ _ _ false (deniedAt none none) _ _ _ _ _ _ _ (call .before .before .before .before .if1 .left) (omega (arith, start .pre)) (omega arith)
+      (omega (arith, back .buf .given, start .pre, call .eval-policy .ensures .few)) (call .eval-policy .ensures) (started .start-any .ensures _ _) _ _ _
+      (loop .loop .inv .1 .known .goes _ _ _ (arms-none _ _ _ _ _ _ _ _ _ _ _ (c .before .if2 .left) (loop .loop .inv .1 .known .few) refl (λ l. refl))))
 
   -- what `eval-arm` calls
   abbrev eval-arm-calls : eval-arm-lts.Claims
@@ -677,15 +685,14 @@ pub +eval-all+eval-any+eval-arm+eval-or-else+eval-policy-spec : {M : Type 1} →
     (eval-any-part-eval-policy-start t)
     (eval-any-part-eval-policy-end t)
     (eval-any-eval-policy-requires t)
-    (eval-any-sub-left t)
-    (eval-any-keep-requires t)
+    (eval-any-start-any-requires t)
     (eval-any-loop-holds t)
     (eval-any-sub-eval-arm t)
     (eval-any-part-eval-arm-start t)
     (eval-any-part-eval-arm-end t)
     (eval-any-eval-arm-requires t)
-    (eval-any-sub-left-2 t)
-    (eval-any-join-arm-requires t)
+    (eval-any-after-arm-requires t)
+    (eval-any-join-short-requires t)
     (eval-any-loop-less t)
     (eval-any-loop-again t)
     (eval-any-same-length t)

@@ -350,7 +350,7 @@ fn is_short(words: &[u32], at: usize) -> bool
 }
 
 // The short policy at `at`. It needs no buffer, and two levels at most.
-fn eval_short(
+pub fn eval_short(
     words: &[u32],
     at: usize,
     facts: &[u8],

@@ -84,17 +84,17 @@ pub fold-joined : {W : List ℕ} {sofar incoming r : Decision} {before after : L
 fold-joined {W} {sofar} {incoming} {r} {before} {after} every begun e f q =
     subst (λ b. Folds (foldNext b begun) W sofar before incoming (drop 64 before) r after) (sym e) f
 
-pub decision-added : {every : Bool} {T : Table} {W : List ℕ} {v : Sofar} {d now : Decision} {buf front mid buf′ front′ : List ℕ} {kept arms : ℕ} →
+pub decision-added : {every : Bool} {T : Table} {W : List ℕ} {v : Sofar} {d now : Decision} {buf front mid buf′ front′ : List ℕ} {kept : ℕ} →
     Bounded v → NodeKept T W d (v .kept) buf front mid front′ kept → now .count ≤ 64 →
-    ((every ≡ true → d .permit ≡ true) → Folds (foldNext every (v .begun)) W (v .decision) mid d (drop 64 mid) now buf′) → arms ≡ armsWith (d .permit) (v .arms) →
-    DecisionAdded every T W v d buf front buf′ front′ (sofarOf now true kept (v .size) arms (v .pending))
-decision-added {every} {T} {W} {v} {d} {now} {buf} {front} {mid} {buf′} {front′} {kept} {arms} b n few f a = record {
+    ((every ≡ true → d .permit ≡ true) → Folds (foldNext every (v .begun)) W (v .decision) mid d (drop 64 mid) now buf′) →
+    DecisionAdded every T W v d buf front buf′ front′ (sofarOf now true kept (v .size) (armsWith (d .permit) (v .arms)) (v .pending))
+decision-added {every} {T} {W} {v} {d} {now} {buf} {front} {mid} {buf′} {front′} {kept} b n few f = record {
   bounds = record { few = few; kept-most = n .bound; size-most = b .size-most; size-some = b .size-some };
   size-is = refl;
   pending-is = refl;
   begun-is = refl;
   more = n .more;
-  arms-are = a;
+  arms-are = refl;
   none = n .none;
   node = n .node;
   folds = λ q. folds-same mid (drop 64 mid)

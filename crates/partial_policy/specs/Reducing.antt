@@ -2,7 +2,7 @@
 use mathlib.Core.Path.{_≡_}
 use mathlib.Core.Bool.{Bool, true, false, not, _&&_}
 use mathlib.Core.List.{List, [], _∷_, _++_}
-use Prim.Native.Nat.{ℕ, suc, _+_, _-_, _/_, _≤_, _<_, min}
+use Prim.Native.Nat.{ℕ, suc, _+_, _-_, _/_, _%_, _≤_, min}
 use lib.ListN.{length, take, drop, getD}
 use Rattle.model.specs.Facts.{Table}
 use Rattle.model.specs.Outcome.{productSets}
@@ -15,6 +15,7 @@ use Rattle.model.specs.Writing.{word, count, encodeD, encode, encodes}
 use Rattle.model.specs.Reading.{many, readPolicy}
 use Rattle.laws.specs.FieldLaws.{Holds}
 use Rattle.laws.specs.Size.{words, wordss}
+use Rattle.facts.specs.Answers.{isSettled}
 use Rattle.policy_model.specs.declared.PolicyHead.{PolicyHead}
 use Rattle.policy_model.specs.declared.PolicyHead.the-variants as policy
 use Rattle.policy_model.specs.Heads.{policyHead}
@@ -22,7 +23,7 @@ use Rattle.condition.specs.Listing.{Lent, Consults}
 use Rattle.decision.specs.declared.Decision.{Decision}
 use Rattle.decision.specs.Meaning.{deniedAt, decisionOf, Sound}
 use Rattle.evaluate.specs.declared.PolicyEval.{PolicyEval}
-use Rattle.evaluate.specs.Evaluating.{EvaluatesP, Folds}
+use Rattle.evaluate.specs.Evaluating.{EvaluatesP, Folds, Short}
 use Rattle.sizes.specs.Laid.{tooMany, capped, Laid}
 use Rattle.residual.specs.Weight.{weight, weights, weightD}
 use Rattle.partial_policy.specs.declared.ReducedPolicy.{ReducedPolicy}
@@ -86,8 +87,8 @@ listHead false n = policy.Any n
 abbrev pub sofarOf : Decision → Bool → ℕ → ℕ → ℕ → Bool → Sofar
 sofarOf decision begun kept size arms some = record { decision = decision; begun = begun; kept = kept; size = size; arms = arms; pending = some }
 
-abbrev pub runOf : Sofar → ℕ → ℕ → Run
-runOf sofar next left = record { sofar = sofar; next = next; left = left }
+abbrev pub runOf : Sofar → ℕ → ℕ → ℕ → Run
+runOf sofar next left count = record { sofar = sofar; next = next; left = left; count = count }
 
 -- The bounds of what a list keeps so far.
 pub record Bounded (v : Sofar) : Type 0 where
@@ -144,10 +145,10 @@ pub record ArmsLeft (every : Bool) (P : Table) (W : List ℕ) (v : Sofar) (buf f
   pub says : (k : Walked) → SofarIs every P W k v buf front out →
       Holds (λ ts rest. ReducedTo (leftOf every P k ts) (at + wordss ts) (readOf every P ts) P W s r t buf′ (length front) out′) (many pnil pcons (readPolicy (productSets .value) true depth) arms (drop at W))
 
--- An arm that a run passes over: a Permit.
-pub record Settled (W : List ℕ) (at : ℕ) : Type 0 where
-  pub inside : at < length W
-  pub permit-word : getD W at 0 / 65536 ≡ 24576
+-- An arm that a run passes over: a Permit, or under Any a grant on one fact that is settled.
+pub record Settled (every : Bool) (P : Table) (W : List ℕ) (at : ℕ) : Type 0 where
+  pub short : Short W at
+  pub known : (getD W at 0 / 65536 ≡ 24576 → ⊥) → (every ≡ false) × (isSettled (P (getD W (at + 2) 0 % 1024)) ≡ true)
 
 -- A run over arms: what answers for those that are left answers for all. The last arm is left, if there was one.
 pub record Ran (every : Bool) (P : Table) (W : List ℕ) (a : Run) (s : Lent) (buf front : List ℕ) (r : Run) (t : Lent) (buf′ front′ : List ℕ) : Type 0 where

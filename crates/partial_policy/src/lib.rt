@@ -12,7 +12,7 @@ ghost use lib.ListN.{length, take, drop, set};
 ghost use Rattle.model.specs.Facts.{tableOf};
 ghost use Rattle.model.specs.Writing.{mostListed, word};
 ghost use Rattle.policy_model.specs.declared.PolicyHead.the-variants.{Grant, OrElse};
-ghost use Rattle.condition.specs.Listing.{Lent, lent};
+ghost use Rattle.condition.specs.Listing.{lent};
 ghost use Rattle.evaluate.specs.Evaluating.{Folds};
 ghost use Rattle.sizes.specs.Laid.{tooMany, Laid};
 ghost use Rattle.partial_policy.specs.Keeping.{listKind, armsWith, foldNext};
@@ -41,11 +41,12 @@ struct Sofar {
     pub pending: bool,
 }
 
-// A list under way: what its arms came to so far, the position of the next one, and how many are left.
+// A list under way: what its arms came to so far, the position of the next one, how many are left, and how many entries are in use.
 struct Run {
     sofar: Sofar,
     next: usize,
     left: u32,
+    count: usize,
 }
 
 // A list rule keeps so many bytes at the front of the buffer.
@@ -399,9 +400,10 @@ fn end_or_else(
     sizes::plus(used, size)
 }
 
-// Whether a run goes on with the arm at `at`: a Permit. The last arm of a list is left to the list rule.
-fn goes_on(words: &[u32], at: usize, left: u32) -> bool
-    ensures { λ r. ⌜ (r ≡ true → Settled (now (words .entry)) at × (1 < left)) ⌝ }
+// Whether a run goes on with the arm at `at`: with a Permit, and under Any with a grant on one fact that is settled. So no arm of a run is pending, and
+// under All none denies. The last arm of a list is left to the list rule.
+fn goes_on(words: &[u32], at: usize, left: u32, every: bool, facts: &[u8]) -> bool
+    ensures { λ r. ⌜ (r ≡ true → Settled every (tableOf (now (facts .entry))) (now (words .entry)) at × (1 < left)) ⌝ }
 {
     if left < 2 {
         return false;
@@ -409,34 +411,53 @@ fn goes_on(words: &[u32], at: usize, left: u32) -> bool
     if words.len() <= at {
         return false;
     }
-    words[at] / policy_model::HALF == policy_model::PERMIT
+    if words[at] / policy_model::HALF == policy_model::PERMIT {
+        return true;
+    }
+    if every {
+        return false;
+    }
+    if !policy_model::plain_grant(words, at) {
+        return false;
+    }
+    facts::settled(facts, words[at + 2] % policy_model::FACTS)
 }
 
-// Reduces the next arms as long as the run goes on, with no call of the cycle for any of them.
+// Reduces the next arms as long as the run goes on, with no call of the cycle for any of them: nothing of them is open, so each is evaluated.
 fn reduce_settled(
     words: &[u32],
     every: bool,
     run: Run,
     facts: &[u8],
+    entries: &mut [u16],
+    seen: &mut [u64],
     buf: &mut [u8],
     named: &mut [u16],
     front: &mut [u32],
 ) -> Run
     requires { ⌜ Bounded (run .sofar) × (run .sofar .arms + run .left < 4096) × (128 ≤ length (now buf)) × (length (now words) ≤ length (now named)) × (min (2 * length (now words)) mostListed ≤ length (now named)) ⌝ }
-    ensures { λ r. ⌜ ((s : Lent) → Ran every (tableOf (now (facts .entry))) (now (words .entry)) run s (now (buf .entry)) (now (front .entry)) r s (now (buf .exit)) (now (front .exit))) ⌝ }
+    ensures { λ r. ⌜ Ran every (tableOf (now (facts .entry))) (now (words .entry)) run (lent (run .count) (now (entries .entry)) (now (seen .entry))) (now (buf .entry)) (now (front .entry)) r (lent (r .count) (now (entries .exit)) (now (seen .exit))) (now (buf .exit)) (now (front .exit)) ⌝ }
 {
     let mut sofar = run.sofar;
     let mut next = run.next;
     let mut left = run.left;
-    while goes_on(words, next, left) {
-        let incoming = decision::permitted((words[next] % policy_model::HALF) as u16, words.len());
+    let mut listed = run.count;
+    while goes_on(words, next, left, every, facts) {
+        let arm = evaluate::eval_short(words, next, facts, entries, seen, listed);
+        let incoming = arm.decision;
         let kept = keep_node(words, facts, incoming, sofar.kept, buf, named, front);
         let decision = fold_next(words, every, sofar.decision, sofar.begun, incoming, buf);
         sofar = with_resolved(sofar, decision, kept, incoming.permit);
-        next += 1;
+        next = arm.next;
         left -= 1;
+        listed = arm.count;
     }
-    Run { sofar, next, left }
+    Run {
+        sofar,
+        next,
+        left,
+        count: listed,
+    }
 }
 
 // The policy at `at`, of at most `depth` levels.
@@ -537,7 +558,7 @@ pub fn reduce_policy(
 }
 
 // The All or Any at `at`, whose `arms` have at most `depth` levels. All stops at a resolved deny, which is its answer, and arms after that one aren't
-// read; Any reads every arm.
+// read; Any reads every arm. While many arms are left, a turn begins with a run.
 fn reduce_list(
     words: &[u32],
     at: usize,
@@ -572,8 +593,15 @@ fn reduce_list(
             let run = reduce_settled(
                 words,
                 every,
-                Run { sofar, next, left },
+                Run {
+                    sofar,
+                    next,
+                    left,
+                    count: listed,
+                },
                 facts,
+                entries,
+                seen,
                 buf,
                 named,
                 front,
@@ -581,6 +609,7 @@ fn reduce_list(
             sofar = run.sofar;
             next = run.next;
             left = run.left;
+            listed = run.count;
         }
         let behind = sizes::tail_from(sofar.kept, front.len());
         let from = sizes::tail_from(sofar.size, out.len());

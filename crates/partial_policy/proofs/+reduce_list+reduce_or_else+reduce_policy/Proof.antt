@@ -120,7 +120,7 @@ module _ (t : ℕ) where
 
   reduce-list-reduce-settled-requires : reduce-list-lts.Need-reduce-settled-requires reduce-list-calls reduce-list-at reduce-list.Post reduce-list-Inv-loop reduce-list-μ-loop
   reduce-list-reduce-settled-requires c κs =
-      let turn = c .before .before .before .before in
+      let turn = c .before .before .before .before .before .before in
       let start = turn .before .before .before .before .before .before .before .before .before .before .before in
       let inv = turn .before .loop .inv in (
         inv .bounds,
@@ -135,12 +135,14 @@ module _ (t : ℕ) where
   reduce-list-Turn c =
       let start = c .before .before .before .before .before .before .before .before .before .before .before .before in
       let loop = c .before .before .loop in
+      let first = lent (start .args .count) (start .args .entries .now) (start .args .seen .now) in
+      let now = lent (c .if1 .listed) (c .if1 .entries) (c .if1 .seen) in
       Turn
       (Going
-      (ArmsLeft (start .args .every) (tableOf (start .args .facts .now)) (start .args .words .now) (c .if1 .sofar) (c .if1 .buf) (c .if1 .front) (loop .out) (c .if1 .next) (start .args .depth) (c .if1 .left) (lent (loop .listed) (loop .entries) (loop .seen)))
-      (λ r t buf′ out′. ReducesBy (listHead (start .args .every) (start .args .arms)) (tableOf (start .args .facts .now)) (start .args .words .now) (start .args .at) (start .args .depth) (lent (start .args .count) (start .args .entries .now) (start .args .seen .now)) r t buf′ (length (start .args .front .now)) out′)
-      (lent (start .args .count) (start .args .entries .now) (start .args .seen .now))
-      (lent (loop .listed) (loop .entries) (loop .seen))
+      (ArmsLeft (start .args .every) (tableOf (start .args .facts .now)) (start .args .words .now) (c .if1 .sofar) (c .if1 .buf) (c .if1 .front) (loop .out) (c .if1 .next) (start .args .depth) (c .if1 .left) now)
+      (λ r t buf′ out′. ReducesBy (listHead (start .args .every) (start .args .arms)) (tableOf (start .args .facts .now)) (start .args .words .now) (start .args .at) (start .args .depth) first r t buf′ (length (start .args .front .now)) out′)
+      first
+      now
       (c .if1 .sofar)
       (start .args .arms)
       (c .if1 .left)
@@ -158,10 +160,10 @@ module _ (t : ℕ) where
   reduce-list-turn : (c : reduce-list-lts.Joined1 reduce-list-calls reduce-list-at reduce-list.Post reduce-list-Inv-loop reduce-list-μ-loop) → reduce-list-Turn c
   reduce-list-turn c =
       let inv = c .before .before .loop .inv in
+      let some = c .before .loop-test .taken in
       ⊎-elim
-      (λ w. rw (w .12, w .13, w .14, w .15, w .16, w .17)
-      (turn-run inv (w .4 .ensures (lent (c .before .before .loop .listed) (c .before .before .loop .entries) (c .before .before .loop .seen))) (c .before .loop-test .taken) refl refl (w .5 .given) (w .7 .given) (w .9 .given)))
-      (λ w. rw (w .1, w .2, w .3, w .4, w .5, w .6) (record { goes = inv; some = c .before .loop-test .taken; fewer = omega arith }))
+      (λ w. rw (w .18, w .19, w .20, w .21, w .22, w .23, w .24, w .25, w .26) (turn-run inv (w .6 .ensures) some (w .7 .given) (w .9 .given) (w .11 .given) (w .13 .given) (w .15 .given)))
+      (λ w. rw (w .1, w .2, w .3, w .4, w .5, w .6, w .7, w .8, w .9) (record { goes = inv; some = some; fewer = omega arith }))
       (c .if1 .came)
 
   reduce-list-tail-from-requires : reduce-list-lts.Need-tail-from-requires reduce-list-calls reduce-list-at reduce-list.Post reduce-list-Inv-loop reduce-list-μ-loop
@@ -230,10 +232,10 @@ module _ (t : ℕ) where
   reduce-list-resolved-requires c κs = search needs
 
   reduce-list-same-length : reduce-list-lts.Need-same-length reduce-list-calls reduce-list-at reduce-list.Post reduce-list-Inv-loop reduce-list-μ-loop
-  reduce-list-same-length c = omega (arith, c .before .before .before .before .before .before .before .before .before .before .before .before .before .before .before .before .entries .given, reduce-list-turn (c .before .before .before .before .before .before .before .before .before .before .before .before .before .before .before .before .before .before .before .before .before .before .before .before .before .before) .goes .entries-long)
+  reduce-list-same-length c = omega (arith, c .before .before .before .before .before .before .before .before .before .before .before .before .before .before .before .before .entries2 .given, reduce-list-turn (c .before .before .before .before .before .before .before .before .before .before .before .before .before .before .before .before .before .before .before .before .before .before .before .before .before .before) .goes .entries-long)
 
   reduce-list-same-length-2 : reduce-list-lts.Need-same-length-2 reduce-list-calls reduce-list-at reduce-list.Post reduce-list-Inv-loop reduce-list-μ-loop
-  reduce-list-same-length-2 c = omega (arith, c .before .before .before .before .before .before .before .before .before .before .before .before .before .before .seen .given, reduce-list-turn (c .before .before .before .before .before .before .before .before .before .before .before .before .before .before .before .before .before .before .before .before .before .before .before .before .before .before) .goes .seen-long)
+  reduce-list-same-length-2 c = omega (arith, c .before .before .before .before .before .before .before .before .before .before .before .before .before .before .seen2 .given, reduce-list-turn (c .before .before .before .before .before .before .before .before .before .before .before .before .before .before .before .before .before .before .before .before .before .before .before .before .before .before) .goes .seen-long)
 
   reduce-list-same-length-3 : reduce-list-lts.Need-same-length-3 reduce-list-calls reduce-list-at reduce-list.Post reduce-list-Inv-loop reduce-list-μ-loop
   reduce-list-same-length-3 c = omega (arith, c .before .before .before .before .before .before .before .before .before .before .before .before .buf2 .given, reduce-list-turn (c .before .before .before .before .before .before .before .before .before .before .before .before .before .before .before .before .before .before .before .before .before .before .before .before .before .before) .goes .buf-long)
@@ -283,8 +285,8 @@ module _ (t : ℕ) where
       let inv = turn .goes in
       let start = c .before .before .before .before .before .before .before .before .before .before .before .before .before .before .before .before .before .before .before .before .before .before .before .before .before .before .before .before .before .before .before .before .before .before .before .before .before .before .before .before .before .before .before .before .before .before in
       record {
-        entries-long = omega (arith, c .before .before .before .before .before .before .before .before .before .before .before .before .before .before .before .before .before .before .before .before .before .before .before .before .entries .given, inv .entries-long);
-        seen-long = omega (arith, c .before .before .before .before .before .before .before .before .before .before .before .before .before .before .before .before .before .before .before .before .before .before .seen .given, inv .seen-long);
+        entries-long = omega (arith, c .before .before .before .before .before .before .before .before .before .before .before .before .before .before .before .before .before .before .before .before .before .before .before .before .entries2 .given, inv .entries-long);
+        seen-long = omega (arith, c .before .before .before .before .before .before .before .before .before .before .before .before .before .before .before .before .before .before .before .before .before .before .seen2 .given, inv .seen-long);
         buf-long = omega (arith, c .before .before .before .before .before .buf3 .given, c .before .before .before .before .before .before .before .before .before .before .before .before .before .before .before .before .before .before .before .before .buf2 .given, inv .buf-long);
         named-long = omega (arith, c .before .before .before .named3 .given, c .before .before .before .before .before .before .before .before .before .before .before .before .before .before .before .before .before .before .named2 .given, inv .named-long);
         front-long = omega (arith, c .before .front3 .given, c .before .before .before .before .before .before .before .before .before .before .before .before .before .before .before .before .front2 .given, inv .front-long);

@@ -1,5 +1,4 @@
 -- `partial_policy::with_decision` meets its contract. Assumes nothing.
-use mathlib.Core.Path.{refl}
 use Rattle.partial_policy.proofs.Adding.{decision-added}
 use borrow.Author.Needs.{needs}
 use Rattle.partial_policy.proofs.with_decision.Statement.{statement}
@@ -28,7 +27,7 @@ returns c =
     let fold = c .before .before .before in
     let keep = fold .before .before .before .before .before .before .before .before in
     let start = keep .before .before .before .before .before .before .before .before .before in
-    rw (c .with-resolved .ensures) (decision-added (start .pre .0) (keep .keep-node .ensures) (fold .fold-next .ensures .0) (fold .fold-next .ensures .1) refl)
+    rw (c .with-resolved .ensures) (decision-added (start .pre .0) (keep .keep-node .ensures) (fold .fold-next .ensures .0) (fold .fold-next .ensures .1))
 
 pub with-decision-spec : {M : Type 1} → statement M
 with-decision-spec =

@@ -1,5 +1,3 @@
-pub mod Putting
-pub mod Steps
-pub mod Deciding
+pub mod Judging
 pub mod Sheets
-pub mod Shallow
+pub mod Records

@@ -1,59 +1,53 @@
--- The refusals and the answer of a call that reads a sheet. Assumes nothing.
-use mathlib.Core.Path.{_≡_, ap}
-use mathlib.Core.Bool.{true}
+-- The answers of a call that reads a sheet. Assumes nothing.
+use mathlib.Core.Path.{_≡_, refl, ap}
+use mathlib.Core.Bool.{Bool, false}
 use mathlib.Core.Option.{none, some}
-use mathlib.Core.List.{List}
-use Prim.Native.Nat.{ℕ, _≤_, _<_}
+use mathlib.Core.List.{List, []}
+use Prim.Native.Nat.{ℕ, _≤_}
 use native.Mathlib.Omega.{arith}
-use lib.ListN.{length}
-use Rattle.model.specs.Facts.{TableKind, tableFault}
-use Rattle.model.specs.Outcome.{productSets}
+use lib.ListN.{length, drop}
+use Rattle.model.specs.Facts.{tableFault}
 use Rattle.model.specs.Policy.{Policy}
+use Rattle.model.specs.Consulted.{Consulted}
 use Rattle.model.specs.Record.{Record}
-use Rattle.model.specs.Reading.{Parsed, refuse, got, sheetLength, readSheet}
+use Rattle.model.specs.Reading.{Parsed, refuse, got, sheetWords, recordWords, sheetLength}
 use Rattle.model.specs.Calls as model
-use Rattle.laws.specs.FieldLaws.{Holds}
+use Rattle.model.specs.Products.{Outcome, readSheet, write}
 use Rattle.policy_model.specs.Answers.{refusal}
-use Rattle.calls.specs.declared.Answer.{Answer}
-use Rattle.calls.specs.declared.Answer.the-variants.{Refused}
-use Rattle.calls.specs.Answers.{Answered}
-use Rattle.calls.proofs.Steps.{no-length, long-length, good-length, bad-length, bad-fields, bad-words, words-read}
+use Rattle.policy_model.proofs.Records.{sheet-tree, was-read}
+use Rattle.evaluate.proofs.Nodes.{held-at}
+use Rattle.answer.specs.declared.Answer.{Answer}
+use Rattle.answer.specs.declared.Answer.the-variants.{Refused}
+use Rattle.answer.specs.Answers.{Answered, Makes}
+use Rattle.calls.specs.Judged.{kindOf, judgedSheet}
+use Rattle.calls.proofs.Judging.{judged-got, by-judged, few-words}
 
-refused-by : (n : ℕ) (q : Parsed (Policy ℕ)) → some n ≡ refusal q → q ≡ refuse n
+refused-by : (n : ℕ) (q : Parsed (Policy Outcome)) → some n ≡ refusal q → q ≡ refuse n
 refused-by n (refuse m) e = ap refuse (let h : m ≡ n = cc in h)
 refused-by n (got t ws) e = let z : _≡_ {A = ℕ} 0 1 = cc in let b : ⊥ = omega arith in absurd b
 
--- A call that reads a sheet, takes this kind of table, and makes a record of the tree and the table's bytes.
-module _ (kind : TableKind) (made : List ℕ → Policy ℕ → Record ℕ) (sheet facts out : List ℕ) where
-  abbrev Written : Policy ℕ → model.Answer
-  Written t = model.write productSets (length out) (made facts t)
+module _ (known : Bool) (sheet facts : List ℕ) where
+  pub sheet-few : none ≡ refusal (judgedSheet known sheet facts) → length sheet ≤ recordWords
+  sheet-few e =
+      was-read (judgedSheet known sheet facts) e (λ t vs g.
+      omega (arith, few-words (length sheet) sheetWords (judged-got (sheetLength sheet) (tableFault (kindOf known) facts) (readSheet sheet) t vs g .0)))
 
-  abbrev Sheet : Parsed (Policy ℕ)
-  Sheet = readSheet (productSets .value) sheet
+  -- The call makes a record of the tree, with nothing consulted before.
+  module _ (made : Policy Outcome → Consulted → Record Outcome) (out : List ℕ) where
+    abbrev Wrote : Policy Outcome → model.Answer
+    Wrote t = write (length out) (made t [])
 
-  abbrev Call : model.Answer
-  Call = model.unlessLong (sheetLength sheet) (model.unlessFault (tableFault kind facts) (model.onRead Sheet Written))
+    abbrev Call : model.Answer
+    Call = model.unlessLong (sheetLength sheet) (model.unlessFault (tableFault (kindOf known) facts) (model.onRead (readSheet sheet) Wrote))
 
-  pub no-words : length sheet ≡ 0 → Answered Call out out (Refused 1)
-  no-words h = bad-length (sheetLength sheet) (tableFault kind facts) Sheet Written out (no-length (length sheet) 4096 h)
+    pub sheet-refused : (n : ℕ) → some n ≡ refusal (judgedSheet known sheet facts) → Answered Call out out (Refused n)
+    sheet-refused n e =
+        by-judged (sheetLength sheet) (tableFault (kindOf known) facts) (readSheet sheet) Wrote (refuse n) (refused-by n (judgedSheet known sheet facts) e)
+        (record { answer-is = refl; output-is = refl })
 
-  pub too-many-words : 4096 < length sheet → Answered Call out out (Refused 1)
-  too-many-words h = bad-length (sheetLength sheet) (tableFault kind facts) Sheet Written out (long-length (length sheet) 4096 h)
-
-  module _ (some-words : length sheet ≡ 0 → ⊥) (few : length sheet ≤ 4096) where
-    fits : sheetLength sheet ≡ true
-    fits = good-length (length sheet) 4096 some-words few
-
-    pub bad-table : (n : ℕ) → some n ≡ tableFault kind facts → Answered Call out out (Refused n)
-    bad-table n e = bad-fields (sheetLength sheet) (tableFault kind facts) Sheet Written fits out n e
-
-    module _ (faultless : none ≡ tableFault kind facts) where
-      pub bad-sheet : (n : ℕ) → some n ≡ refusal Sheet → Answered Call out out (Refused n)
-      bad-sheet n e = bad-words (sheetLength sheet) (tableFault kind facts) Sheet Written fits faultless out n (refused-by n Sheet e)
-
-      read-decided : (after : List ℕ) (r : Answer) (q : Parsed (Policy ℕ)) → none ≡ refusal q → Holds (λ t rest. Answered (Written t) out after r) q → Answered (model.onRead q Written) out after r
-      read-decided after r (refuse n) e h = let z : _≡_ {A = ℕ} 0 1 = cc in let b : ⊥ = omega arith in absurd b
-      read-decided after r (got t ws) e h = h .it
-
-      pub answered : (after : List ℕ) (r : Answer) → none ≡ refusal Sheet → Holds (λ t rest. Answered (Written t) out after r) Sheet → Answered Call out after r
-      answered after r e h = words-read (sheetLength sheet) (tableFault kind facts) Sheet Written fits faultless out after r (read-decided after r Sheet e h)
+    pub sheet-made : none ≡ refusal (judgedSheet known sheet facts) → {after : List ℕ} {r : Answer} → Makes made sheet 0 0 out after r → Answered Call out after r
+    sheet-made e m =
+        was-read (judgedSheet known sheet facts) e (λ t vs g.
+        let read = judged-got (sheetLength sheet) (tableFault (kindOf known) facts) (readSheet sheet) t vs g .1 in
+        by-judged (sheetLength sheet) (tableFault (kindOf known) facts) (readSheet sheet) Wrote (got t vs) g
+        (held-at (m .makes [] (drop 1 sheet) tt refl (omega arith) (omega arith) refl false) (held-at (sheet-tree sheet) read)))

@@ -1,162 +1,165 @@
-// The calls, after gatekeep's evaluate: words and bytes in, a record of words out, or a numbered refusal that leaves the output as it was.
-use decision::Decision;
+// The four calls, after gatekeep's evaluate and partial: words and bytes in, a record of words out, or a numbered refusal that leaves the output as it was.
+use answer::Answer;
+use completion::SHORT;
 use facts::TableFault;
+use policy_model::RecordCheck;
 use policy_model::SheetCheck;
-ghost use Prim.Native.Nat.{_+_, _*_, _≤_, min};
+ghost use mathlib.Core.Path.{_≡_};
+ghost use Prim.Native.Nat.{_≤_};
 ghost use lib.ListN.{length};
-ghost use Rattle.model.specs.Facts.{tableOf};
-ghost use Rattle.model.specs.Outcome.{productSets};
-ghost use Rattle.model.specs.Writing.{mostListed};
-ghost use Rattle.model.specs.Calls.{evaluate as Calls·evaluate};
-ghost use Rattle.calls.specs.Answers.{Answered, Put, Decides};
+ghost use Rattle.model.specs.Facts.{tableOf, tableFault};
+ghost use Rattle.model.specs.Reading.{recordWords};
+ghost use Rattle.model.specs.Products.{evaluate as Calls·evaluate, partialEvaluate, narrowResidual, completeResidual};
+ghost use Rattle.facts.specs.Answers.{faultOf};
+ghost use Rattle.policy_model.specs.Answers.{refusal, sheetRefusal, leadOf, recordLead};
+ghost use Rattle.answer.specs.Answers.{Answered, Makes};
+ghost use Rattle.completion.specs.Answers.{completedAfter};
+ghost use Rattle.partial.specs.Answers.{reducedAfter};
+ghost use Rattle.calls.specs.Judged.{kindOf, judgedSheet, judgedRecord};
 
-// How many words were written, or the number of the refusal.
-pub enum Answer {
-    Written(usize),
-    Refused(u32),
-}
-
-// Writes the Resolved record of a decision and the consulted entries in use, if there is room for it. Its length is known before a word changes.
-pub fn put_record(
-    words: &[u32],
-    decision: Decision,
-    facts: &[u8],
-    entries: &[u16],
-    count: usize,
-    buf: &mut [u8],
-    named: &mut [u16],
-    out: &mut [u32],
-) -> Answer
-    requires { ⌜ (decision .count ≤ 64) × (64 ≤ length (now buf)) × (length (now words) ≤ length (now named)) × (min (2 * length (now words)) mostListed ≤ length (now named)) × (length (now entries) ≤ 1024) ⌝ }
-    ensures { λ r. ⌜ Put (now (words .entry)) (tableOf (now (facts .entry))) (now (buf .entry)) decision (now (entries .entry)) count (now (out .entry)) (now (out .exit)) r ⌝ }
+// The fault of a table. A known one leaves no fact open.
+fn table_fault(facts: &[u8], known: bool) -> TableFault
+    ensures { λ r. ⌜ faultOf r ≡ tableFault (kindOf known) (now (facts .entry)) ⌝ }
 {
-    // No walk leaves more in use than it was lent, but of words that don't read none says so.
-    if entries.len() < count {
-        return Answer::Refused(11);
+    if known {
+        return facts::known_fault(facts);
     }
-    let held = decision::obligations(words, decision, buf);
-    let facts_named = clause::clause_facts(words, decision.clause, facts, named);
-    if facts_named > 4095 {
-        return Answer::Refused(11);
+    facts::partial_fault(facts)
+}
+
+// Whether a sheet and its table are turned back: by the length, the table, the words.
+fn judge_sheet(sheet: &[u32], facts: &[u8], known: bool) -> SheetCheck
+    ensures { λ r. ⌜ sheetRefusal r ≡ refusal (judgedSheet known (now (sheet .entry)) (now (facts .entry))) ⌝ }
+{
+    if sheet.len() == 0 {
+        return SheetCheck::Refused(1);
     }
-    let size = clause::decision_words(decision.permit, held, facts_named);
-    if out.len() < 1 + (count + 1) / 2 + size {
-        return Answer::Refused(11);
+    if sheet.len() > policy_model::SHEET_WORDS {
+        return SheetCheck::Refused(1);
     }
-    let front = record::write_front(true, entries, count, out);
-    let rest = clause::write_decision(
-        words,
-        decision,
-        buf,
-        held,
-        named,
-        facts_named,
-        &mut out[front..],
-    );
-    Answer::Written(front + rest)
+    match table_fault(facts, known) {
+        TableFault::Refused(number) => SheetCheck::Refused(number),
+        TableFault::Faultless => policy_model::check_sheet(sheet),
+    }
 }
 
-// A sheet has at most so many levels.
-const LEVELS: usize = 32;
-
-// Decides a sheet that was checked, of at most `depth` levels: a sheet of few words has no more levels than words, and names no more facts. Lent are
-// `entries` for the facts that are consulted, `buf` for united obligations, and `named` for the facts of the clause that decides.
-fn decide_with(
-    sheet: &[u32],
-    facts: &[u8],
-    depth: usize,
-    entries: &mut [u16],
-    buf: &mut [u8],
-    named: &mut [u16],
-    out: &mut [u32],
-) -> Answer
-    requires { ⌜ (length (now sheet) ≤ 4096) × (depth ≤ 32) × (min 32 (length (now sheet)) ≤ depth) × (64 * (depth + 1) ≤ length (now buf)) × (length (now sheet) ≤ length (now named)) × (min (2 * length (now sheet)) mostListed ≤ length (now named)) × (min 1024 (length (now sheet)) ≤ length (now entries)) × (length (now entries) ≤ 1024) ⌝ }
-    ensures { λ r. ⌜ Decides (now (sheet .entry)) (tableOf (now (facts .entry))) (now (out .entry)) (now (out .exit)) r ⌝ }
+// Whether a record and its table are turned back, and what the record is.
+fn judge_record(words: &[u32], facts: &[u8], known: bool) -> RecordCheck
+    ensures { λ r. ⌜ recordLead r ≡ leadOf (judgedRecord known (now (words .entry)) (now (facts .entry))) ⌝ }
 {
-    let mut seen = [0u64; 16];
-    let eval = evaluate::eval_policy(sheet, 0, depth, facts, entries, &mut seen, 0, buf);
-    put_record(
-        sheet,
-        eval.decision,
-        facts,
-        entries,
-        eval.count,
-        buf,
-        named,
-        out,
-    )
+    if words.len() == 0 {
+        return RecordCheck::Refused(1);
+    }
+    if words.len() > policy_model::RECORD_WORDS {
+        return RecordCheck::Refused(1);
+    }
+    match table_fault(facts, known) {
+        TableFault::Refused(number) => RecordCheck::Refused(number),
+        TableFault::Faultless => policy_model::check_record(words),
+    }
 }
 
-// The same of a sheet of few words: to clear a long list would take longer than to decide.
-fn decide_few(sheet: &[u32], facts: &[u8], out: &mut [u32]) -> Answer
-    requires { ⌜ length (now sheet) ≤ 7 ⌝ }
-    ensures { λ r. ⌜ Decides (now (sheet .entry)) (tableOf (now (facts .entry))) (now (out .entry)) (now (out .exit)) r ⌝ }
-{
-    let mut entries = [0u16; 8];
-    let mut buf = [0u8; 512];
-    let mut named = [0u16; 16];
-    decide_with(sheet, facts, 7, &mut entries, &mut buf, &mut named, out)
-}
-
-// The same of a small sheet.
-fn decide_small(sheet: &[u32], facts: &[u8], out: &mut [u32]) -> Answer
-    requires { ⌜ length (now sheet) ≤ 64 ⌝ }
-    ensures { λ r. ⌜ Decides (now (sheet .entry)) (tableOf (now (facts .entry))) (now (out .entry)) (now (out .exit)) r ⌝ }
-{
-    let mut entries = [0u16; 64];
-    let mut buf = [0u8; 2112];
-    let mut named = [0u16; 128];
-    decide_with(
-        sheet,
-        facts,
-        LEVELS,
-        &mut entries,
-        &mut buf,
-        &mut named,
-        out,
-    )
-}
-
-// The same of any sheet.
+// Decides a sheet that was judged: a tree at 0 with nothing consulted before it. The two tiers have two callers each, so that no call has the frames of
+// both: every page of a frame is touched when it is entered.
 fn decide(sheet: &[u32], facts: &[u8], out: &mut [u32]) -> Answer
-    requires { ⌜ length (now sheet) ≤ 4096 ⌝ }
-    ensures { λ r. ⌜ Decides (now (sheet .entry)) (tableOf (now (facts .entry))) (now (out .entry)) (now (out .exit)) r ⌝ }
+    requires { ⌜ length (now sheet) ≤ recordWords ⌝ }
+    ensures { λ r. ⌜ Makes (completedAfter (tableOf (now (facts .entry)))) (now (sheet .entry)) 0 0 (now (out .entry)) (now (out .exit)) r ⌝ }
 {
-    if sheet.len() <= 7 {
-        return decide_few(sheet, facts, out);
+    if sheet.len() <= SHORT {
+        return completion::complete_short(sheet, 0, 0, facts, out);
     }
-    if sheet.len() <= 64 {
-        return decide_small(sheet, facts, out);
+    completion::complete_long(sheet, 0, 0, facts, out)
+}
+
+// Decides the tree at `tree` of a record that was judged, after its `consulted` entries.
+fn complete(words: &[u32], consulted: usize, tree: usize, facts: &[u8], out: &mut [u32]) -> Answer
+    requires { ⌜ length (now words) ≤ recordWords ⌝ }
+    ensures { λ r. ⌜ Makes (completedAfter (tableOf (now (facts .entry)))) (now (words .entry)) consulted tree (now (out .entry)) (now (out .exit)) r ⌝ }
+{
+    if words.len() <= SHORT {
+        return completion::complete_short(words, consulted, tree, facts, out);
     }
-    let mut entries = [0u16; 1024];
-    let mut buf = [0u8; 2112];
-    let mut named = [0u16; 4096];
-    decide_with(
-        sheet,
-        facts,
-        LEVELS,
-        &mut entries,
-        &mut buf,
-        &mut named,
-        out,
-    )
+    completion::complete_long(words, consulted, tree, facts, out)
+}
+
+// Reduces a sheet that was judged.
+fn reduce(sheet: &[u32], facts: &[u8], out: &mut [u32]) -> Answer
+    requires { ⌜ length (now sheet) ≤ recordWords ⌝ }
+    ensures { λ r. ⌜ Makes (reducedAfter (tableOf (now (facts .entry)))) (now (sheet .entry)) 0 0 (now (out .entry)) (now (out .exit)) r ⌝ }
+{
+    if sheet.len() <= SHORT {
+        return partial::reduce_short(sheet, 0, 0, facts, out);
+    }
+    partial::reduce_long(sheet, 0, 0, facts, out)
+}
+
+// Reduces the tree of a record that was judged, after its entries.
+fn narrow(words: &[u32], consulted: usize, tree: usize, facts: &[u8], out: &mut [u32]) -> Answer
+    requires { ⌜ length (now words) ≤ recordWords ⌝ }
+    ensures { λ r. ⌜ Makes (reducedAfter (tableOf (now (facts .entry)))) (now (words .entry)) consulted tree (now (out .entry)) (now (out .exit)) r ⌝ }
+{
+    if words.len() <= SHORT {
+        return partial::reduce_short(words, consulted, tree, facts, out);
+    }
+    partial::reduce_long(words, consulted, tree, facts, out)
 }
 
 // Decides a sheet with a known table.
 pub fn evaluate(sheet: &[u32], facts: &[u8], out: &mut [u32]) -> Answer
-    ensures { λ r. ⌜ Answered (Calls·evaluate productSets (now (sheet .entry)) (now (facts .entry)) (length (now (out .entry)))) (now (out .entry)) (now (out .exit)) r ⌝ }
+    ensures { λ r. ⌜ Answered (Calls·evaluate (now (sheet .entry)) (now (facts .entry)) (length (now (out .entry)))) (now (out .entry)) (now (out .exit)) r ⌝ }
 {
-    if sheet.len() == 0 {
-        return Answer::Refused(1);
+    match judge_sheet(sheet, facts, true) {
+        SheetCheck::Refused(number) => Answer::Refused(number),
+        SheetCheck::Accepted => decide(sheet, facts, out),
     }
-    if sheet.len() > 4096 {
-        return Answer::Refused(1);
+}
+
+// Reduces a sheet with a table that may leave facts open.
+pub fn partial_evaluate(sheet: &[u32], facts: &[u8], out: &mut [u32]) -> Answer
+    ensures { λ r. ⌜ Answered (partialEvaluate (now (sheet .entry)) (now (facts .entry)) (length (now (out .entry)))) (now (out .entry)) (now (out .exit)) r ⌝ }
+{
+    match judge_sheet(sheet, facts, false) {
+        SheetCheck::Refused(number) => Answer::Refused(number),
+        SheetCheck::Accepted => reduce(sheet, facts, out),
     }
-    match facts::known_fault(facts) {
-        TableFault::Refused(number) => Answer::Refused(number),
-        TableFault::Faultless => match policy_model::check_sheet(sheet) {
-            SheetCheck::Refused(number) => Answer::Refused(number),
-            SheetCheck::Accepted => decide(sheet, facts, out),
-        },
+}
+
+// Narrows a record by a table of further facts. A Resolved one comes back as it stands.
+pub fn narrow_residual(words: &[u32], facts: &[u8], out: &mut [u32]) -> Answer
+    ensures { λ r. ⌜ Answered (narrowResidual (now (words .entry)) (now (facts .entry)) (length (now (out .entry)))) (now (out .entry)) (now (out .exit)) r ⌝ }
+{
+    match judge_record(words, facts, false) {
+        RecordCheck::Refused(number) => Answer::Refused(number),
+        RecordCheck::Resolved {
+            consulted: _,
+            tree: _,
+        } => answer::copy_record(words, out),
+        RecordCheck::Pending { consulted, tree } => narrow(
+            words,
+            consulted as usize,
+            tree,
+            facts,
+            out,
+        ),
+    }
+}
+
+// Completes a record with a known table. A Resolved one comes back as it stands.
+pub fn complete_residual(words: &[u32], facts: &[u8], out: &mut [u32]) -> Answer
+    ensures { λ r. ⌜ Answered (completeResidual (now (words .entry)) (now (facts .entry)) (length (now (out .entry)))) (now (out .entry)) (now (out .exit)) r ⌝ }
+{
+    match judge_record(words, facts, true) {
+        RecordCheck::Refused(number) => Answer::Refused(number),
+        RecordCheck::Resolved {
+            consulted: _,
+            tree: _,
+        } => answer::copy_record(words, out),
+        RecordCheck::Pending { consulted, tree } => complete(
+            words,
+            consulted as usize,
+            tree,
+            facts,
+            out,
+        ),
     }
 }

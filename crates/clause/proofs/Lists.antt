@@ -9,9 +9,10 @@ use lib.Seq.{length-take-le, getD-take, getD-set-same, getD-set-other, ext-getD}
 use Rattle.model.specs.Fields.{wordsFor, pack}
 use Rattle.model.specs.Writing.{entryBits, mostListed}
 use Rattle.model.specs.Reading.{readList, listed}
+use Rattle.laws.specs.FieldAt.{fieldAt}
+use Rattle.laws.specs.FieldAtLaws.{fact-field}
 use Rattle.laws.specs.FieldLaws.{weaker, both-hold, same-list}
 use Rattle.laws.specs.ReadForm.{same-listed, ok-facts}
-use Rattle.packing.specs.FieldAt.{fieldAt, fact-field}
 use Rattle.clause.specs.Answers.{FactsListed}
 
 -- The first i fields stand at the front.

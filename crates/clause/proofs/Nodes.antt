@@ -12,13 +12,13 @@ use lib.ListN.{length, take, drop, getD}
 use lib.Seq.{length-take-le, drop-at, drop-drop, getD-drop}
 use Rattle.model.specs.Fields.{wordsFor, pack}
 use Rattle.model.specs.Facts.{Table}
-use Rattle.model.specs.Outcome.{productSets}
 use Rattle.model.specs.Condition.{Condition, evalCondition}
 use Rattle.model.specs.Decision.{Denial, permits, denies, genericDeny}
 use Rattle.model.specs.Decision.{Decision as Decided}
 use Rattle.model.specs.Policy.{Policy, grant, pnil, pcons}
 use Rattle.model.specs.Writing.{obligationBits, entryBits, mostListed}
-use Rattle.model.specs.Reading.{Parsed, refuse, got, readList, obligation, listed, mark, many, shapeOf, readCondition, readPolicy}
+use Rattle.model.specs.Reading.{Parsed, refuse, got, readList, obligation, listed, mark, many, shapeOf, readCondition}
+use Rattle.model.specs.Products.{Outcome, readPolicy}
 use Rattle.laws.specs.FieldLaws.{Holds, fine, nothing, if-holds, weaker, then-holds, same-list}
 use Rattle.laws.specs.Lengths.{length-pack}
 use Rattle.laws.specs.ReadForm.{same-obligation}
@@ -26,12 +26,14 @@ use Rattle.policy_model.proofs.PolicyHead.{the-type}
 use Rattle.policy_model.specs.declared.PolicyHead.{PolicyHead}
 use Rattle.policy_model.specs.declared.PolicyHead.the-variants.{Permit, Deny, Grant, All, Any, OrElse, PermitWithTrace, DenyWithTrace, BadKind, BadField}
 use Rattle.policy_model.specs.Heads.{policyHead, bitOf, deniedBy, grantNode, permitTraceNode, denyTraceNode, policyNode}
+use Rattle.policy_model.proofs.Skipping.{grant-says}
+use Rattle.grant.specs.Fields.{obligationsAt, beforeConditionAt}
 use Rattle.decision.specs.Nodes.{named, clauseOfD, clauseOf, clauseRead, clauseAt}
 use Rattle.decision.specs.Meaning.{Names, past, reads}
 use Rattle.decision.proofs.Nodes.{node-there, no-clause}
 use Rattle.decisive.specs.declared.Named.{Named}
 use Rattle.decisive.specs.Naming.{evalOf, Decisive}
-use Rattle.decisive.specs.Callers.{told}
+use Rattle.decisive.specs.NamingLaws.{told}
 use Rattle.record.specs.Nodes.{markIn}
 use Rattle.record.specs.NodeLaws.{mark-in-read}
 use Rattle.clause.specs.declared.Clause.{Clause}
@@ -60,20 +62,20 @@ after-obligations n ws =
     (same-list (λ o. o) obligation same-obligation obligationBits 3 n ws refl)
 
 -- A grant, a stored permit and a stored deny, by the words after the first one.
-pub record GrantThere (pc : List ℕ → Parsed Condition) (hidden : Bool) (o n : ℕ) (ws : List ℕ) (t : Policy ℕ) (us : List ℕ) : Type 0 where
+pub record GrantThere (pc : List ℕ → Parsed Condition) (hidden : Bool) (o n : ℕ) (ws : List ℕ) (t : Policy Outcome) (us : List ℕ) : Type 0 where
   pub condition : Condition
   pub obligations : List ℕ
   pub is : t ≡ grant (record { outcome = o; obligations = obligations; label = markIn (getD ws 0 0 / 65536); reason = markIn (getD ws 0 0 % 65536); shape = shapeOf (bitOf hidden) }) condition
   pub read : pc (drop (suc (wordsFor 4 n)) ws) ≡ got condition us
 
-pub record PermitThere (o n : ℕ) (ws : List ℕ) (d : Decided ℕ) (us : List ℕ) : Type 0 where
+pub record PermitThere (o n : ℕ) (ws : List ℕ) (d : Decided Outcome) (us : List ℕ) : Type 0 where
   pub obligations : List ℕ
   pub facts : List ℕ
   pub is : d ≡ permits (record { outcome = o; obligations = obligations; label = markIn (getD ws 0 0 / 65536); facts = facts })
   pub few : getD ws 0 0 % 65536 ≤ mostListed
   pub read : readList listed entryBits (getD ws 0 0 % 65536) (drop (suc (wordsFor 4 n)) ws) ≡ got facts us
 
-pub record DenyThere (hidden denied : Bool) (o : ℕ) (ws : List ℕ) (d : Decided ℕ) (us : List ℕ) : Type 0 where
+pub record DenyThere (hidden denied : Bool) (o : ℕ) (ws : List ℕ) (d : Decided Outcome) (us : List ℕ) : Type 0 where
   pub facts : List ℕ
   pub is : d ≡ denies (clauseBy (getD ws 0 0 / 65536) (getD ws 0 0 % 65536) hidden denied o facts)
   pub few : getD ws 1 0 ≤ mostListed
@@ -131,7 +133,7 @@ deny-there hidden denied o (w ∷ n ∷ ws) =
 abbrev nameless : List ℕ
 nameless = 0 ∷ 1 ∷ 3 ∷ 4 ∷ 5 ∷ 8 ∷ 9 ∷ []
 
-none-there : (pc : List ℕ → Parsed Condition) (p : List ℕ → Parsed (Policy ℕ)) (T : Table) (h : PolicyHead) (ws : List ℕ) → OneOf nameless (tagOf the-type h) →
+none-there : (pc : List ℕ → Parsed Condition) (p : List ℕ → Parsed (Policy Outcome)) (T : Table) (h : PolicyHead) (ws : List ℕ) → OneOf nameless (tagOf the-type h) →
     Holds (λ t _. genericDeny ≡ clauseOf T t) (policyNode pc p h ws)
 unfolding policyNode
 none-there pc p T (Permit o) ws k = fine refl
@@ -149,11 +151,11 @@ none-there pc p T BadField ws k = nothing
 abbrev condition-below : List ℕ → Parsed Condition
 condition-below vs = readCondition 31 vs
 
-abbrev policy-below : List ℕ → Parsed (Policy ℕ)
-policy-below vs = readPolicy (productSets .value) true 31 vs
+abbrev policy-below : List ℕ → Parsed (Policy Outcome)
+policy-below vs = readPolicy true 31 vs
 
 -- What holds of the clause of every node that reads with this head holds of the clause there.
-clause-has : (words : List ℕ) (at : ℕ) (T : Table) (h : PolicyHead) (Q : Denial ℕ → Type 0) → at < length words → h ≡ policyHead (getD words at 0) true →
+clause-has : (words : List ℕ) (at : ℕ) (T : Table) (h : PolicyHead) (Q : Denial Outcome → Type 0) → at < length words → h ≡ policyHead (getD words at 0) true →
     Holds (λ t _. Q (clauseOf T t)) (policyNode condition-below policy-below h (drop (at + 1) words)) → Names words at → Q (clauseAt words T at)
 unfolding clauseAt
 clause-has words at T h Q here e k (past p) = let z : ⊥ = omega arith in absurd z
@@ -180,19 +182,20 @@ named-of false fs = refl
 
 module _ (words : List ℕ) (T : Table) (at : ℕ) (out : List ℕ) where
   pub facts-past : length words ≤ at → ClauseFacts words T at out 0
-  facts-past h = counted words T at out 0 (omega arith) (λ _. ap (λ (d : Denial ℕ). d .facts) (sym (no-clause words T at h)))
+  facts-past h = counted words T at out 0 (omega arith) (λ _. ap (λ (d : Denial Outcome). d .facts) (sym (no-clause words T at h)))
 
   module _ (h : PolicyHead) (here : at < length words) (head : h ≡ policyHead (getD words at 0) true) where
     pub facts-none : OneOf nameless (tagOf the-type h) → ClauseFacts words T at out 0
     facts-none k =
         counted words T at out 0 (omega arith)
         (clause-has words at T h (λ d. [] ≡ d .facts) here head
-        (weaker (policyNode condition-below policy-below h (drop (at + 1) words)) (λ t vs e. ap (λ (d : Denial ℕ). d .facts) e) (none-there condition-below policy-below T h (drop (at + 1) words) k)))
+        (weaker (policyNode condition-below policy-below h (drop (at + 1) words)) (λ t vs e. ap (λ (d : Denial Outcome). d .facts) e) (none-there condition-below policy-below T h (drop (at + 1) words) k)))
 
-  pub facts-grant : (hidden : Bool) (n o start : ℕ) (r : Named) → at < length words → Grant hidden n o ≡ policyHead (getD words at 0) true → start ≡ at + 2 + wordsFor 4 n →
+  pub facts-grant : (hidden : Bool) (n o start : ℕ) (r : Named) → at < length words → Grant hidden n o ≡ policyHead (getD words at 0) true → start ≡ at + beforeConditionAt words at →
       Decisive T start (readCondition 31 (drop start words)) out r → ClauseFacts words T at out (r .count)
   unfolding policyNode
   facts-grant hidden n o start r here head s d =
+      let words-of : wordsFor 4 n ≡ wordsFor 4 (obligationsAt words at) = ap (wordsFor 4) (grant-says true (getD words at 0) hidden n o head .0) in
       counted words T at out (r .count) (d .within)
       (clause-has words at T (Grant hidden n o) (λ q. take (r .count) out ≡ q .facts) here head
       (weaker (grantNode condition-below hidden n o (drop (at + 1) words))
@@ -236,10 +239,10 @@ module _ (words : List ℕ) (T : Table) (at : ℕ) (out : List ℕ) where
 -- ---- the clause but for its facts
 module _ (words : List ℕ) (at : ℕ) (r : Clause) where
   -- Its facts are its own.
-  with-facts : (d : Denial ℕ) (fs : List ℕ) → d ≡ denialOf r fs → d ≡ denialOf r (d .facts)
-  with-facts d fs e = e ∙ ap (denialOf r) (sym (ap (λ (q : Denial ℕ). q .facts) e))
+  with-facts : (d : Denial Outcome) (fs : List ℕ) → d ≡ denialOf r fs → d ≡ denialOf r (d .facts)
+  with-facts d fs e = e ∙ ap (denialOf r) (sym (ap (λ (q : Denial Outcome). q .facts) e))
 
-  clause-none : ((fs : List ℕ) → denialOf r fs ≡ clauseBy 0 0 false false 0 fs) → (d : Denial ℕ) → genericDeny ≡ d → d ≡ denialOf r (d .facts)
+  clause-none : ((fs : List ℕ) → denialOf r fs ≡ clauseBy 0 0 false false 0 fs) → (d : Denial Outcome) → genericDeny ≡ d → d ≡ denialOf r (d .facts)
   clause-none c d e = with-facts d [] (sym e ∙ sym (c []))
 
   pub clause-past : length words ≤ at → ((fs : List ℕ) → denialOf r fs ≡ clauseBy 0 0 false false 0 fs) → ClauseIs words at r

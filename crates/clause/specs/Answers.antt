@@ -8,6 +8,7 @@ use Rattle.model.specs.Facts.{Table}
 use Rattle.model.specs.Decision.{Decision as Decided}
 use Rattle.model.specs.Writing.{entryBits, mostListed}
 use Rattle.model.specs.Reading.{readList, listed}
+use Rattle.model.specs.Products.{Outcome}
 use Rattle.laws.specs.FieldLaws.{Holds}
 use Rattle.decision.specs.declared.Decision.{Decision}
 use Rattle.decision.specs.Nodes.{clauseAt}
@@ -32,15 +33,15 @@ pub record ClauseFacts (words : List ℕ) (T : Table) (at : ℕ) (out : List ℕ
 pub record ClauseIs (words : List ℕ) (at : ℕ) (r : Clause) : Type 0 where
   pub is : (T : Table) → Names words at → clauseAt words T at ≡ denialOf r (clauseAt words T at .facts)
 
--- What is given to write a decision: the first `held` of os are its obligations, where it permits, and the first `named` of fs its clause's facts.
-pub record Gathered (words : List ℕ) (T : Table) (buf : List ℕ) (d : Decision) (os : List ℕ) (held : ℕ) (fs : List ℕ) (named : ℕ) : Type 0 where
+-- What is given to write a decision: the first `held` of os are its obligations, where it permits, and the first `count` of fs its clause's facts.
+pub record Gathered (words : List ℕ) (T : Table) (buf : List ℕ) (d : Decision) (os : List ℕ) (held : ℕ) (fs : List ℕ) (count : ℕ) : Type 0 where
   pub clause : Names words (d .clause)
   pub held-there : held ≤ length os
   pub obligations : d .permit ≡ true → take held os ≡ obligationsIn words buf d
-  pub named-there : named ≤ length fs
-  pub facts : take named fs ≡ clauseAt words T (d .clause) .facts
+  pub named-there : count ≤ length fs
+  pub facts : take count fs ≡ clauseAt words T (d .clause) .facts
 
 -- The words of the decision that d stands for.
-pub record DecisionWritten (words : List ℕ) (d : Decision) (os : List ℕ) (held : ℕ) (fs : List ℕ) (named : ℕ) (before after : List ℕ) (r : ℕ) : Type 0 where
-  pub number : r ≡ decisionSize (d .permit) held named
-  pub written : (T : Table) (buf : List ℕ) (D : Decided ℕ) → decisionOf words T buf d ≡ D → Gathered words T buf d os held fs named → Written (decisionWords D) before after r
+pub record DecisionWritten (words : List ℕ) (d : Decision) (os : List ℕ) (held : ℕ) (fs : List ℕ) (count : ℕ) (before after : List ℕ) (r : ℕ) : Type 0 where
+  pub number : r ≡ decisionSize (d .permit) held count
+  pub written : (T : Table) (buf : List ℕ) (D : Decided Outcome) → decisionOf words T buf d ≡ D → Gathered words T buf d os held fs count → Written (decisionWords D) before after r

@@ -5,16 +5,17 @@ use Prim.Native.Nat.{ℕ, _+_}
 use Rattle.model.specs.Fields.{wordsFor}
 use Rattle.model.specs.Decision.{Denial}
 use Rattle.model.specs.Reading.{shapeOf}
+use Rattle.model.specs.Products.{Outcome}
 use Rattle.policy_model.specs.Heads.{bitOf, deniedBy}
 use Rattle.record.specs.Nodes.{markOf, markIn, deniedOf}
 use Rattle.clause.specs.declared.Clause.{Clause}
 
 -- The clause with these facts.
-abbrev pub denialOf : Clause → List ℕ → Denial ℕ
+abbrev pub denialOf : Clause → List ℕ → Denial Outcome
 denialOf c fs = record { denied = deniedOf (c .denied); facts = fs; label = markOf (c .label); reason = markOf (c .reason); shape = shapeOf (bitOf (c .hidden)) }
 
 -- The same by the fields of its node: label and reason as 16 bits each, the shape, and the denied outcome, if present.
-abbrev pub clauseBy : ℕ → ℕ → Bool → Bool → ℕ → List ℕ → Denial ℕ
+abbrev pub clauseBy : ℕ → ℕ → Bool → Bool → ℕ → List ℕ → Denial Outcome
 clauseBy label reason hidden denied outcome fs =
     record { denied = deniedBy denied outcome; facts = fs; label = markIn label; reason = markIn reason; shape = shapeOf (bitOf hidden) }
 

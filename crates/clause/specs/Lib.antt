@@ -1,3 +1,4 @@
+pub mod Room
 pub mod Clauses
 pub mod Answers
-pub mod Callers
+pub mod AnswerLaws

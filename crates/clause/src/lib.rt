@@ -7,45 +7,37 @@ use record::Mark;
 ghost use mathlib.Core.Path.{_≡_};
 ghost use mathlib.Core.List.{List};
 ghost use Prim.Native.Nat.{ℕ, _+_, _*_, _^_, _≤_, _<_, min};
-ghost use lib.ListN.{length, getD};
+ghost use lib.ListN.{length};
 ghost use Rattle.model.specs.Facts.{tableOf};
 ghost use Rattle.model.specs.Writing.{countBits, mostListed};
+ghost use Rattle.decision.specs.Room.{obligationRoom};
+ghost use Rattle.clause.specs.Room.{RoomToName};
 ghost use Rattle.clause.specs.Clauses.{clauseBy, denialOf, decisionSize};
 ghost use Rattle.clause.specs.Answers.{FactsListed, ClauseFacts, ClauseIs, DecisionWritten};
 
 // What a node gives a decision but for facts: label, reason, shape and the outcome that was denied.
-pub struct Clause {
+struct Clause {
     pub label: Mark,
     pub reason: Mark,
     pub hidden: bool,
     pub denied: Denied,
 }
 
-// No node lists more facts.
-const MOST_LISTED: usize = 4095;
-
 // The levels that a grant leaves to its condition.
-const CONDITION_LEVELS: usize = 31;
-
-// The word at `at`, 0 past the end.
-fn word_at(words: &[u32], at: usize) -> u32
-    ensures { λ r. ⌜ r ≡ getD (now (words .entry)) at 0 ⌝ }
-{
-    if at < words.len() { words[at] } else { 0 }
-}
+const CONDITION_LEVELS: usize = policy_model::LEVELS - 1;
 
 // Writes the list of `count` facts at `at` to the front of `out`, and returns how many there are: none where no node lists so many, or the words end.
 fn load_facts(words: &[u32], at: usize, count: usize, out: &mut [u16]) -> usize
     requires { ⌜ min (2 * length (now words)) mostListed ≤ length (now out) ⌝ }
     ensures { λ r. ⌜ FactsListed (now (words .entry)) at count (now (out .exit)) r ⌝ }
 {
-    if count > MOST_LISTED {
+    if count > policy_model::MOST_LISTED {
         return 0;
     }
     if words.len() < at {
         return 0;
     }
-    if words.len() - at < (count + 1) / 2 {
+    if words.len() - at < policy_model::entry_words(count as u32) {
         return 0;
     }
     let mut i = 0;
@@ -59,7 +51,7 @@ fn load_facts(words: &[u32], at: usize, count: usize, out: &mut [u16]) -> usize
 // Writes the facts of the clause of the node at `at` to the front of `out`, and returns how many there are: of a Grant those that decide its condition,
 // of a stored decision those of its list. Other nodes, and a position past the end, have none.
 pub fn clause_facts(words: &[u32], at: usize, facts: &[u8], out: &mut [u16]) -> usize
-    requires { ⌜ (length (now words) ≤ length (now out)) × (min (2 * length (now words)) mostListed ≤ length (now out)) ⌝ }
+    requires { ⌜ RoomToName (now words) (now out) ⌝ }
     ensures { λ r. ⌜ ClauseFacts (now (words .entry)) (tableOf (now (facts .entry))) at (now (out .exit)) r ⌝ }
 {
     if words.len() <= at {
@@ -68,10 +60,10 @@ pub fn clause_facts(words: &[u32], at: usize, facts: &[u8], out: &mut [u16]) -> 
     match policy_model::policy_head(words[at], true) {
         PolicyHead::Grant {
             hidden: _,
-            obligations,
+            obligations: _,
             outcome: _,
         } => {
-            let start = at + 2 + (obligations as usize + 3) / 4;
+            let start = at + grant::before_condition_in(words, at) as usize;
             let named = decisive::decisive_arm(words, start, CONDITION_LEVELS, facts, out);
             named.count
         }
@@ -79,15 +71,20 @@ pub fn clause_facts(words: &[u32], at: usize, facts: &[u8], out: &mut [u16]) -> 
             obligations,
             outcome: _,
         } => {
-            let start = at + 2 + (obligations as usize + 3) / 4;
-            let count = word_at(words, at + 1) % 65536;
+            let start = at + 2 + policy_model::obligation_words(obligations);
+            let count = policy_model::word_at(words, at + 1) % policy_model::HALF;
             load_facts(words, start, count as usize, out)
         }
         PolicyHead::DenyWithTrace {
             hidden: _,
             denied: _,
             outcome: _,
-        } => load_facts(words, at + 3, word_at(words, at + 2) as usize, out),
+        } => load_facts(
+            words,
+            at + 3,
+            policy_model::word_at(words, at + 2) as usize,
+            out,
+        ),
         _ => 0,
     }
 }
@@ -109,41 +106,43 @@ fn clause_of(label: u32, reason: u32, hidden: bool, denied: bool, outcome: u16) 
 
 // The clause of the node at `at`: of a Grant, or of a stored decision, where a permit has no more than a label. Other nodes, and a position past the
 // end, name nothing.
-pub fn clause_at(words: &[u32], at: usize) -> Clause
+fn clause_at(words: &[u32], at: usize) -> Clause
     ensures { λ r. ⌜ ClauseIs (now (words .entry)) at r ⌝ }
 {
     if words.len() <= at {
         return clause_of(0, 0, false, false, 0);
     }
-    let marks = word_at(words, at + 1);
+    let marks = policy_model::word_at(words, at + 1);
+    let label = marks / policy_model::HALF;
+    let reason = marks % policy_model::HALF;
     match policy_model::policy_head(words[at], true) {
         PolicyHead::Grant {
             hidden,
             obligations: _,
             outcome,
-        } => clause_of(marks / 65536, marks % 65536, hidden, true, outcome),
+        } => clause_of(label, reason, hidden, true, outcome),
         PolicyHead::PermitWithTrace {
             obligations: _,
             outcome: _,
-        } => clause_of(marks / 65536, 0, false, false, 0),
+        } => clause_of(label, 0, false, false, 0),
         PolicyHead::DenyWithTrace {
             hidden,
             denied,
             outcome,
-        } => clause_of(marks / 65536, marks % 65536, hidden, denied, outcome),
+        } => clause_of(label, reason, hidden, denied, outcome),
         _ => clause_of(0, 0, false, false, 0),
     }
 }
 
 // How many words a decision's node takes, with so many obligations and so many facts.
-pub fn decision_words(permit: bool, held: usize, named: usize) -> usize
-    requires { ⌜ (held < 2 ^ 32) × (named < 2 ^ 32) ⌝ }
-    ensures { λ r. ⌜ r ≡ decisionSize permit held named ⌝ }
+pub fn decision_words(permit: bool, held: usize, count: usize) -> usize
+    requires { ⌜ (held < 2 ^ 32) × (count < 2 ^ 32) ⌝ }
+    ensures { λ r. ⌜ r ≡ decisionSize permit held count ⌝ }
 {
     if permit {
-        2 + (held + 3) / 4 + (named + 1) / 2
+        2 + policy_model::obligation_words(held as u32) + policy_model::entry_words(count as u32)
     } else {
-        3 + (named + 1) / 2
+        3 + policy_model::entry_words(count as u32)
     }
 }
 
@@ -158,7 +157,7 @@ pub fn write_decision(
     count: usize,
     out: &mut [u32],
 ) -> usize
-    requires { ⌜ (held ≤ 64) × (held ≤ length (now obligations)) × (count < 2 ^ (4 + countBits)) × (count ≤ length (now named)) × (decisionSize (decision .permit) held count ≤ length (now out)) ⌝ }
+    requires { ⌜ (held ≤ obligationRoom) × (held ≤ length (now obligations)) × (count < 2 ^ (4 + countBits)) × (count ≤ length (now named)) × (decisionSize (decision .permit) held count ≤ length (now out)) ⌝ }
     ensures { λ r. ⌜ DecisionWritten (now (words .entry)) decision (now (obligations .entry)) held (now (named .entry)) count (now (out .entry)) (now (out .exit)) r ⌝ }
 {
     let clause = clause_at(words, decision.clause);

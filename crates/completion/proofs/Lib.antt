@@ -1,3 +1,3 @@
-pub mod Records
+pub mod Shallow
 pub mod Loading
 pub mod Completing

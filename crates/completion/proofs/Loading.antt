@@ -10,9 +10,10 @@ use Rattle.model.specs.Fields.{pack}
 use Rattle.model.specs.Facts.{Presence, absent, present, unknown, presence, factCount}
 use Rattle.model.specs.Consulted.{Entry, Consulted, consult, onceFrom}
 use Rattle.model.specs.Writing.{entryBits, entryField}
+use Rattle.laws.specs.FieldAt.{fieldAt}
+use Rattle.laws.specs.FieldAtLaws.{entry-field}
 use Rattle.laws.specs.Lengths.{length-pack}
 use Rattle.laws.specs.ReadForm.{Named}
-use Rattle.packing.specs.FieldAt.{fieldAt, entry-field}
 use Rattle.condition.specs.Listing.{entryOf, Lent, Consults, Recorded}
 use Rattle.condition.proofs.Listing.{consults-none, consults-then, consults-as}
 use Rattle.completion.specs.Answers.{LoadsConsulted}

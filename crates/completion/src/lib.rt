@@ -1,30 +1,19 @@
-// Completing a record with a known table, after gatekeep's partial.rs (`complete_residual`).
-use calls::Answer;
-use facts::Presence;
-use facts::TableFault;
-use policy_model::RecordCheck;
-ghost use mathlib.Core.Path.{_≡_};
-ghost use Prim.Native.Nat.{_+_, _*_, _/_, _≤_, min};
+// Deciding a tree with a known table, after the facts that were consulted before, after gatekeep's evaluate.rs and partial.rs (`complete_residual`):
+// of a Pending record its entries; of a sheet none.
+use answer::Answer;
+use policy_model::LEVELS;
+use policy_model::RECORD_WORDS;
+use policy_model::SHEET_WORDS;
+ghost use Prim.Native.Nat.{_+_, _≤_, min};
 ghost use lib.ListN.{length};
-ghost use Rattle.model.specs.Facts.{presence, tableOf};
-ghost use Rattle.model.specs.Outcome.{productSets};
-ghost use Rattle.model.specs.Writing.{mostListed};
-ghost use Rattle.model.specs.Calls.{completeResidual};
-ghost use Rattle.facts.specs.Answers.{presenceOf};
+ghost use Rattle.model.specs.Facts.{tableOf};
+ghost use Rattle.model.specs.Reading.{levels, sheetWords, recordWords};
 ghost use Rattle.condition.specs.Listing.{lent};
-ghost use Rattle.calls.specs.Answers.{Answered};
-ghost use Rattle.completion.specs.Answers.{LoadsConsulted, copied, Completes};
-
-// The presence in a consulted entry. 3, which no accepted record has, reads Unknown.
-fn entry_presence(field: u16) -> Presence
-    ensures { λ r. ⌜ presenceOf r ≡ presence (field / 16384) ⌝ }
-{
-    match field / 16384 {
-        0 => Presence::Absent,
-        1 => Presence::Present,
-        _ => Presence::Unknown,
-    }
-}
+ghost use Rattle.answer.specs.Answers.{Makes};
+ghost use Rattle.decision.specs.Room.{RoomToUnite};
+ghost use Rattle.clause.specs.Room.{RoomToName};
+ghost use Rattle.completion.specs.Answers.{LoadsConsulted, completedAfter};
+ghost use Rattle.completion.specs.Room.{RoomToList, fewWords, shortWords};
 
 // Lists the `consulted` entries of a record, once each, the first one kept, and returns how many are in use.
 pub fn load_consulted(
@@ -35,40 +24,42 @@ pub fn load_consulted(
 ) -> usize
     ensures { λ r. ⌜ LoadsConsulted (now (words .entry)) consulted (lent 0 (now (entries .entry)) (now (seen .entry))) (lent r (now (entries .exit)) (now (seen .exit))) ⌝ }
 {
-    let mut count = 0;
+    let mut listed = 0;
     let mut i = 0;
     while i < consulted {
         if words.len() <= 1 + i / 2 {
-            return count;
+            return listed;
         }
-        let field = packing::unpack_entry(words, 1, i);
-        count = condition::record(
+        let field = packing::unpack_entry(words, 1, i) as u32;
+        listed = condition::record(
             entries,
             seen,
-            count,
-            (field % 1024) as u32,
-            entry_presence(field),
+            listed,
+            field % policy_model::FACTS,
+            facts::entry_presence(field),
         );
         i += 1;
     }
-    count
+    listed
 }
 
-// Writes a record as it stands, if there is room for it.
-pub fn copy_record(words: &[u32], out: &mut [u32]) -> Answer
-    ensures { λ r. ⌜ Answered (copied (now (words .entry)) (length (now (out .entry)))) (now (out .entry)) (now (out .exit)) r ⌝ }
-{
-    if out.len() < words.len() {
-        return Answer::Refused(11);
-    }
-    Answer::Written(packing::copy_words(words, 0, words.len(), out))
-}
+// A consulted list has each fact once, and the set of those that it has a bit for each.
+pub const ENTRIES: usize = policy_model::FACTS as usize;
 
-// A tree has at most so many levels.
-const LEVELS: usize = 32;
+pub const SEEN: usize = ENTRIES / 64;
 
-// Completes a Pending record that was checked, of at most `depth` levels: its entries come first, and then its tree is decided. Lent are `entries` for the
-// facts that are consulted, two for a word at most, `buf` for united obligations, and `named` for the facts of the clause that decides.
+// How many words are few, and short: the lists that are lent for them are short as well, since to clear long ones would take longer than to decide.
+pub const FEW: usize = 7;
+
+pub const SHORT: usize = 64;
+
+// United obligations take room for each level of a tree and for the arm below it. A tree of few words has no more levels than words.
+pub const UNITED: usize = decision::OBLIGATION_ROOM * (LEVELS + 1);
+
+pub const UNITED_FEW: usize = decision::OBLIGATION_ROOM * (FEW + 1);
+
+// Decides the policy at `tree` in words that were checked, of at most `depth` levels, after the `consulted` entries. Lent are `entries` for the facts that are consulted, two for a word at most, `buf` for united obligations, and `named` for the facts of the
+// clause that decides.
 fn complete_with(
     words: &[u32],
     consulted: usize,
@@ -80,13 +71,13 @@ fn complete_with(
     named: &mut [u16],
     out: &mut [u32],
 ) -> Answer
-    requires { ⌜ (length (now words) ≤ 16384) × (depth ≤ 32) × (min 32 (length (now words)) ≤ depth) × (64 * (depth + 1) ≤ length (now buf)) × (length (now words) ≤ length (now named)) × (min (2 * length (now words)) mostListed ≤ length (now named)) × (min 1024 (2 * length (now words)) ≤ length (now entries)) × (length (now entries) ≤ 1024) ⌝ }
-    ensures { λ r. ⌜ Completes (now (words .entry)) consulted tree (tableOf (now (facts .entry))) (now (out .entry)) (now (out .exit)) r ⌝ }
+    requires { ⌜ (length (now words) ≤ recordWords) × (depth ≤ levels) × (min levels (length (now words)) ≤ depth) × RoomToUnite (depth + 1) (now buf) × RoomToName (now words) (now named) × RoomToList (now words) (now entries) ⌝ }
+    ensures { λ r. ⌜ Makes (completedAfter (tableOf (now (facts .entry)))) (now (words .entry)) consulted tree (now (out .entry)) (now (out .exit)) r ⌝ }
 {
-    let mut seen = [0u64; 16];
-    let count = load_consulted(words, consulted, entries, &mut seen);
-    let eval = evaluate::eval_policy(words, tree, depth, facts, entries, &mut seen, count, buf);
-    calls::put_record(
+    let mut seen = [0u64; SEEN];
+    let listed = load_consulted(words, consulted, entries, &mut seen);
+    let eval = evaluate::eval_policy(words, tree, depth, facts, entries, &mut seen, listed, buf);
+    answer::put_record(
         words,
         eval.decision,
         facts,
@@ -98,7 +89,7 @@ fn complete_with(
     )
 }
 
-// The same of a record of few words, with short lists: to clear long ones would take longer than to decide.
+// The same of few words.
 fn complete_few(
     words: &[u32],
     consulted: usize,
@@ -106,18 +97,18 @@ fn complete_few(
     facts: &[u8],
     out: &mut [u32],
 ) -> Answer
-    requires { ⌜ length (now words) ≤ 7 ⌝ }
-    ensures { λ r. ⌜ Completes (now (words .entry)) consulted tree (tableOf (now (facts .entry))) (now (out .entry)) (now (out .exit)) r ⌝ }
+    requires { ⌜ length (now words) ≤ fewWords ⌝ }
+    ensures { λ r. ⌜ Makes (completedAfter (tableOf (now (facts .entry)))) (now (words .entry)) consulted tree (now (out .entry)) (now (out .exit)) r ⌝ }
 {
-    let mut entries = [0u16; 16];
-    let mut buf = [0u8; 512];
-    let mut named = [0u16; 16];
+    let mut entries = [0u16; 2 * FEW];
+    let mut buf = [0u8; UNITED_FEW];
+    let mut named = [0u16; 2 * FEW];
     complete_with(
         words,
         consulted,
         tree,
         facts,
-        7,
+        FEW,
         &mut entries,
         &mut buf,
         &mut named,
@@ -125,20 +116,23 @@ fn complete_few(
     )
 }
 
-// The same of a small record.
-fn complete_small(
+// The same of short words.
+pub fn complete_short(
     words: &[u32],
     consulted: usize,
     tree: usize,
     facts: &[u8],
     out: &mut [u32],
 ) -> Answer
-    requires { ⌜ length (now words) ≤ 64 ⌝ }
-    ensures { λ r. ⌜ Completes (now (words .entry)) consulted tree (tableOf (now (facts .entry))) (now (out .entry)) (now (out .exit)) r ⌝ }
+    requires { ⌜ length (now words) ≤ shortWords ⌝ }
+    ensures { λ r. ⌜ Makes (completedAfter (tableOf (now (facts .entry)))) (now (words .entry)) consulted tree (now (out .entry)) (now (out .exit)) r ⌝ }
 {
-    let mut entries = [0u16; 128];
-    let mut buf = [0u8; 2112];
-    let mut named = [0u16; 128];
+    if words.len() <= FEW {
+        return complete_few(words, consulted, tree, facts, out);
+    }
+    let mut entries = [0u16; 2 * SHORT];
+    let mut buf = [0u8; UNITED];
+    let mut named = [0u16; 2 * SHORT];
     complete_with(
         words,
         consulted,
@@ -152,7 +146,7 @@ fn complete_small(
     )
 }
 
-// The same of a middling one.
+// The same of as many words as a sheet has.
 fn complete_middling(
     words: &[u32],
     consulted: usize,
@@ -160,12 +154,12 @@ fn complete_middling(
     facts: &[u8],
     out: &mut [u32],
 ) -> Answer
-    requires { ⌜ length (now words) ≤ 1024 ⌝ }
-    ensures { λ r. ⌜ Completes (now (words .entry)) consulted tree (tableOf (now (facts .entry))) (now (out .entry)) (now (out .exit)) r ⌝ }
+    requires { ⌜ length (now words) ≤ sheetWords ⌝ }
+    ensures { λ r. ⌜ Makes (completedAfter (tableOf (now (facts .entry)))) (now (words .entry)) consulted tree (now (out .entry)) (now (out .exit)) r ⌝ }
 {
-    let mut entries = [0u16; 1024];
-    let mut buf = [0u8; 2112];
-    let mut named = [0u16; 2048];
+    let mut entries = [0u16; ENTRIES];
+    let mut buf = [0u8; UNITED];
+    let mut named = [0u16; SHEET_WORDS];
     complete_with(
         words,
         consulted,
@@ -179,29 +173,23 @@ fn complete_middling(
     )
 }
 
-// The same of any.
-fn complete_pending(
+// The same of any. Every page of its stack is touched when it is called, so the calls see to short words apart from it.
+pub fn complete_long(
     words: &[u32],
     consulted: usize,
     tree: usize,
     facts: &[u8],
     out: &mut [u32],
 ) -> Answer
-    requires { ⌜ length (now words) ≤ 16384 ⌝ }
-    ensures { λ r. ⌜ Completes (now (words .entry)) consulted tree (tableOf (now (facts .entry))) (now (out .entry)) (now (out .exit)) r ⌝ }
+    requires { ⌜ length (now words) ≤ recordWords ⌝ }
+    ensures { λ r. ⌜ Makes (completedAfter (tableOf (now (facts .entry)))) (now (words .entry)) consulted tree (now (out .entry)) (now (out .exit)) r ⌝ }
 {
-    if words.len() <= 7 {
-        return complete_few(words, consulted, tree, facts, out);
-    }
-    if words.len() <= 64 {
-        return complete_small(words, consulted, tree, facts, out);
-    }
-    if words.len() <= 1024 {
+    if words.len() <= SHEET_WORDS {
         return complete_middling(words, consulted, tree, facts, out);
     }
-    let mut entries = [0u16; 1024];
-    let mut buf = [0u8; 2112];
-    let mut named = [0u16; 16384];
+    let mut entries = [0u16; ENTRIES];
+    let mut buf = [0u8; UNITED];
+    let mut named = [0u16; RECORD_WORDS];
     complete_with(
         words,
         consulted,
@@ -213,33 +201,4 @@ fn complete_pending(
         &mut named,
         out,
     )
-}
-
-// Completes a record with a known table. A Resolved one comes back as it stands.
-pub fn complete_residual(words: &[u32], facts: &[u8], out: &mut [u32]) -> Answer
-    ensures { λ r. ⌜ Answered (completeResidual productSets (now (words .entry)) (now (facts .entry)) (length (now (out .entry)))) (now (out .entry)) (now (out .exit)) r ⌝ }
-{
-    if words.len() == 0 {
-        return Answer::Refused(1);
-    }
-    if words.len() > 16384 {
-        return Answer::Refused(1);
-    }
-    match facts::known_fault(facts) {
-        TableFault::Refused(number) => Answer::Refused(number),
-        TableFault::Faultless => match policy_model::check_record(words) {
-            RecordCheck::Refused(number) => Answer::Refused(number),
-            RecordCheck::Resolved {
-                consulted: _,
-                tree: _,
-            } => copy_record(words, out),
-            RecordCheck::Pending { consulted, tree } => complete_pending(
-                words,
-                consulted as usize,
-                tree,
-                facts,
-                out,
-            ),
-        },
-    }
 }

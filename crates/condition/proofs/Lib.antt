@@ -1,5 +1,4 @@
 -- Laws that several proofs cite.
 pub mod Listing
-pub mod Spanning
 pub mod Evaluating
 pub mod Walking

@@ -19,12 +19,12 @@ use Rattle.laws.specs.Size.{wordsC, wordsCs}
 use Rattle.policy_model.specs.declared.ConditionHead.{ConditionHead}
 use Rattle.policy_model.specs.declared.ConditionHead.the-variants.{Always, Never, Has, Not, All, Any, BadKind, BadField}
 use Rattle.policy_model.specs.Heads.{conditionHead, conditionNode}
+use Rattle.policy_model.specs.Span.{SkippedConditions}
 use Rattle.condition.specs.declared.ConditionEval.{ConditionEval}
 use Rattle.condition.specs.declared.Node.the-variants.{Value, Open}
 use Rattle.condition.specs.declared.Node.the-variants as node
 use Rattle.condition.specs.declared.AfterArm.the-variants.{Closed, More}
 use Rattle.condition.specs.Listing.{Lent, Consults}
-use Rattle.condition.specs.Spanning.{Skipped}
 use Rattle.condition.specs.Evaluating.{isSatisfied, answerOf, EvaluatesC, EvaluatesHas}
 use Rattle.condition.specs.Walking.{nodeOf, OpenNode, notNode, armsNode, openOf, opens, listValue, listRead, valueOn, readOn, Known, Unread, Settles}
 use Rattle.condition.proofs.Listing.{consults-none, consults-then, consults-as}
@@ -117,7 +117,7 @@ module _ (T : Table) (words : List ℕ) (s : Lent) (r : ConditionEval) (t : Lent
 
   module _ (v : Bool) (at : ℕ) where
     -- An arm that decides: those after it are passed over.
-    decided : (n end : ℕ) → Bool·beq v stop ≡ true → Skipped words at n end → Known T words s r t (suc d) fs v end (λ l. l) → Known T words s r t d (armsNode stop n ∷ fs) v at (λ l. l)
+    decided : (n end : ℕ) → Bool·beq v stop ≡ true → SkippedConditions words at n end → Known T words s r t (suc d) fs v end (λ l. l) → Known T words s r t d (armsNode stop n ∷ fs) v at (λ l. l)
     unfolding Known
     decided n end e a k = weaker (many cnil ccons (readCondition d) n (drop at words)) (λ cs rest i. rw e (rw i at k)) (a .ends d)
 
@@ -148,7 +148,7 @@ module _ (words : List ℕ) (n : ℕ) (v : Bool) (at : ℕ) where
   settles-not h = record { onward = omega arith; goes = λ T s r t d fs k. rw (le-leb 8192 n h) k }
 
   module _ (h : n < 8192) where
-    pub settles-decided : (end : ℕ) → Bool·beq v (leb 4096 n) ≡ true → Skipped words at (n % 4096) end → Settles words n v at (Closed v end)
+    pub settles-decided : (end : ℕ) → Bool·beq v (leb 4096 n) ≡ true → SkippedConditions words at (n % 4096) end → Settles words n v at (Closed v end)
     settles-decided end e a = record {
       onward = a .onward;
       goes = λ T s r t d fs k. rw (list-is n (n % 4096) (leb 4096 n) h refl refl) (decided T words s r t fs d (leb 4096 n) v at (n % 4096) end e a k);

@@ -1,4 +1,3 @@
 pub mod Listing
-pub mod Spanning
 pub mod Evaluating
 pub mod Walking

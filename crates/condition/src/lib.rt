@@ -1,18 +1,16 @@
 // Conditions, after gatekeep's evaluate.rs: whether a condition is satisfied, with the facts that were consulted listed on the way.
 // The list is lent: `entries`, of which the first `count` are in use, and `seen`, the set of the facts that are listed.
-use consulted::Consulted;
 use facts::Presence;
 use policy_model::ConditionHead;
 ghost use mathlib.Core.Path.{_≡_};
-ghost use Prim.Native.Nat.{_<_, _≤_};
+ghost use Prim.Native.Nat.{_^_, _<_, _≤_};
 ghost use Rattle.model.specs.Facts.{factCount, tableOf};
-ghost use Rattle.model.specs.Writing.{entryField};
-ghost use Rattle.model.specs.Required.{oneBit};
+ghost use Rattle.model.specs.Writing.{countBits};
+ghost use Rattle.model.specs.Reading.{levels};
 ghost use Rattle.facts.specs.Answers.{presenceOf};
 ghost use Rattle.fact_set.specs.Sets.{Contained};
 ghost use Rattle.policy_model.specs.Heads.{conditionHead};
-ghost use Rattle.condition.specs.Listing.{entryOf, lent, Recorded};
-ghost use Rattle.condition.specs.Spanning.{armsOfWord, Skipped};
+ghost use Rattle.condition.specs.Listing.{lent, Recorded};
 ghost use Rattle.condition.specs.Evaluating.{answerOf, EvaluatesC, EvaluatesHas};
 ghost use Rattle.condition.specs.Walking.{listNode, nodeOf, Settles};
 
@@ -33,59 +31,26 @@ fn answer(satisfied: bool, next: usize, count: usize) -> ConditionEval
     }
 }
 
-// A presence as it stands in a consulted entry, above the fact.
-fn presence_bits(presence: Presence) -> u16
-    ensures { λ r. ⌜ r ≡ entryField (entryOf 0 (presenceOf presence)) ⌝ }
-{
-    match presence {
-        Presence::Absent => 0,
-        Presence::Present => 16384,
-        Presence::Unknown => 32768,
-    }
-}
-
-// A consulted entry: presence (2), zero (4), fact (10).
-fn entry(fact: u32, presence: Presence) -> u16
-    requires { ⌜ fact < factCount ⌝ }
-    ensures { λ r. ⌜ r ≡ entryField (entryOf fact (presenceOf presence)) ⌝ }
-{
-    presence_bits(presence) + fact as u16
-}
-
-// The flag of a fact, as the consulted list takes it.
-fn flag(listed: bool) -> u8
-    ensures { λ r. ⌜ r ≡ oneBit listed ⌝ }
-{
-    if listed { 1 } else { 0 }
-}
-
-// Lists the fact with its presence, unless it is `listed` already or the entries are full, and returns how many are in use then.
+// Lists the fact with its presence, unless it is listed `already` or the entries are full, and returns how many are in use then.
 fn record_unless(
-    listed: bool,
+    already: bool,
     entries: &mut [u16],
     seen: &mut [u64],
     count: usize,
     fact: u32,
     presence: Presence,
 ) -> usize
-    requires { ⌜ (fact < factCount) × Contained fact (now seen) listed ⌝ }
+    requires { ⌜ (fact < factCount) × Contained fact (now seen) already ⌝ }
     ensures { λ r. ⌜ Recorded fact (presenceOf presence) (lent count (now (entries .entry)) (now (seen .entry))) (lent r (now (entries .exit)) (now (seen .exit))) ⌝ }
 {
     if entries.len() <= count {
         return count;
     }
-    // Of the list before, its length is all that is asked.
-    let before = Consulted {
-        last: 0,
-        length: count,
-    };
-    let list = consulted::noted(before, flag(listed), entry(fact, presence));
-    if list.length == count {
-        return count;
+    let length = consulted::noted(entries, count, already, facts::entry(fact, presence));
+    if !already {
+        fact_set::insert(seen, fact);
     }
-    fact_set::insert(seen, fact);
-    entries[count] = list.last;
-    list.length
+    length
 }
 
 // The same, by whether the set of the facts that are listed has it.
@@ -99,40 +64,8 @@ pub fn record(
     requires { ⌜ fact < factCount ⌝ }
     ensures { λ r. ⌜ Recorded fact (presenceOf presence) (lent count (now (entries .entry)) (now (seen .entry))) (lent r (now (entries .exit)) (now (seen .exit))) ⌝ }
 {
-    let listed = fact_set::contains(seen, fact);
-    record_unless(listed, entries, seen, count, fact, presence)
-}
-
-// How many arms a condition has, by its first word.
-fn arms_of_word(word: u32) -> usize
-    ensures arms { λ r. ⌜ r ≡ armsOfWord word ⌝ }
-    ensures small { λ r. ⌜ r < 4096 ⌝ }
-{
-    match word / policy_model::KIND {
-        3 => 1,
-        4 => (word % 4096) as usize,
-        5 => (word % 4096) as usize,
-        _ => 0,
-    }
-}
-
-// Passes over `count` conditions from `at` by a count of those that are open, and returns the position after them.
-pub fn skip_conditions(words: &[u32], at: usize, count: u32) -> usize
-    ensures { λ r. ⌜ Skipped (now (words .entry)) at count r ⌝ }
-{
-    if words.len() < at {
-        return at;
-    }
-    let mut next = at;
-    let mut left = count as usize;
-    while left != 0 {
-        if words.len() - next < left {
-            return next;
-        }
-        left = left - 1 + arms_of_word(words[next]);
-        next += 1;
-    }
-    next
+    let already = fact_set::contains(seen, fact);
+    record_unless(already, entries, seen, count, fact, presence)
 }
 
 // A Has, whose words end at `next`: satisfied on Present. Its fact is consulted: where it is listed already, that changes nothing.
@@ -147,20 +80,20 @@ pub fn eval_has(
     requires { ⌜ fact < factCount ⌝ }
     ensures { λ r. ⌜ EvaluatesHas (tableOf (now (facts .entry))) fact next (lent count (now (entries .entry)) (now (seen .entry))) r (lent (r .count) (now (entries .exit)) (now (seen .exit))) ⌝ }
 {
-    let again = fact_set::contains(seen, fact);
-    if again {
+    let already = fact_set::contains(seen, fact);
+    if already {
         return answer(facts::present(facts, fact), next, count);
     }
     let satisfied = facts::present(facts, fact);
     let presence = Presence::of(facts, fact);
-    let listed = record_unless(again, entries, seen, count, fact, presence);
+    let listed = record_unless(already, entries, seen, count, fact, presence);
     answer(satisfied, next, listed)
 }
 
 // A node that is open is a number: how many of its arms come after the one that is read, and so much more for an Any; a Not is the other.
-const ANY: u16 = 4096;
+const ANY: u16 = policy_model::COUNTS as u16;
 
-const NOT: u16 = 8192;
+const NOT: u16 = 2 * ANY;
 
 // What the first word of a condition is to a walk: a value, a fact to be read, or a node that stays open while its arms are read.
 enum Node {
@@ -171,7 +104,7 @@ enum Node {
 
 // A list of so many arms, `kind` 0 for an All. Without arms All and Any are both false.
 fn list_node(kind: u16, arms: u32) -> Node
-    requires { ⌜ (kind ≤ 4096) × (arms < 4096) ⌝ }
+    requires { ⌜ (kind ≤ 2 ^ countBits) × (arms < 2 ^ countBits) ⌝ }
     ensures { λ r. ⌜ r ≡ listNode kind arms ⌝ }
 {
     if arms == 0 {
@@ -218,7 +151,7 @@ fn after_arm(words: &[u32], node: u16, value: bool, next: usize) -> AfterArm
     if value == (node >= ANY) {
         return AfterArm::Closed {
             value,
-            next: skip_conditions(words, next, left as u32),
+            next: policy_model::skip_conditions(words, next, left as u32),
         };
     }
     if left == 0 {
@@ -239,10 +172,10 @@ fn eval_condition(
     seen: &mut [u64],
     count: usize,
 ) -> ConditionEval
-    requires { ⌜ depth ≤ 32 ⌝ }
+    requires { ⌜ depth ≤ levels ⌝ }
     ensures { λ r. ⌜ EvaluatesC (tableOf (now (facts .entry))) (now (words .entry)) at depth (lent count (now (entries .entry)) (now (seen .entry))) r (lent (r .count) (now (entries .exit)) (now (seen .exit))) ⌝ }
 {
-    let mut above = [0u16; 32];
+    let mut above = [0u16; policy_model::LEVELS];
     let mut level = 0;
     let mut known = false;
     let mut sofar = answer(false, at, count);
@@ -296,7 +229,7 @@ pub fn eval_arm(
     seen: &mut [u64],
     count: usize,
 ) -> ConditionEval
-    requires { ⌜ depth ≤ 32 ⌝ }
+    requires { ⌜ depth ≤ levels ⌝ }
     ensures { λ r. ⌜ EvaluatesC (tableOf (now (facts .entry))) (now (words .entry)) at depth (lent count (now (entries .entry)) (now (seen .entry))) r (lent (r .count) (now (entries .exit)) (now (seen .exit))) ⌝ }
 {
     if words.len() <= at {
@@ -304,7 +237,14 @@ pub fn eval_arm(
     }
     let word = words[at];
     if word / policy_model::FACTS == policy_model::HAS {
-        return eval_has(word % 1024, at + 1, facts, entries, seen, count);
+        return eval_has(
+            word % policy_model::FACTS,
+            at + 1,
+            facts,
+            entries,
+            seen,
+            count,
+        );
     }
     eval_condition(words, at, depth, facts, entries, seen, count)
 }

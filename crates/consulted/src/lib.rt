@@ -1,44 +1,42 @@
-// The consulted list as it is carried, after gatekeep's `Consulted`: its length and its last entry. The entries before the last are lent beside it, as
-// 2 KiB by value would be copied twice for each fact that is read.
+// The consulted list, after gatekeep's `Consulted`: its entries, and how many are in use. The entries are lent, as 2 KiB by value would be copied for each fact that is read.
 ghost use mathlib.Core.Path.{_≡_};
-ghost use Prim.Native.Nat.{_+_, _<_, _^_};
-ghost use Rattle.consulted.specs.Lists.{recordedOf};
+ghost use Prim.Native.Nat.{_<_};
+ghost use lib.ListN.{length as long};
+ghost use Rattle.consulted.specs.Lists.{entriesWith, lengthWith, listWith};
 
-pub struct Consulted {
-    pub last: u16,
+pub struct Consulted<'a> {
+    pub entries: &'a mut [u16],
     pub length: usize,
 }
 
-// The list with the entry at its end, unless the flag of the entry's fact says that the fact is listed.
-pub fn recorded(list: Consulted, seen: u8, entry: u16) -> Consulted
-    requires { ⌜ list .length + 1 < 2 ^ 64 ⌝ }
-    ensures { λ r. ⌜ r ≡ recordedOf list seen entry ⌝ }
+// Puts the entry at the end, unless its fact is listed `already`, and returns how many are in use then.
+pub fn recorded(entries: &mut [u16], length: usize, already: bool, entry: u16) -> usize
+    requires { ⌜ length < long (now entries) ⌝ }
+    ensures { λ r. ⌜ (r ≡ lengthWith length already) × (now (entries .exit) ≡ entriesWith (now (entries .entry)) length already entry) ⌝ }
 {
-    if seen != 0 {
-        return list;
+    if already {
+        return length;
     }
-    Consulted {
-        last: entry,
-        length: list.length + 1,
-    }
+    entries[length] = entry;
+    length + 1
 }
 
-impl Consulted {
+impl<'a> Consulted<'a> {
     // The same of a list that is lent.
-    pub fn record(&mut self, seen: u8, entry: u16)
-        requires { ⌜ now self .length + 1 < 2 ^ 64 ⌝ }
-        ensures { λ _. ⌜ now (self .exit) ≡ recordedOf (now (self .entry)) seen entry ⌝ }
+    pub fn record(&mut self, already: bool, entry: u16)
+        requires { ⌜ now self .length < long (now (now self .entries)) ⌝ }
+        ensures { λ _. ⌜ now (self .exit) ≡ listWith (now (self .entry)) already entry ⌝ }
     {
-        *self = recorded(*self, seen, entry);
+        self.length = recorded(&mut *self.entries, self.length, already, entry);
     }
 }
 
 // The same with plain parameters: the list is a local, and is lent to `record`. Whoever calls it needs no proof by hand.
-pub fn noted(list: Consulted, seen: u8, entry: u16) -> Consulted
-    requires { ⌜ list .length + 1 < 2 ^ 64 ⌝ }
-    ensures { λ l. ⌜ l ≡ recordedOf list seen entry ⌝ }
+pub fn noted(entries: &mut [u16], length: usize, already: bool, entry: u16) -> usize
+    requires { ⌜ length < long (now entries) ⌝ }
+    ensures { λ n. ⌜ (n ≡ lengthWith length already) × (now (entries .exit) ≡ entriesWith (now (entries .entry)) length already entry) ⌝ }
 {
-    let mut l = list;
-    l.record(seen, entry);
-    l
+    let mut list = Consulted { entries, length };
+    list.record(already, entry);
+    list.length
 }

@@ -1,4 +1,3 @@
-pub mod Fields
 pub mod Lists
 pub mod Nodes
 pub mod Standing

@@ -11,47 +11,44 @@ use lib.Dec.{eqb, ltb, leb}
 use lib.ListN.{length, take, drop, getD, length-drop, drop-of-length-le}
 use lib.Seq.{take-all, drop-cons}
 use Rattle.model.specs.Facts.{Table}
-use Rattle.model.specs.Outcome.{productSets}
 use Rattle.model.specs.Fields.{pack}
 use Rattle.model.specs.Condition.{Condition}
 use Rattle.model.specs.Decision.{denies, genericDeny}
 use Rattle.model.specs.Policy.{Policy, pnil, pcons}
 use Rattle.model.specs.Writing.{obligationBits, entryBits}
-use Rattle.model.specs.Reading.{Parsed, refuse, got, next, another, counted, readList, obligation, listed, mark, many, shapeOf, kindOf, restOf, readCondition, readPolicy}
-use Rattle.laws.specs.Lists.{Below}
+use Rattle.model.specs.Reading.{Parsed, refuse, got, next, another, counted, readList, obligation, listed, mark, many, shapeOf, kindOf, restOf, readCondition, mostObligations, obligationCount}
+use Rattle.model.specs.Products.{Outcome, readPolicy}
 use Rattle.laws.specs.Form.{FormO}
-use Rattle.laws.specs.FieldLaws.{padded, Narrow, Holds, fine, nothing, if-holds, weaker, then-holds, both-hold, same-list}
+use Rattle.laws.specs.FieldAt.{firsts}
+use Rattle.laws.specs.FieldAtLaws.{fields-held, narrow-below}
+use Rattle.laws.specs.FieldLaws.{Holds, fine, nothing, if-holds, weaker, then-holds, both-hold, same-list}
 use Rattle.laws.specs.ReadForm.{same-obligation, ok-obligations}
 use Rattle.policy_model.specs.declared.PolicyHead.{PolicyHead}
 use Rattle.policy_model.specs.declared.PolicyHead.the-variants.{Permit, Deny, Grant, All, Any, OrElse, PermitWithTrace, DenyWithTrace, BadKind, BadField}
 use Rattle.policy_model.specs.Heads.{permitHead, grantHead, permitTraceHead, denyTraceHead, policyHeads, policyHead, bitOf, deniedBy, grantNode, permitTraceNode, denyTraceNode, policyNode}
 use Rattle.policy_model.specs.HeadLaws.{policy-node}
-use Rattle.decision.specs.Nodes.{nodeAt, obligationsOfD, obligationsOf, clauseRead, obligationsRead, clauseAt, obligationsAt, fieldsOf, headCount, obligationCountOf}
+use Rattle.decision.specs.Room.{obligationRoom}
+use Rattle.decision.specs.Nodes.{nodeAt, obligationsOfD, obligationsOf, clauseRead, obligationsRead, clauseAt, obligationsAt, obligationFields, headCount, obligationCountOf}
 use Rattle.decision.specs.Meaning.{Names, past, reads}
 use Rattle.decision.specs.Answers.{Listed, Loaded}
-use Rattle.decision.proofs.Fields.{packed-fields}
-
-narrow : (os : List ℕ) → Below 64 os → Narrow 8 os
-narrow [] h = tt
-narrow (o ∷ os) h = (omega (arith, h .0), narrow os (h .1))
 
 -- A list that was read, of good form, is the fields of its words.
 abbrev ReadO : ℕ → List ℕ → List ℕ → List ℕ → Type 0
-ReadO n ws os vs = FormO os × (os ≡ padded n (fieldsOf 8 4 ws))
+ReadO n ws os vs = FormO os × (os ≡ obligationFields n ws)
 
 read-obligations : (n : ℕ) (ws : List ℕ) → Holds (ReadO n ws) (readList obligation obligationBits n ws)
 read-obligations n ws =
     weaker (readList obligation obligationBits n ws)
     (λ os vs h.
     let were : pack 8 os ++ vs ≡ ws = ap (λ l. pack 8 l ++ vs) (sym (map-id os)) ∙ h .1 .were in
-    let same : padded (length os) (fieldsOf 8 4 (pack 8 os ++ vs)) ≡ os = packed-fields 8 3 vs _ os refl (narrow os (h .0 .0 .1)) in
-    (h .0 .0, sym same ∙ ap (λ l. padded (length os) (fieldsOf 8 4 l)) were ∙ ap (λ k. padded k (fieldsOf 8 4 ws)) (h .1 .long)))
+    let same : obligationFields (length os) ws ≡ os = fields-held 8 3 ws os vs refl (sym were) (narrow-below 8 obligationCount os (omega arith) (h .0 .0 .1)) in
+    (h .0 .0, sym same ∙ ap (λ k. obligationFields k ws) (h .1 .long)))
     (both-hold (readList obligation obligationBits n ws) (ok-obligations n ws) (same-list (λ o. o) obligation same-obligation obligationBits 3 n ws refl))
 
 -- What a node has, ws being the words after its first.
-pub record Has (h : PolicyHead) (ws : List ℕ) (t : Policy ℕ) (vs : List ℕ) : Type 0 where
+pub record Has (h : PolicyHead) (ws : List ℕ) (t : Policy Outcome) (vs : List ℕ) : Type 0 where
   pub formed : FormO (obligationsOf t)
-  pub listed-there : obligationsOf t ≡ padded (headCount h) (fieldsOf 8 4 (drop 1 ws))
+  pub listed-there : obligationsOf t ≡ obligationFields (headCount h) (drop 1 ws)
 
 -- Anything was read.
 abbrev Whatever : {A : Type 0} → A → List ℕ → Type 0
@@ -61,10 +58,11 @@ whatever : {A : Type 0} (q : Parsed A) → Holds Whatever q
 whatever (refuse n) = nothing
 whatever (got a ws) = fine tt
 
-none-has : (h : PolicyHead) (ws : List ℕ) (t : Policy ℕ) (vs : List ℕ) → obligationsOf t ≡ [] → headCount h ≡ 0 → Has h ws t vs
-none-has h ws t vs e k = record { formed = subst FormO (sym e) (tt, tt); listed-there = e ∙ sym (ap (λ n. padded n (fieldsOf 8 4 (drop 1 ws))) k) }
+none-has : (h : PolicyHead) (ws : List ℕ) (t : Policy Outcome) (vs : List ℕ) → obligationsOf t ≡ [] → headCount h ≡ 0 → Has h ws t vs
+unfolding firsts
+none-has h ws t vs e k = record { formed = subst FormO (sym e) (tt, tt); listed-there = e ∙ sym (ap (λ n. obligationFields n (drop 1 ws)) k) }
 
-module _ (pc : List ℕ → Parsed Condition) (p : List ℕ → Parsed (Policy ℕ)) where
+module _ (pc : List ℕ → Parsed Condition) (p : List ℕ → Parsed (Policy Outcome)) where
   grant-has : (hidden : Bool) (n o : ℕ) (ws : List ℕ) → Holds (Has (Grant hidden n o) ws) (grantNode pc hidden n o ws)
   unfolding grantNode
   grant-has hidden n o [] = nothing
@@ -118,13 +116,13 @@ node-words : (words : List ℕ) (at : ℕ) → at < length words → drop at wor
 node-words words at h = rw (add-one, drop-cons words at 0)
 
 pub node-there : (words : List ℕ) (at : ℕ) → at < length words →
-    nodeAt words at ≡ policyNode (λ vs. readCondition 31 vs) (λ vs. readPolicy (productSets .value) true 31 vs) (policyHead (getD words at 0) true) (drop (at + 1) words)
+    nodeAt words at ≡ policyNode (λ vs. readCondition 31 vs) (λ vs. readPolicy true 31 vs) (policyHead (getD words at 0) true) (drop (at + 1) words)
 unfolding nodeAt
-node-there words at h = ap (readPolicy (productSets .value) true 32) (node-words words at h) ∙ policy-node true 31 (getD words at 0) (drop (at + 1) words)
+node-there words at h = ap (readPolicy true 32) (node-words words at h) ∙ policy-node true 31 (getD words at 0) (drop (at + 1) words)
 
-pub node-past : (words : List ℕ) (at : ℕ) → length words ≤ at → nodeAt words at ≡ refuse 6
+node-past : (words : List ℕ) (at : ℕ) → length words ≤ at → nodeAt words at ≡ refuse 6
 unfolding nodeAt
-node-past words at h = ap (readPolicy (productSets .value) true 32) (drop-of-length-le words h)
+node-past words at h = ap (readPolicy true 32) (drop-of-length-le words h)
 
 -- Nothing is named past the end.
 pub none-held : (words : List ℕ) (at : ℕ) → length words ≤ at → obligationsAt words at ≡ []
@@ -136,7 +134,7 @@ unfolding clauseAt
 no-clause words T at h = ap (clauseRead T) (node-past words at h)
 
 -- Obligations that are read are of good form, and stand two words after the node's first.
-form-read : (h : PolicyHead) (ws : List ℕ) (q : Parsed (Policy ℕ)) → Holds (Has h ws) q → FormO (obligationsRead q)
+form-read : (h : PolicyHead) (ws : List ℕ) (q : Parsed (Policy Outcome)) → Holds (Has h ws) q → FormO (obligationsRead q)
 form-read h ws (refuse n) k = (tt, tt)
 form-read h ws (got t vs) k = k .it .formed
 
@@ -145,7 +143,7 @@ unfolding obligationsAt
 by-place words at true e =
     let h = policyHead (getD words at 0) true in
     let pc : List ℕ → Parsed Condition = λ vs. readCondition 31 vs in
-    let p : List ℕ → Parsed (Policy ℕ) = λ vs. readPolicy (productSets .value) true 31 vs in
+    let p : List ℕ → Parsed (Policy Outcome) = λ vs. readPolicy true 31 vs in
     let ws = drop (at + 1) words in
     subst (λ q. FormO (obligationsRead q)) (sym (node-there words at (ltb-true at (length words) e))) (form-read h ws (policyNode pc p h ws) (node-has pc p h ws))
 by-place words at false e = subst FormO (sym (none-held words at (ltb-false at (length words) e))) (tt, tt)
@@ -153,55 +151,55 @@ by-place words at false e = subst FormO (sym (none-held words at (ltb-false at (
 pub obligations-form : (words : List ℕ) (at : ℕ) → FormO (obligationsAt words at)
 obligations-form words at = by-place words at (ltb at (length words)) refl
 
-read-there : (h : PolicyHead) (ws : List ℕ) (q : Parsed (Policy ℕ)) (t : Policy ℕ) (vs : List ℕ) → Holds (Has h ws) q → q ≡ got t vs → padded (headCount h) (fieldsOf 8 4 (drop 1 ws)) ≡ obligationsRead q
+read-there : (h : PolicyHead) (ws : List ℕ) (q : Parsed (Policy Outcome)) (t : Policy Outcome) (vs : List ℕ) → Holds (Has h ws) q → q ≡ got t vs → obligationFields (headCount h) (drop 1 ws) ≡ obligationsRead q
 read-there h ws (refuse n) t vs k e = let z : _≡_ {A = ℕ} 0 1 = cc in absurd (omega arith)
 read-there h ws (got s us) t vs k e = sym (k .it .listed-there)
 
 pub obligations-there : (words : List ℕ) (at : ℕ) → at < length words → Names words at →
-    padded (obligationCountOf (getD words at 0)) (fieldsOf 8 4 (drop 2 (drop at words))) ≡ obligationsAt words at
+    obligationFields (obligationCountOf (getD words at 0)) (drop 2 (drop at words)) ≡ obligationsAt words at
 unfolding obligationsAt obligationCountOf
 obligations-there words at h (past k) = let z : ⊥ = omega arith in absurd z
 obligations-there words at h (reads t vs e) =
     let head = policyHead (getD words at 0) true in
     let pc : List ℕ → Parsed Condition = λ us. readCondition 31 us in
-    let p : List ℕ → Parsed (Policy ℕ) = λ us. readPolicy (productSets .value) true 31 us in
+    let p : List ℕ → Parsed (Policy Outcome) = λ us. readPolicy true 31 us in
     let ws = drop (at + 1) words in
-    ap (λ l. padded (headCount head) (fieldsOf 8 4 (drop 2 l))) (node-words words at h)
+    ap (λ l. obligationFields (headCount head) (drop 2 l)) (node-words words at h)
     ∙ read-there head ws (policyNode pc p head ws) t vs (node-has pc p head ws) (sym (node-there words at h) ∙ e)
     ∙ ap obligationsRead (sym (node-there words at h))
 
 -- ---- a head has at most 64 obligations, and at most as many as the field that counts them says
-abbrev Few : ℕ → PolicyHead → Type 0
-Few r h = (headCount h ≤ 64) × (headCount h ≤ r / 1048576 % 128)
+abbrev FewCounted : ℕ → PolicyHead → Type 0
+FewCounted r h = (headCount h ≤ mostObligations) × (headCount h ≤ r / 1048576 % 128)
 
-few-if : (r : ℕ) (b : Bool) (g h : PolicyHead) → (b ≡ true → Few r g) → Few r h → Few r (cond b g h)
+few-if : (r : ℕ) (b : Bool) (g h : PolicyHead) → (b ≡ true → FewCounted r g) → FewCounted r h → FewCounted r (cond b g h)
 few-if r true g h f k = f refl
 few-if r false g h f k = k
 
-none-few : (r : ℕ) → Few r BadKind
+none-few : (r : ℕ) → FewCounted r BadKind
 none-few r = (omega arith, omega arith)
 
-few-grant : (r : ℕ) → Few r (grantHead r)
+few-grant : (r : ℕ) → FewCounted r (grantHead r)
 unfolding grantHead
 few-grant r =
-    few-if r (leb (r / 1048576 % 128) 64) _ BadField
-    (λ e. few-if r (eqb (r / 65536 % 16) 0) (Grant (eqb (r / 134217728) 1) (r / 1048576 % 128) (r % 65536)) BadField (λ _. (leb-true (r / 1048576 % 128) 64 e, omega arith)) (none-few r))
+    few-if r (leb (r / 1048576 % 128) mostObligations) _ BadField
+    (λ e. few-if r (eqb (r / 65536 % 16) 0) (Grant (eqb (r / 134217728) 1) (r / 1048576 % 128) (r % 65536)) BadField (λ _. (leb-true (r / 1048576 % 128) mostObligations e, omega arith)) (none-few r))
     (none-few r)
 
-few-permit-trace : (r : ℕ) → Few r (permitTraceHead r)
+few-permit-trace : (r : ℕ) → FewCounted r (permitTraceHead r)
 unfolding permitTraceHead
 few-permit-trace r =
     few-if r (eqb (r / 134217728) 0) _ BadField
-    (λ _. few-if r (leb (r / 1048576 % 128) 64) _ BadField
-    (λ e. few-if r (eqb (r / 65536 % 16) 0) (PermitWithTrace (r / 1048576 % 128) (r % 65536)) BadField (λ _. (leb-true (r / 1048576 % 128) 64 e, omega arith)) (none-few r))
+    (λ _. few-if r (leb (r / 1048576 % 128) mostObligations) _ BadField
+    (λ e. few-if r (eqb (r / 65536 % 16) 0) (PermitWithTrace (r / 1048576 % 128) (r % 65536)) BadField (λ _. (leb-true (r / 1048576 % 128) mostObligations e, omega arith)) (none-few r))
     (none-few r))
     (none-few r)
 
-few-permit : (r : ℕ) → Few r (permitHead r)
+few-permit : (r : ℕ) → FewCounted r (permitHead r)
 unfolding permitHead
 few-permit r = few-if r (eqb (r / 65536) 0) (Permit (r % 65536)) BadField (λ _. none-few r) (none-few r)
 
-few-deny-trace : (r : ℕ) → Few r (denyTraceHead r)
+few-deny-trace : (r : ℕ) → FewCounted r (denyTraceHead r)
 unfolding denyTraceHead
 few-deny-trace r =
     few-if r (eqb (r / 65536 % 1024) 0) _ BadField
@@ -209,7 +207,7 @@ few-deny-trace r =
     (few-if r (eqb (r % 65536) 0) (DenyWithTrace (eqb (r / 134217728) 1) false (r % 65536)) BadField (λ _. none-few r) (none-few r)))
     (none-few r)
 
-few-heads : (r j : ℕ) → Few r (getD (policyHeads true r) j BadKind)
+few-heads : (r j : ℕ) → FewCounted r (getD (policyHeads true r) j BadKind)
 few-heads r zero = few-permit r
 few-heads r (suc zero) = few-if r (eqb r 0) Deny BadField (λ _. none-few r) (none-few r)
 few-heads r (suc (suc zero)) = few-grant r
@@ -220,11 +218,11 @@ few-heads r (suc (suc (suc (suc (suc (suc zero)))))) = few-permit-trace r
 few-heads r (suc (suc (suc (suc (suc (suc (suc zero))))))) = few-deny-trace r
 few-heads r (suc (suc (suc (suc (suc (suc (suc (suc j)))))))) = none-few r
 
-few-in : (w : ℕ) → Few (restOf w) (policyHead w true)
+few-in : (w : ℕ) → FewCounted (restOf w) (policyHead w true)
 unfolding policyHead
 few-in w = few-if (restOf w) (leb 6 (kindOf w)) (getD (policyHeads true (restOf w)) (kindOf w - 6) BadKind) BadKind (λ _. few-heads (restOf w) (kindOf w - 6)) (none-few (restOf w))
 
-pub few-obligations : (w : ℕ) → obligationCountOf w ≤ 64
+few-obligations : (w : ℕ) → obligationCountOf w ≤ obligationRoom
 unfolding obligationCountOf
 few-obligations w = few-in w .0
 
@@ -234,19 +232,19 @@ unfolding obligationCountOf
 no-obligations w e = omega (arith, few-in w .1)
 
 -- What the code counts and loads.
-pub counted-as : (w : ℕ) (h : PolicyHead) → h ≡ policyHead w true → (headCount h ≡ obligationCountOf w) × (headCount h ≤ 64)
+pub counted-as : (w : ℕ) (h : PolicyHead) → h ≡ policyHead w true → (headCount h ≡ obligationCountOf w) × (headCount h ≤ mostObligations)
 unfolding obligationCountOf
-counted-as w h e = (ap headCount e, subst (λ n. n ≤ 64) (sym (ap headCount e)) (few-obligations w))
+counted-as w h e = (ap headCount e, subst (λ n. n ≤ obligationRoom) (sym (ap headCount e)) (few-obligations w))
 
 pub loaded-none : (words : List ℕ) (at : ℕ) (buf : List ℕ) → length words ≤ at → Loaded words at buf buf 0
 loaded-none words at buf h = record { few = omega arith; front = λ _. sym (none-held words at h); rest = refl }
 
-pub loaded : (words : List ℕ) (at n : ℕ) (before after : List ℕ) → at < length words → n ≡ obligationCountOf (getD words at 0) → n ≤ 64 →
+pub loaded : (words : List ℕ) (at n : ℕ) (before after : List ℕ) → at < length words → n ≡ obligationCountOf (getD words at 0) → n ≤ obligationRoom →
     Listed (take (length words - at) (drop at words)) n before after → Loaded words at before after n
 loaded words at n before after h e few l =
     let part : take (length words - at) (drop at words) ≡ drop at words = take-all (length words - at) (drop at words) (omega (arith, length-drop at words)) in
     record {
       few = few;
-      front = λ names. l .front ∙ ap (λ ws. padded n (fieldsOf 8 4 (drop 2 ws))) part ∙ ap (λ k. padded k (fieldsOf 8 4 (drop 2 (drop at words)))) e ∙ obligations-there words at h names;
+      front = λ names. l .front ∙ ap (λ ws. obligationFields n (drop 2 ws)) part ∙ ap (λ k. obligationFields k (drop 2 (drop at words))) e ∙ obligations-there words at h names;
       rest = l .rest;
     }

@@ -11,8 +11,9 @@ use Rattle.model.specs.Outcome.{productSets}
 use Rattle.model.specs.Condition.{Condition, satisfied, unsatisfied, evalCondition}
 use Rattle.model.specs.Decision.{Permit, Denial, permits, denies, combined, genericDeny}
 use Rattle.model.specs.Policy.{Grant, Policy, grant, stored}
-use Rattle.model.specs.Evaluate.{evalGrant, evalPolicy}
-use Rattle.model.specs.Reading.{got, levels, readPolicy}
+use Rattle.model.specs.Evaluate.{evalGrant}
+use Rattle.model.specs.Reading.{got, levels}
+use Rattle.model.specs.Products.{Outcome, evalPolicy, readPolicy}
 use Rattle.laws.specs.Form.{FormO}
 use Rattle.laws.specs.Deeper.{deeper, follows-got}
 use Rattle.decision.specs.declared.Decision.{Decision}
@@ -22,7 +23,7 @@ use Rattle.decision.proofs.Nodes.{none-held, no-clause, obligations-for
 
 -- ---- nodes
 -- A node that reads inside a tree, with fewer levels left or in a sheet, reads so at its position.
-pub node-reads : (words : List ℕ) (at d : ℕ) (res : Bool) (t : Policy ℕ) (vs : List ℕ) → d ≤ levels → readPolicy (productSets .value) res d (drop at words) ≡ got t vs → nodeAt words at ≡ got t vs
+pub node-reads : (words : List ℕ) (at d : ℕ) (res : Bool) (t : Policy Outcome) (vs : List ℕ) → d ≤ levels → readPolicy res d (drop at words) ≡ got t vs → nodeAt words at ≡ got t vs
 unfolding nodeAt
 node-reads words at d res t vs h e = follows-got (deeper (productSets .value) res d 32 (drop at words) h) e
 
@@ -36,9 +37,6 @@ module _ (words : List ℕ) (T : Table) (buf : List ℕ) (d : Decision) where
   unfolding decisionOf
   as-deny e = ap (λ b. cond b (permits (permitOf words T buf d)) (denies (clauseAt words T (d .clause)))) e
 
-  pub permit-is : (p : Permit ℕ) → d .permit ≡ true → decisionOf words T buf d ≡ permits p → permitOf words T buf d ≡ p
-  permit-is p e h = let k : permits (permitOf words T buf d) ≡ permits p = sym (as-permit e) ∙ h in cc
-
 -- ---- the constructors
 module _ (words : List ℕ) (T : Table) (buf : List ℕ) where
   pub denied-is : (none : ℕ) → length words ≤ none → decisionOf words T buf (deniedAt none none) ≡ denies genericDeny
@@ -46,45 +44,45 @@ module _ (words : List ℕ) (T : Table) (buf : List ℕ) where
   denied-is none h = ap denies (no-clause words T none h)
 
   -- A grant whose condition is false, and a stored deny.
-  pub denied-grant : (at none : ℕ) (g : Grant ℕ) (c : Condition) (vs fs : List ℕ) → nodeAt words at ≡ got (grant g c) vs → evalCondition T c ≡ unsatisfied fs →
-      decisionOf words T buf (deniedAt at none) ≡ evalPolicy productSets T (grant g c)
+  pub denied-grant : (at none : ℕ) (g : Grant Outcome) (c : Condition) (vs fs : List ℕ) → nodeAt words at ≡ got (grant g c) vs → evalCondition T c ≡ unsatisfied fs →
+      decisionOf words T buf (deniedAt at none) ≡ evalPolicy T (grant g c)
   unfolding decisionOf clauseAt
   denied-grant at none g c vs fs n e =
       ap (λ q. denies (clauseRead T q)) n
       ∙ ap (λ ev. denies (record { denied = some (g .outcome); facts = named ev; label = g .label; reason = g .reason; shape = g .shape })) e
       ∙ sym (ap (evalGrant g) e)
 
-  pub denied-stored : (at none : ℕ) (d : Denial ℕ) (vs : List ℕ) → nodeAt words at ≡ got (stored (denies d)) vs → decisionOf words T buf (deniedAt at none) ≡ denies d
+  pub denied-stored : (at none : ℕ) (d : Denial Outcome) (vs : List ℕ) → nodeAt words at ≡ got (stored (denies d)) vs → decisionOf words T buf (deniedAt at none) ≡ denies d
   unfolding decisionOf clauseAt
   denied-stored at none d vs n = ap (λ q. denies (clauseRead T q)) n
 
   pub permitted-is : (o none : ℕ) → length words ≤ none → permitOf words T buf (permittedAt o none none 0) ≡ combined o []
   unfolding permitOf obligationsIn
   permitted-is o none h =
-      ap₂ (λ os (c : Denial ℕ). record { outcome = o; obligations = os; label = c .label; facts = c .facts }) (none-held words none h) (no-clause words T none h)
+      ap₂ (λ os (c : Denial Outcome). record { outcome = o; obligations = os; label = c .label; facts = c .facts }) (none-held words none h) (no-clause words T none h)
 
   pub permitted-bare : (o none : ℕ) → length words ≤ none → decisionOf words T buf (permittedAt o none none 0) ≡ permits (combined o [])
   unfolding decisionOf
   permitted-bare o none h = ap permits (permitted-is o none h)
 
   -- A grant whose condition is true, and a stored permit.
-  pub permitted-grant : (at : ℕ) (g : Grant ℕ) (c : Condition) (vs fs : List ℕ) → nodeAt words at ≡ got (grant g c) vs → evalCondition T c ≡ satisfied fs →
-      decisionOf words T buf (permittedAt (g .outcome) at at 0) ≡ evalPolicy productSets T (grant g c)
+  pub permitted-grant : (at : ℕ) (g : Grant Outcome) (c : Condition) (vs fs : List ℕ) → nodeAt words at ≡ got (grant g c) vs → evalCondition T c ≡ satisfied fs →
+      decisionOf words T buf (permittedAt (g .outcome) at at 0) ≡ evalPolicy T (grant g c)
   unfolding decisionOf permitOf obligationsIn clauseAt obligationsAt
   permitted-grant at g c vs fs n e =
       ap (λ q. permits (record { outcome = g .outcome; obligations = obligationsRead q; label = clauseRead T q .label; facts = clauseRead T q .facts })) n
       ∙ ap (λ ev. permits (record { outcome = g .outcome; obligations = g .obligations; label = g .label; facts = named ev })) e
       ∙ sym (ap (evalGrant g) e)
 
-  pub permitted-stored : (at : ℕ) (p : Permit ℕ) (vs : List ℕ) → nodeAt words at ≡ got (stored (permits p)) vs → decisionOf words T buf (permittedAt (p .outcome) at at 0) ≡ permits p
+  pub permitted-stored : (at : ℕ) (p : Permit Outcome) (vs : List ℕ) → nodeAt words at ≡ got (stored (permits p)) vs → decisionOf words T buf (permittedAt (p .outcome) at at 0) ≡ permits p
   unfolding decisionOf permitOf obligationsIn clauseAt obligationsAt
   permitted-stored at p vs n =
       ap (λ q. permits (record { outcome = p .outcome; obligations = obligationsRead q; label = clauseRead T q .label; facts = clauseRead T q .facts })) n
 
 -- ---- sound decisions
-none-formed : (words buf : List ℕ) (d : Decision) → d .count ≡ 0 → FormO (obligationsIn words buf d)
+none-formed : (words buf : List ℕ) (d : Decision) → d .united ≡ 0 → FormO (obligationsIn words buf d)
 unfolding obligationsIn
-none-formed words buf d e = subst FormO (sym (ap (λ n. cond (eqb n 0) (obligationsAt words (d .held)) (take n buf)) e)) (obligations-form words (d .held))
+none-formed words buf d e = subst FormO (sym (ap (λ n. cond (eqb n 0) (obligationsAt words (d .obligations)) (take n buf)) e)) (obligations-form words (d .obligations))
 
 pub sound-denied : (words buf : List ℕ) (at none : ℕ) → Names words at → length words ≤ none → Sound words buf (deniedAt at none)
 sound-denied words buf at none n h = record { clause = n; held = past h; formed = none-formed words buf (deniedAt at none) refl; bare = λ _. refl }

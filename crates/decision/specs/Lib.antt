@@ -1,3 +1,4 @@
+pub mod Room
 pub mod Nodes
 pub mod Meaning
 pub mod Answers

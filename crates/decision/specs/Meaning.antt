@@ -6,40 +6,42 @@ use Prim.Native.Nat.{ℕ, _≤_}
 use lib.Dec.{eqb}
 use lib.ListN.{length, take}
 use Rattle.model.specs.Facts.{Table}
+use Rattle.model.specs.Outcome.{noProduct}
 use Rattle.model.specs.Decision.{Permit, permits, denies}
 use Rattle.model.specs.Decision.{Decision as Decided}
 use Rattle.model.specs.Policy.{Policy}
 use Rattle.model.specs.Reading.{got}
+use Rattle.model.specs.Products.{Outcome}
 use Rattle.laws.specs.Form.{FormO}
 use Rattle.decision.specs.declared.Decision.{Decision}
 use Rattle.decision.specs.Nodes.{nodeAt, clauseAt, obligationsAt}
 
 -- The values that the constructors give.
 abbrev pub deniedAt : ℕ → ℕ → Decision
-deniedAt at none = record { permit = false; outcome = 0; clause = at; held = none; count = 0 }
+deniedAt at none = record { permit = false; outcome = noProduct; clause = at; obligations = none; united = 0 }
 
 abbrev pub permittedAt : ℕ → ℕ → ℕ → ℕ → Decision
-permittedAt o at from n = record { permit = true; outcome = o; clause = at; held = from; count = n }
+permittedAt o at from n = record { permit = true; outcome = o; clause = at; obligations = from; united = n }
 
 -- A permit's obligations: those in the buffer, if there are any, else those of the node.
 unfoldable pub obligationsIn : List ℕ → List ℕ → Decision → List ℕ
-obligationsIn words buf d = cond (eqb (d .count) 0) (obligationsAt words (d .held)) (take (d .count) buf)
+obligationsIn words buf d = cond (eqb (d .united) 0) (obligationsAt words (d .obligations)) (take (d .united) buf)
 
-unfoldable pub permitOf : List ℕ → Table → List ℕ → Decision → Permit ℕ
+unfoldable pub permitOf : List ℕ → Table → List ℕ → Decision → Permit Outcome
 permitOf words T buf d =
     record { outcome = d .outcome; obligations = obligationsIn words buf d; label = clauseAt words T (d .clause) .label; facts = clauseAt words T (d .clause) .facts }
 
-unfoldable pub decisionOf : List ℕ → Table → List ℕ → Decision → Decided ℕ
+unfoldable pub decisionOf : List ℕ → Table → List ℕ → Decision → Decided Outcome
 decisionOf words T buf d = cond (d .permit) (permits (permitOf words T buf d)) (denies (clauseAt words T (d .clause)))
 
 -- A position of a node that reads, or past the end.
 pub data Names (words : List ℕ) (at : ℕ) : Type 0 where
   past : length words ≤ at → Names words at
-  reads : (t : Policy ℕ) (ws : List ℕ) → nodeAt words at ≡ got t ws → Names words at
+  reads : (t : Policy Outcome) (ws : List ℕ) → nodeAt words at ≡ got t ws → Names words at
 
 -- What every decision of a walk over words that read keeps to. A deny has no bytes in the buffer.
 pub record Sound (words buf : List ℕ) (d : Decision) : Type 0 where
   pub clause : Names words (d .clause)
-  pub held : Names words (d .held)
+  pub held : Names words (d .obligations)
   pub formed : FormO (obligationsIn words buf d)
-  pub bare : d .permit ≡ false → d .count ≡ 0
+  pub bare : d .permit ≡ false → d .united ≡ 0

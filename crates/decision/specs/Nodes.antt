@@ -1,17 +1,16 @@
 -- What the node at a position of the words gives a decision: its clause and its obligations.
 use mathlib.Core.Bool.{true}
 use mathlib.Core.Option.{some, none}
-use mathlib.Core.List.{List, [], _∷_, _++_}
+use mathlib.Core.List.{List, []}
 use Prim.Native.Nat.{ℕ}
-use lib.ListN.{drop}
-use Rattle.model.specs.Fields.{split, perWord}
 use Rattle.model.specs.Facts.{Table}
-use Rattle.model.specs.Outcome.{productSets}
 use Rattle.model.specs.Condition.{ConditionEval, satisfied, unsatisfied, evalCondition}
 use Rattle.model.specs.Decision.{Denial, Decision, permits, denies, forbidden, genericDeny}
 use Rattle.model.specs.Policy.{Policy, permit, deny, grant, all, any, orElse, stored}
 use Rattle.model.specs.Writing.{obligationBits}
-use Rattle.model.specs.Reading.{Parsed, refuse, got, levels, readPolicy}
+use Rattle.model.specs.Reading.{Parsed, refuse, got, levels}
+use Rattle.model.specs.Products.{Outcome, policyAt}
+use Rattle.laws.specs.FieldAt.{fieldAt, firsts}
 use Rattle.policy_model.specs.declared.PolicyHead.{PolicyHead}
 use Rattle.policy_model.specs.declared.PolicyHead.the-variants.{Permit, Deny, Grant, All, Any, OrElse, PermitWithTrace, DenyWithTrace, BadKind, BadField}
 use Rattle.policy_model.specs.Heads.{policyHead}
@@ -22,11 +21,11 @@ named (satisfied fs) = fs
 named (unsatisfied fs) = fs
 
 -- The decisive clause that a stored decision, or a node, gives. A permit takes of it the label and the facts.
-abbrev pub clauseOfD : Decision ℕ → Denial ℕ
+abbrev pub clauseOfD : Decision Outcome → Denial Outcome
 clauseOfD (permits p) = record { denied = none; facts = p .facts; label = p .label; reason = none; shape = forbidden }
 clauseOfD (denies d) = d
 
-abbrev pub clauseOf : Table → Policy ℕ → Denial ℕ
+abbrev pub clauseOf : Table → Policy Outcome → Denial Outcome
 clauseOf T (permit o) = genericDeny
 clauseOf T deny = genericDeny
 clauseOf T (grant g c) = record { denied = some (g .outcome); facts = named (evalCondition T c); label = g .label; reason = g .reason; shape = g .shape }
@@ -36,11 +35,11 @@ clauseOf T (orElse a b) = genericDeny
 clauseOf T (stored d) = clauseOfD d
 
 -- The obligations of a grant or of a stored permit.
-abbrev pub obligationsOfD : Decision ℕ → List ℕ
+abbrev pub obligationsOfD : Decision Outcome → List ℕ
 obligationsOfD (permits p) = p .obligations
 obligationsOfD (denies d) = []
 
-abbrev pub obligationsOf : Policy ℕ → List ℕ
+abbrev pub obligationsOf : Policy Outcome → List ℕ
 obligationsOf (permit o) = []
 obligationsOf deny = []
 obligationsOf (grant g c) = g .obligations
@@ -50,18 +49,18 @@ obligationsOf (orElse a b) = []
 obligationsOf (stored d) = obligationsOfD d
 
 -- The node at a position. Past the end there is none, and nothing is named.
-unfoldable pub nodeAt : List ℕ → ℕ → Parsed (Policy ℕ)
-nodeAt words at = readPolicy (productSets .value) true levels (drop at words)
+unfoldable pub nodeAt : List ℕ → ℕ → Parsed (Policy Outcome)
+nodeAt words at = policyAt words at levels
 
-abbrev pub clauseRead : Table → Parsed (Policy ℕ) → Denial ℕ
+abbrev pub clauseRead : Table → Parsed (Policy Outcome) → Denial Outcome
 clauseRead T (refuse n) = genericDeny
 clauseRead T (got t ws) = clauseOf T t
 
-abbrev pub obligationsRead : Parsed (Policy ℕ) → List ℕ
+abbrev pub obligationsRead : Parsed (Policy Outcome) → List ℕ
 obligationsRead (refuse n) = []
 obligationsRead (got t ws) = obligationsOf t
 
-unfoldable pub clauseAt : List ℕ → Table → ℕ → Denial ℕ
+unfoldable pub clauseAt : List ℕ → Table → ℕ → Denial Outcome
 clauseAt words T at = clauseRead T (nodeAt words at)
 
 unfoldable pub obligationsAt : List ℕ → ℕ → List ℕ
@@ -69,14 +68,9 @@ obligationsAt words at = obligationsRead (nodeAt words at)
 
 -- ---- obligations as fields of the words
 
--- The fields of words, n to each.
-abbrev pub fieldsOf : ℕ → ℕ → List ℕ → List ℕ
-fieldsOf width n [] = []
-fieldsOf width n (w ∷ ws) = split width n w ++ fieldsOf width n ws
-
--- Obligations, four to a word.
-abbrev pub obligationFields : List ℕ → List ℕ
-obligationFields ws = fieldsOf obligationBits (perWord obligationBits) ws
+-- The first n obligations of the list that these words begin with.
+abbrev pub obligationFields : ℕ → List ℕ → List ℕ
+obligationFields n ws = firsts (fieldAt obligationBits ws) n
 
 -- How many obligations a node has, by its head; and by its first word.
 abbrev pub headCount : PolicyHead → ℕ

@@ -5,28 +5,31 @@ use policy_model::PolicyHead;
 ghost use mathlib.Core.Path.{_≡_};
 ghost use mathlib.Core.Bool.{true};
 ghost use Prim.Native.Nat.{_≤_, _<_};
-ghost use lib.ListN.{length, take, drop, getD};
-ghost use Rattle.model.specs.Outcome.{productSets};
-ghost use Rattle.model.specs.Decision.{held, meetPermit, joinPermit};
-ghost use Rattle.decision.specs.Nodes.{obligationCountOf, obligationFields};
+ghost use lib.ListN.{length, take, drop};
+ghost use Rattle.model.specs.Decision.{held};
+ghost use Rattle.model.specs.Writing.{obligationBits};
+ghost use Rattle.model.specs.Products.{meetPermit, joinPermit};
+ghost use Rattle.laws.specs.FieldAt.{fieldAt};
+ghost use Rattle.decision.specs.Room.{obligationRoom, RoomToUnite, Few};
+ghost use Rattle.decision.specs.Nodes.{obligationCountOf};
 ghost use Rattle.decision.specs.Meaning.{deniedAt, permittedAt};
 ghost use Rattle.decision.specs.Answers.{Listed, Loaded, Inserted, United, Held, Unobliged, Both, Kept, Folded};
 
 // What was decided. A position is that of a grant or of a stored decision, or the number of words for none.
 pub struct Decision {
     pub permit: bool,
-    // of a permit; 0 on deny
+    // of a permit; no product on deny
     pub outcome: u16,
     // the node whose label, reason, shape and facts it carries
     pub clause: usize,
     // of a permit: the node whose obligations it has
-    pub held: usize,
+    pub obligations: usize,
     // of a permit: where not 0, its obligations are instead so many bytes at the front of the buffer
-    pub count: usize,
+    pub united: usize,
 }
 
 // No list of obligations is longer: they are 0 to 63, and none is repeated.
-const OBLIGATIONS: usize = 64;
+pub const OBLIGATION_ROOM: usize = policy_model::MOST_OBLIGATIONS as usize;
 
 // A deny with the clause of the node at `at`, or with nothing named where `at` is the number of words.
 pub fn denied_by(at: usize, none: usize) -> Decision
@@ -34,10 +37,10 @@ pub fn denied_by(at: usize, none: usize) -> Decision
 {
     Decision {
         permit: false,
-        outcome: 0,
+        outcome: Products::NONE.bits,
         clause: at,
-        held: none,
-        count: 0,
+        obligations: none,
+        united: 0,
     }
 }
 
@@ -56,8 +59,8 @@ pub fn permitted_by(outcome: u16, at: usize) -> Decision
         permit: true,
         outcome,
         clause: at,
-        held: at,
-        count: 0,
+        obligations: at,
+        united: 0,
     }
 }
 
@@ -68,22 +71,22 @@ pub fn permitted(outcome: u16, none: usize) -> Decision
     permitted_by(outcome, none)
 }
 
-// A permit with the label and facts of the node at `at`, and with the first `count` bytes of the buffer for obligations.
-fn with_united(outcome: u16, at: usize, none: usize, count: usize) -> Decision
-    ensures { λ r. ⌜ r ≡ permittedAt outcome at none count ⌝ }
+// A permit with the label and facts of the node at `at`, and with the first `united` bytes of the buffer for obligations.
+fn with_united(outcome: u16, at: usize, none: usize, united: usize) -> Decision
+    ensures { λ r. ⌜ r ≡ permittedAt outcome at none united ⌝ }
 {
     Decision {
         permit: true,
         outcome,
         clause: at,
-        held: none,
-        count,
+        obligations: none,
+        united,
     }
 }
 
 // How many obligations a node has, by its first word.
 fn obligation_count(word: u32) -> usize
-    ensures { λ r. ⌜ (r ≡ obligationCountOf word) × (r ≤ 64) ⌝ }
+    ensures { λ r. ⌜ (r ≡ obligationCountOf word) × (r ≤ obligationRoom) ⌝ }
 {
     match policy_model::policy_head(word, true) {
         PolicyHead::Grant {
@@ -101,19 +104,19 @@ fn obligation_count(word: u32) -> usize
 
 // Obligation `i` of a list that starts two words after its node's first: four to a word. 0 where the words end.
 fn obligation_at(node: &[u32], i: usize) -> u8
-    requires { ⌜ i < 64 ⌝ }
-    ensures { λ r. ⌜ r ≡ getD (obligationFields (drop 2 (now (node .entry)))) i 0 ⌝ }
+    requires { ⌜ i < obligationRoom ⌝ }
+    ensures { λ r. ⌜ r ≡ fieldAt obligationBits (drop 2 (now (node .entry))) i ⌝ }
 {
     let at = 2 + i / 4;
     if node.len() <= at {
         return 0;
     }
-    ((node[at] >> (24 - i % 4 * 8)) % 256) as u8
+    ((node[at] >> (24 - i % 4 * 8)) % policy_model::QUARTER) as u8
 }
 
 // Writes the first `count` obligations of a node to the front of the buffer.
 fn load_list(node: &[u32], count: usize, buf: &mut [u8])
-    requires { ⌜ (count ≤ 64) × (64 ≤ length (now buf)) ⌝ }
+    requires { ⌜ (count ≤ obligationRoom) × RoomToUnite 1 (now buf) ⌝ }
     ensures { λ r. ⌜ Listed (now (node .entry)) count (now (buf .entry)) (now (buf .exit)) ⌝ }
 {
     let mut i = 0;
@@ -125,7 +128,7 @@ fn load_list(node: &[u32], count: usize, buf: &mut [u8])
 
 // Writes the obligations of the node at `at` to the front of the buffer, and returns how many there are.
 fn load_obligations(words: &[u32], at: usize, buf: &mut [u8]) -> usize
-    requires { ⌜ 64 ≤ length (now buf) ⌝ }
+    requires { ⌜ RoomToUnite 1 (now buf) ⌝ }
     ensures { λ r. ⌜ Loaded (now (words .entry)) at (now (buf .entry)) (now (buf .exit)) r ⌝ }
 {
     if words.len() <= at {
@@ -153,28 +156,28 @@ fn holds(buf: &[u8], count: usize, obligation: u8) -> bool
 
 // Appends the obligation unless it is held, and returns the new count. A list of 64 holds every obligation, so the last test never fails.
 fn insert(buf: &mut [u8], count: usize, obligation: u8) -> usize
-    requires { ⌜ (count ≤ 64) × (64 ≤ length (now buf)) ⌝ }
+    requires { ⌜ (count ≤ obligationRoom) × RoomToUnite 1 (now buf) ⌝ }
     ensures { λ r. ⌜ Inserted count obligation (now (buf .entry)) (now (buf .exit)) r ⌝ }
 {
     if holds(buf, count, obligation) {
         return count;
     }
-    if count < OBLIGATIONS {
+    if count < OBLIGATION_ROOM {
         buf[count] = obligation;
         return count + 1;
     }
     count
 }
 
-// Appends to the first `count` bytes those of the `more` bytes from 64 on that are not held, one by one, and returns the new count.
+// Appends to the first `count` bytes those of the `more` bytes from the second room on that are not held, one by one, and returns the new count.
 fn union_obligations(buf: &mut [u8], count: usize, more: usize) -> usize
-    requires { ⌜ (count ≤ 64) × (more ≤ 64) × (128 ≤ length (now buf)) ⌝ }
+    requires { ⌜ (count ≤ obligationRoom) × (more ≤ obligationRoom) × RoomToUnite 2 (now buf) ⌝ }
     ensures { λ r. ⌜ United count more (now (buf .entry)) (now (buf .exit)) r ⌝ }
 {
     let mut n = count;
     let mut i = 0;
     while i < more {
-        let obligation = buf[OBLIGATIONS + i];
+        let obligation = buf[OBLIGATION_ROOM + i];
         n = insert(buf, n, obligation);
         i += 1;
     }
@@ -183,74 +186,71 @@ fn union_obligations(buf: &mut [u8], count: usize, more: usize) -> usize
 
 // Brings a decision's obligations to the front of its buffer, and returns how many there are.
 pub fn obligations(words: &[u32], decision: Decision, buf: &mut [u8]) -> usize
-    requires { ⌜ (decision .count ≤ 64) × (64 ≤ length (now buf)) ⌝ }
+    requires { ⌜ Few decision × RoomToUnite 1 (now buf) ⌝ }
     ensures { λ r. ⌜ Held (now (words .entry)) decision (now (buf .entry)) (now (buf .exit)) r ⌝ }
 {
-    let count = decision.count;
+    let count = decision.united;
     if count != 0 {
         return count;
     }
-    load_obligations(words, decision.held, buf)
+    load_obligations(words, decision.obligations, buf)
 }
 
 // Whether a permit is known to have no obligations, so that there is nothing to unite. The field that counts them stands in one place in all
 // nodes that have any, so the word is tested without its head.
-pub fn unobliged(words: &[u32], decision: Decision) -> bool
+fn unobliged(words: &[u32], decision: Decision) -> bool
     ensures { λ r. ⌜ (r ≡ true → Unobliged (now (words .entry)) decision) ⌝ }
 {
-    let at = decision.held;
-    if decision.count != 0 {
+    let at = decision.obligations;
+    if decision.united != 0 {
         return false;
     }
     if words.len() <= at {
         return true;
     }
-    words[at] / 1048576 % 128 == 0
+    policy_model::obligations_of(words[at]) == 0
 }
 
 // Unites the obligations of two permits at the front of the buffer, those of the permit so far first, and returns how many there are.
 fn unite(words: &[u32], sofar: Decision, incoming: Decision, buf: &mut [u8]) -> usize
-    requires { ⌜ (sofar .count ≤ 64) × (incoming .count ≤ 64) × (128 ≤ length (now buf)) ⌝ }
+    requires { ⌜ Few sofar × Few incoming × RoomToUnite 2 (now buf) ⌝ }
     ensures { λ r. ⌜ Both (now (words .entry)) sofar incoming (now (buf .entry)) (now (buf .exit)) r ⌝ }
 {
     let count = obligations(words, sofar, buf);
-    let more = obligations(words, incoming, &mut buf[OBLIGATIONS..]);
+    let more = obligations(words, incoming, &mut buf[OBLIGATION_ROOM..]);
     union_obligations(buf, count, more)
 }
 
-// The incoming decision of an arm, whose buffer starts at 64, as the decision so far, whose buffer is the front.
+// The incoming decision of an arm, whose buffer starts at the second room, as the decision so far, whose buffer is the front.
 pub fn keep(incoming: Decision, buf: &mut [u8]) -> Decision
-    requires { ⌜ (incoming .count ≤ 64) × (128 ≤ length (now buf)) ⌝ }
+    requires { ⌜ Few incoming × RoomToUnite 2 (now buf) ⌝ }
     ensures { λ r. ⌜ Kept incoming (now (buf .entry)) (now (buf .exit)) r ⌝ }
 {
-    let count = incoming.count;
+    let count = incoming.united;
     let mut at = 0;
     while at < count {
-        buf[at] = buf[OBLIGATIONS + at];
+        buf[at] = buf[OBLIGATION_ROOM + at];
         at += 1;
     }
     incoming
 }
 
-// The products of a permit.
-fn products(permit: Decision) -> Products
-    ensures { λ r. ⌜ r .bits ≡ permit .outcome ⌝ }
-{
-    Products {
-        bits: permit.outcome,
-    }
-}
-
-// Two permits under All. The permit so far has its buffer at the front, the incoming one from 64 on; the result has it at the front.
+// Two permits under All. The permit so far has its buffer at the front, the incoming one from the second room on; the result has it at the front.
 pub fn meet(words: &[u32], sofar: Decision, incoming: Decision, buf: &mut [u8]) -> Decision
-    requires { ⌜ (sofar .count ≤ 64) × (incoming .count ≤ 64) × (128 ≤ length (now buf)) ⌝ }
-    ensures { λ r. ⌜ Folded (meetPermit productSets) (now (words .entry)) (now (buf .entry)) (now (buf .exit)) sofar incoming r ⌝ }
+    requires { ⌜ Few sofar × Few incoming × RoomToUnite 2 (now buf) ⌝ }
+    ensures { λ r. ⌜ Folded meetPermit (now (words .entry)) (now (buf .entry)) (now (buf .exit)) sofar incoming r ⌝ }
 {
-    let both = products(sofar).meet(products(incoming));
-    if both.bits == sofar.outcome {
+    let earlier = Products {
+        bits: sofar.outcome,
+    };
+    let later = Products {
+        bits: incoming.outcome,
+    };
+    let both = earlier.meet(later);
+    if both.same(earlier) {
         return sofar;
     }
-    if both.bits == incoming.outcome {
+    if both.same(later) {
         return keep(incoming, buf);
     }
     permitted(both.bits, words.len())
@@ -258,13 +258,19 @@ pub fn meet(words: &[u32], sofar: Decision, incoming: Decision, buf: &mut [u8]) 
 
 // Two permits under Any, with the buffers as in `meet`.
 pub fn join(words: &[u32], sofar: Decision, incoming: Decision, buf: &mut [u8]) -> Decision
-    requires { ⌜ (sofar .count ≤ 64) × (incoming .count ≤ 64) × (128 ≤ length (now buf)) ⌝ }
-    ensures { λ r. ⌜ Folded (joinPermit productSets) (now (words .entry)) (now (buf .entry)) (now (buf .exit)) sofar incoming r ⌝ }
+    requires { ⌜ Few sofar × Few incoming × RoomToUnite 2 (now buf) ⌝ }
+    ensures { λ r. ⌜ Folded joinPermit (now (words .entry)) (now (buf .entry)) (now (buf .exit)) sofar incoming r ⌝ }
 {
-    let either = products(sofar).join(products(incoming));
+    let earlier = Products {
+        bits: sofar.outcome,
+    };
+    let later = Products {
+        bits: incoming.outcome,
+    };
+    let either = earlier.join(later);
     let none = words.len();
-    if either.bits == sofar.outcome {
-        if either.bits == incoming.outcome {
+    if either.same(earlier) {
+        if either.same(later) {
             if unobliged(words, incoming) {
                 sofar
             } else {
@@ -274,7 +280,7 @@ pub fn join(words: &[u32], sofar: Decision, incoming: Decision, buf: &mut [u8]) 
         } else {
             sofar
         }
-    } else if either.bits == incoming.outcome {
+    } else if either.same(later) {
         keep(incoming, buf)
     } else {
         let count = unite(words, sofar, incoming, buf);

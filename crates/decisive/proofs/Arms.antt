@@ -12,10 +12,9 @@ use Rattle.model.specs.Reading.{next, many, readCondition}
 use Rattle.laws.specs.FieldLaws.{Holds, fine, weaker}
 use Rattle.laws.specs.Lists.{Below, every-append}
 use Rattle.laws.specs.Size.{wordsCs}
+use Rattle.policy_model.specs.Span.{SkippedConditions}
 use Rattle.decisive.specs.declared.Named.{Named}
-use Rattle.decisive.specs.Span.{span}
 use Rattle.decisive.specs.Naming.{evalOf, Tells, Decisive, joinArm, evalArms, DecisiveArms, Says}
-use Rattle.decisive.proofs.Spanning.{span-read}
 use Rattle.decisive.proofs.Positions.{first-arm}
 
 -- The value of a list by its arms that are left, where those before them named fs and none of them stopped it.
@@ -120,7 +119,7 @@ module _ (T : Table) (stop : Bool) (words : List ℕ) (d at arms : ℕ) (out₀ 
     }
 
     -- it does: its facts are moved to the start, and the others are passed over
-    module _ (o : List ℕ) (r : Named) (said : Says stop (a .next + span (drop (a .next) words) (left - 1)) (a .count) r)
+    module _ (o : List ℕ) (r : Named) (end : ℕ) (over : SkippedConditions words (a .next) (left - 1) end) (said : Says stop end (a .count) r)
         (moved : take (a .count) o ≡ take (a .count) (drop count (take count out ++ (here ++ rest)))) where
       facts-are : take (r .count) o ≡ take (a .count) here
       facts-are = rw (said .count-is) (moved ∙ back-is)
@@ -131,9 +130,9 @@ module _ (T : Table) (stop : Bool) (words : List ℕ) (d at arms : ℕ) (out₀ 
             (λ cs. join-stop stop (a .satisfied) (take count out) (take (a .count) here) (evalArms stop T cs) halt)
             (weaker (many cnil ccons (readCondition d) (left - 1) (drop (a .next) words))
             (λ cs rest h. record { value-is = rw (said .satisfied-is, facts-are); next-is = omega (arith, said .next-is) })
-            (span-read d (left - 1) (drop (a .next) words))));
+            (over .ends d)));
         within = omega (arith, room, l, said .count-is);
-        few = omega (arith, i .few, s .few, said .next-is, said .count-is);
+        few = omega (arith, i .few, s .few, over .onward, said .next-is, said .count-is);
         below = rw facts-are (s .below);
       }
 

@@ -1,6 +1,5 @@
 -- Laws that several proofs cite; those of positions are for any walk over conditions.
 pub mod Positions
-mod Spanning
 mod Sliding
 mod Nodes
 mod Arms

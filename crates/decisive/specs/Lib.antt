@@ -1,3 +1,2 @@
-pub mod Span
 pub mod Naming
-pub mod Callers
+pub mod NamingLaws

@@ -7,7 +7,6 @@ ghost use lib.ListN.{length, take, drop};
 ghost use Rattle.model.specs.Facts.{factCount, tableOf};
 ghost use Rattle.model.specs.Condition.{cnil, ccons};
 ghost use Rattle.model.specs.Reading.{readCondition, many};
-ghost use Rattle.decisive.specs.Span.{armsOfWord, span};
 ghost use Rattle.decisive.specs.Naming.{Says, NamesFact, Decisive, DecisiveArms};
 
 // Whether a condition is satisfied, the position after it, and how many facts it names.
@@ -50,37 +49,6 @@ fn negated(inner: Named) -> Named
         next: inner.next,
         count: inner.count,
     }
-}
-
-// How many arms a condition has, by its word.
-fn arms_of_word(word: u32) -> u32
-    ensures { λ r. ⌜ r ≡ armsOfWord word ⌝ }
-{
-    match word / policy_model::KIND {
-        3 => 1,
-        4 => word % policy_model::KIND,
-        5 => word % policy_model::KIND,
-        _ => 0,
-    }
-}
-
-// Passes over `count` conditions from `at`: each word closes one and opens its arms. With as many open as words are left, all words are theirs.
-fn skip_conditions(words: &[u32], at: usize, count: u32) -> usize
-    ensures { λ r. ⌜ r ≡ at + span (drop at (now (words .entry))) count ⌝ }
-{
-    if words.len() < at {
-        return at;
-    }
-    let mut next = at;
-    let mut nodes = count as usize;
-    while nodes != 0 {
-        if words.len() - next <= nodes {
-            return words.len();
-        }
-        nodes = nodes - 1 + (arms_of_word(words[next]) as usize);
-        next += 1;
-    }
-    next
 }
 
 // Moves `count` facts from `from` on down to the start.
@@ -137,7 +105,7 @@ pub fn decisive_arm(words: &[u32], at: usize, depth: usize, facts: &[u8], out: &
     }
     let word = words[at];
     if word / policy_model::FACTS == policy_model::HAS {
-        return name_fact(word % 1024, at + 1, facts, out);
+        return name_fact(word % policy_model::FACTS, at + 1, facts, out);
     }
     decisive_facts(words, at, depth, facts, out)
 }
@@ -168,7 +136,7 @@ fn decisive_arms(
             slide(out, count, more);
             return Named {
                 satisfied: stop,
-                next: skip_conditions(words, next, left),
+                next: policy_model::skip_conditions(words, next, left),
                 count: more,
             };
         }

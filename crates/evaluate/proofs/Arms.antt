@@ -8,13 +8,13 @@ use native.Mathlib.Omega.{arith}
 use lib.ListN.{length, drop}
 use lib.Seq.{drop-drop}
 use Rattle.model.specs.Facts.{Table}
-use Rattle.model.specs.Outcome.{productSets}
 use Rattle.model.specs.Decision.{permits, denies}
 use Rattle.model.specs.Decision.{Decision as Decided}
 use Rattle.model.specs.Policy.{Policy, all, any, orElse, Policies, pnil, pcons}
-use Rattle.model.specs.Evaluate.{firstOf, evalPolicy, evalPolicies}
-use Rattle.model.specs.Consulted.{Consulted, afterPermit, afterDeny, read, readAll, readAny}
-use Rattle.model.specs.Reading.{Parsed, refuse, got, next, many, readPolicy}
+use Rattle.model.specs.Evaluate.{firstOf}
+use Rattle.model.specs.Consulted.{Consulted, afterPermit, afterDeny}
+use Rattle.model.specs.Reading.{Parsed, refuse, got, next, many}
+use Rattle.model.specs.Products.{Outcome, evalPolicy, evalPolicies, read, readAll, readAny, readPolicy}
 use Rattle.laws.specs.FieldLaws.{Holds, fine, nothing, weaker, then-holds, both-hold}
 use Rattle.laws.specs.Size.{words, wordss}
 use Rattle.policy_model.specs.declared.PolicyHead.the-variants.{All, Any, OrElse}
@@ -29,12 +29,14 @@ use Rattle.decision.specs.Meaning.{deniedAt, permitOf, decisionOf, past, Sound}
 use Rattle.decision.proofs.Standing.{denied-is, sound-denied}
 use Rattle.decision.proofs.Buffers.{deny-decision, deny-sound}
 use Rattle.evaluate.specs.declared.PolicyEval.{PolicyEval}
-use Rattle.evaluate.specs.Folding.{meetNext, allOf, joinNext, anyOf, all-is, any-is}
-use Rattle.evaluate.specs.Evaluating.{evalOf, Answers, EvaluatesP, EvaluatesBy, Folds, ArmsLeft, anyLeft}
+use Rattle.evaluate.specs.Folding.{meetNext, allOf, joinNext, anyOf}
+use Rattle.evaluate.specs.FoldingLaws.{all-is, any-is}
+use Rattle.evaluate.specs.Evaluating.{evalOf, Answers, EvaluatesP, EvaluatesBy, Folds}
 use Rattle.evaluate.proofs.Nodes.{node-holds}
+use Rattle.decision.specs.Room.{obligationRoom}
 
 -- ---- what a decision decides
-abbrev pub decides : Decided ℕ → Bool
+abbrev pub decides : Decided Outcome → Bool
 decides (permits p) = true
 decides (denies d) = false
 
@@ -47,21 +49,27 @@ unfolding decisionOf
 decides-as W T buf d = decides-at (d .permit) W T buf d
 
 -- ---- arms
--- What a list rule, of its first arm, leaves to the others.
-pub record LeavesTo (T : Table) (value others : Policies ℕ → Decided ℕ) (reads readOn : Policies ℕ → Consulted → Consulted) (p : Policy ℕ) (ps : Policies ℕ) : Type 0 where
-  pub value-is : value (pcons p ps) ≡ others ps
-  pub read-is : (l : Consulted) → reads (pcons p ps) l ≡ readOn ps (read productSets T p l)
+-- The answer for the arms that are left, given the decision so far and its buffer. Of arms that don't read nothing is said.
+pub record ArmsLeft (value : Policies Outcome → Decided Outcome) (reads : Policies Outcome → Consulted → Consulted) (T : Table) (W : List ℕ) (sofar : Decision) (before : List ℕ) (at depth : ℕ) (arms : ℕ) (s : Lent) (r : PolicyEval) (t : Lent) (buf : List ℕ) : Type 0 where
+  pub few : r .decision .united ≤ obligationRoom
+  pub says : Sound W before sofar →
+      Holds (λ ps rest. Answers T W (value ps) (at + wordss ps) (reads ps) s r t buf) (many pnil pcons (readPolicy true depth) arms (drop at W))
 
-pub arms-more : (p : List ℕ → Parsed (Policy ℕ)) (arms : ℕ) (ws : List ℕ) → (arms ≡ 0 → ⊥) →
+-- What a list rule, of its first arm, leaves to the others.
+pub record LeavesTo (T : Table) (value others : Policies Outcome → Decided Outcome) (reads readOn : Policies Outcome → Consulted → Consulted) (p : Policy Outcome) (ps : Policies Outcome) : Type 0 where
+  pub value-is : value (pcons p ps) ≡ others ps
+  pub read-is : (l : Consulted) → reads (pcons p ps) l ≡ readOn ps (read T p l)
+
+pub arms-more : (p : List ℕ → Parsed (Policy Outcome)) (arms : ℕ) (ws : List ℕ) → (arms ≡ 0 → ⊥) →
     many pnil pcons p arms ws ≡ next (p ws) (λ a vs. next (many pnil pcons p (arms - 1) vs) (λ ps us. got (pcons a ps) us))
 arms-more p zero ws f = absurd (f refl)
 arms-more p (suc arms) ws f = rw sub-one
 
 -- The rule by the answer a to the first arm, with its buffer, and the answer for the others, which may follow the same rule or be decided.
-module _ (T : Table) (value others : Policies ℕ → Decided ℕ) (reads readOn : Policies ℕ → Consulted → Consulted) (W : List ℕ) (depth : ℕ) (s m t : Lent) (a r : PolicyEval)
+module _ (T : Table) (value others : Policies Outcome → Decided Outcome) (reads readOn : Policies Outcome → Consulted → Consulted) (W : List ℕ) (depth : ℕ) (s m t : Lent) (a r : PolicyEval)
     (sofar now : Decision) (before part mid buf : List ℕ) where
-  first-of : (at : ℕ) (p : Policy ℕ) (ps : Policies ℕ) → LeavesTo T value others reads readOn p ps →
-      Answers T W (evalPolicy productSets T p) (at + words p) (read productSets T p) s a m part →
+  first-of : (at : ℕ) (p : Policy Outcome) (ps : Policies Outcome) → LeavesTo T value others reads readOn p ps →
+      Answers T W (evalPolicy T p) (at + words p) (read T p) s a m part →
       Answers T W (others ps) (a .next + wordss ps) (readOn ps) m r t buf →
       Answers T W (value (pcons p ps)) (at + wordss (pcons p ps)) (reads (pcons p ps)) s r t buf
   first-of at p ps v h g = record {
@@ -73,10 +81,10 @@ module _ (T : Table) (value others : Policies ℕ → Decided ℕ) (reads readOn
 
   pub arm-first : (at arms : ℕ) → (arms ≡ 0 → ⊥) → EvaluatesP T W at depth s a m part →
       (Sound W before sofar → Sound W part (a .decision) → Sound W mid now) →
-      ((p : Policy ℕ) (ps : Policies ℕ) → Sound W before sofar → Sound W part (a .decision) → decisionOf W T part (a .decision) ≡ evalPolicy productSets T p → LeavesTo T value others reads readOn p ps) →
+      ((p : Policy Outcome) (ps : Policies Outcome) → Sound W before sofar → Sound W part (a .decision) → decisionOf W T part (a .decision) ≡ evalPolicy T p → LeavesTo T value others reads readOn p ps) →
       ArmsLeft others readOn T W now mid (a .next) depth (arms - 1) m r t buf → ArmsLeft value reads T W sofar before at depth arms s r t buf
   arm-first at arms f first sound v rest =
-      let one = readPolicy (productSets .value) true depth in
+      let one = readPolicy true depth in
       record {
         few = rest .few;
         says = λ z. rw (arms-more one arms (drop at W) f)
@@ -89,8 +97,8 @@ module _ (T : Table) (value others : Policies ℕ → Decided ℕ) (reads readOn
       }
 
 -- No arm is left: the decision so far is the answer.
-pub arms-none : (T : Table) (value : Policies ℕ → Decided ℕ) (reads : Policies ℕ → Consulted → Consulted) (W : List ℕ) (sofar : Decision) (before : List ℕ) (at depth : ℕ) (arms count : ℕ) (s : Lent) →
-    arms ≡ 0 → sofar .count ≤ 64 → decisionOf W T before sofar ≡ value pnil → ((l : Consulted) → reads pnil l ≡ l) →
+pub arms-none : (T : Table) (value : Policies Outcome → Decided Outcome) (reads : Policies Outcome → Consulted → Consulted) (W : List ℕ) (sofar : Decision) (before : List ℕ) (at depth : ℕ) (arms count : ℕ) (s : Lent) →
+    arms ≡ 0 → sofar .united ≤ obligationRoom → decisionOf W T before sofar ≡ value pnil → ((l : Consulted) → reads pnil l ≡ l) →
     ArmsLeft value reads T W sofar before at depth arms s (evalOf sofar at count) s before
 arms-none T value reads W sofar before at depth arms count s z few v e = record {
   few = few;
@@ -103,81 +111,85 @@ unfolding Skipped
 skipped size at n (refuse k) h = nothing
 skipped size at n (got a rest) h = fine h
 
-pub arms-passed : (T : Table) (W : List ℕ) (d : Decision) (buf : List ℕ) (at depth : ℕ) (arms next count : ℕ) (s : Lent) → d .count ≤ 64 →
-    ((depth : ℕ) (res : Bool) → Skipped wordss at (many pnil pcons (readPolicy (productSets .value) res depth) arms (drop at W)) next) →
+pub arms-passed : (T : Table) (W : List ℕ) (d : Decision) (buf : List ℕ) (at depth : ℕ) (arms next count : ℕ) (s : Lent) → d .united ≤ obligationRoom →
+    ((depth : ℕ) (res : Bool) → Skipped wordss at (many pnil pcons (readPolicy res depth) arms (drop at W)) next) →
     ArmsLeft (λ _. decisionOf W T buf d) (λ _ l. l) T W d buf at depth arms s (evalOf d next count) s buf
 arms-passed T W d buf at depth arms next count s few k = record {
   few = few;
-  says = λ sound. weaker (many pnil pcons (readPolicy (productSets .value) true depth) arms (drop at W))
+  says = λ sound. weaker (many pnil pcons (readPolicy true depth) arms (drop at W))
       (λ ps rest e. record { decision-is = refl; sound = sound; next-is = e; log = consults-none })
-      (skipped wordss at next (many pnil pcons (readPolicy (productSets .value) true depth) arms (drop at W)) (k depth true));
+      (skipped wordss at next (many pnil pcons (readPolicy true depth) arms (drop at W)) (k depth true));
 }
 
 -- ---- All: a permit is met with those before it, a deny decides
-all-more-at : (x y : Decided ℕ) (ds : List (Decided ℕ)) → decides y ≡ true → allOf x (y ∷ ds) ≡ allOf (meetNext x y) ds
+all-more-at : (x y : Decided Outcome) (ds : List (Decided Outcome)) → decides y ≡ true → allOf x (y ∷ ds) ≡ allOf (meetNext x y) ds
 all-more-at x (permits q) ds e = refl
 all-more-at x (denies d) ds e = cc
 
-all-stop-at : (x y : Decided ℕ) (ds : List (Decided ℕ)) → decides y ≡ false → allOf x (y ∷ ds) ≡ y
+all-stop-at : (x y : Decided Outcome) (ds : List (Decided Outcome)) → decides y ≡ false → allOf x (y ∷ ds) ≡ y
 all-stop-at x (permits q) ds e = cc
 all-stop-at x (denies d) ds e = refl
 
-after-permit : (x : Decided ℕ) (here on : Consulted) → decides x ≡ true → afterPermit x here on ≡ on
+after-permit : (x : Decided Outcome) (here on : Consulted) → decides x ≡ true → afterPermit x here on ≡ on
 after-permit (permits p) here on e = refl
 after-permit (denies d) here on e = cc
 
-after-permit-stop : (x : Decided ℕ) (here on : Consulted) → decides x ≡ false → afterPermit x here on ≡ here
+after-permit-stop : (x : Decided Outcome) (here on : Consulted) → decides x ≡ false → afterPermit x here on ≡ here
 after-permit-stop (permits p) here on e = cc
 after-permit-stop (denies d) here on e = refl
 
--- The rule of a decision so far, with its buffer.
-abbrev pub allLeft : Table → List ℕ → Decision → List ℕ → Policies ℕ → Decided ℕ
-allLeft T W sofar before ps = allOf (decisionOf W T before sofar) (evalPolicies productSets T ps)
+module _ (T : Table) (W : List ℕ) where
+  -- The rules of a decision so far, with its buffer.
+  abbrev pub allLeft : Decision → List ℕ → Policies Outcome → Decided Outcome
+  allLeft sofar before ps = allOf (decisionOf W T before sofar) (evalPolicies T ps)
+
+  abbrev pub anyLeft : Bool → Decision → List ℕ → Policies Outcome → Decided Outcome
+  anyLeft begun sofar before ps = anyOf begun (decisionOf W T before sofar) (evalPolicies T ps)
 
 module _ (T : Table) (W : List ℕ) (depth : ℕ) (s m t : Lent) (a r : PolicyEval) (sofar : Decision) (before part buf : List ℕ) (at arms : ℕ) (some : arms ≡ 0 → ⊥)
     (first : EvaluatesP T W at depth s a m part) where
   pub all-more : (now : Decision) (mid : List ℕ) → a .decision .permit ≡ true → Folds meetNext W sofar before (a .decision) part now mid →
-      ArmsLeft (allLeft T W now mid) (readAll productSets T) T W now mid (a .next) depth (arms - 1) m r t buf →
-      ArmsLeft (allLeft T W sofar before) (readAll productSets T) T W sofar before at depth arms s r t buf
+      ArmsLeft (allLeft T W now mid) (readAll T) T W now mid (a .next) depth (arms - 1) m r t buf →
+      ArmsLeft (allLeft T W sofar before) (readAll T) T W sofar before at depth arms s r t buf
   all-more now mid q f rest =
-      arm-first T (allLeft T W sofar before) (allLeft T W now mid) (readAll productSets T) (readAll productSets T) W depth s m t a r sofar now before part mid buf at arms some first (f .sound)
+      arm-first T (allLeft T W sofar before) (allLeft T W now mid) (readAll T) (readAll T) W depth s m t a r sofar now before part mid buf at arms some first (f .sound)
       (λ p ps z i e.
-      let x = evalPolicy productSets T p in
+      let x = evalPolicy T p in
       let permit : decides x ≡ true = ap decides (sym e) ∙ decides-as W T part (a .decision) ∙ q in
       record {
         value-is =
-            all-more-at (decisionOf W T before sofar) x (evalPolicies productSets T ps) permit
-            ∙ ap (λ y. allOf (meetNext (decisionOf W T before sofar) y) (evalPolicies productSets T ps)) (sym e)
-            ∙ ap (λ y. allOf y (evalPolicies productSets T ps)) (sym (f .folded z i T));
-        read-is = λ l. after-permit x (read productSets T p l) (readAll productSets T ps (read productSets T p l)) permit;
+            all-more-at (decisionOf W T before sofar) x (evalPolicies T ps) permit
+            ∙ ap (λ y. allOf (meetNext (decisionOf W T before sofar) y) (evalPolicies T ps)) (sym e)
+            ∙ ap (λ y. allOf y (evalPolicies T ps)) (sym (f .folded z i T));
+        read-is = λ l. after-permit x (read T p l) (readAll T ps (read T p l)) permit;
       })
       rest
 
   pub all-stop : (mid : List ℕ) → a .decision .permit ≡ false →
       ArmsLeft (λ _. decisionOf W T mid (a .decision)) (λ _ l. l) T W (a .decision) mid (a .next) depth (arms - 1) m r t buf →
-      ArmsLeft (allLeft T W sofar before) (readAll productSets T) T W sofar before at depth arms s r t buf
+      ArmsLeft (allLeft T W sofar before) (readAll T) T W sofar before at depth arms s r t buf
   all-stop mid q rest =
-      arm-first T (allLeft T W sofar before) (λ _. decisionOf W T mid (a .decision)) (readAll productSets T) (λ _ l. l) W depth s m t a r sofar (a .decision) before part mid buf at arms some first
+      arm-first T (allLeft T W sofar before) (λ _. decisionOf W T mid (a .decision)) (readAll T) (λ _ l. l) W depth s m t a r sofar (a .decision) before part mid buf at arms some first
       (λ _ i. deny-sound W part mid (a .decision) q i)
       (λ p ps z i e.
-      let x = evalPolicy productSets T p in
+      let x = evalPolicy T p in
       let denied : decides x ≡ false = ap decides (sym e) ∙ decides-as W T part (a .decision) ∙ q in
       record {
-        value-is = all-stop-at (decisionOf W T before sofar) x (evalPolicies productSets T ps) denied ∙ sym e ∙ sym (deny-decision W part mid (a .decision) q i T);
-        read-is = λ l. after-permit-stop x (read productSets T p l) (readAll productSets T ps (read productSets T p l)) denied;
+        value-is = all-stop-at (decisionOf W T before sofar) x (evalPolicies T ps) denied ∙ sym e ∙ sym (deny-decision W part mid (a .decision) q i T);
+        read-is = λ l. after-permit-stop x (read T p l) (readAll T ps (read T p l)) denied;
       })
       rest
 
   -- ---- Any: every arm is read
   pub any-more : (begun : Bool) (now : Decision) (mid : List ℕ) → Folds (joinNext begun) W sofar before (a .decision) part now mid →
-      ArmsLeft (anyLeft T W true now mid) (readAny productSets T) T W now mid (a .next) depth (arms - 1) m r t buf →
-      ArmsLeft (anyLeft T W begun sofar before) (readAny productSets T) T W sofar before at depth arms s r t buf
+      ArmsLeft (anyLeft T W true now mid) (readAny T) T W now mid (a .next) depth (arms - 1) m r t buf →
+      ArmsLeft (anyLeft T W begun sofar before) (readAny T) T W sofar before at depth arms s r t buf
   any-more begun now mid f rest =
-      arm-first T (anyLeft T W begun sofar before) (anyLeft T W true now mid) (readAny productSets T) (readAny productSets T) W depth s m t a r sofar now before part mid buf at arms some first (f .sound)
+      arm-first T (anyLeft T W begun sofar before) (anyLeft T W true now mid) (readAny T) (readAny T) W depth s m t a r sofar now before part mid buf at arms some first (f .sound)
       (λ p ps z i e. record {
         value-is =
-            ap (λ y. anyOf true (joinNext begun (decisionOf W T before sofar) y) (evalPolicies productSets T ps)) (sym e)
-            ∙ ap (λ y. anyOf true y (evalPolicies productSets T ps)) (sym (f .folded z i T));
+            ap (λ y. anyOf true (joinNext begun (decisionOf W T before sofar) y) (evalPolicies T ps)) (sym e)
+            ∙ ap (λ y. anyOf true y (evalPolicies T ps)) (sym (f .folded z i T));
         read-is = λ l. refl;
       })
       rest
@@ -187,26 +199,26 @@ module _ (T : Table) (W : List ℕ) (at depth : ℕ) (n : ℕ) (s : Lent) (r : P
   no-arms : Sound W before (deniedAt none none)
   no-arms = sound-denied W before none none (past (omega arith)) (omega arith)
 
-  pub all-node : ArmsLeft (allLeft T W (deniedAt none none) before) (readAll productSets T) T W (deniedAt none none) before (at + 1) depth n s r t buf → EvaluatesBy (All n) T W at depth s r t buf
+  pub all-node : ArmsLeft (allLeft T W (deniedAt none none) before) (readAll T) T W (deniedAt none none) before (at + 1) depth n s r t buf → EvaluatesBy (All n) T W at depth s r t buf
   unfolding policyNode
   all-node a = record {
     few = a .few;
     says = λ e. node-holds W at depth (All n) lt e
-        (then-holds (many pnil pcons (readPolicy (productSets .value) true depth) n (drop (at + 1) W)) (λ ts vs. got (all ts) vs) (a .says no-arms) (λ ps rest h. fine (record {
-          decision-is = h .decision-is ∙ ap (λ d. allOf d (evalPolicies productSets T ps)) (denied-is W T before none (omega arith)) ∙ sym (all-is (evalPolicies productSets T ps));
+        (then-holds (many pnil pcons (readPolicy true depth) n (drop (at + 1) W)) (λ ts vs. got (all ts) vs) (a .says no-arms) (λ ps rest h. fine (record {
+          decision-is = h .decision-is ∙ ap (λ d. allOf d (evalPolicies T ps)) (denied-is W T before none (omega arith)) ∙ sym (all-is (evalPolicies T ps));
           sound = h .sound;
           next-is = omega (arith, h .next-is);
           log = consults-as (λ l. refl) (h .log);
         })));
   }
 
-  pub any-node : ArmsLeft (anyLeft T W false (deniedAt none none) before) (readAny productSets T) T W (deniedAt none none) before (at + 1) depth n s r t buf → EvaluatesBy (Any n) T W at depth s r t buf
+  pub any-node : ArmsLeft (anyLeft T W false (deniedAt none none) before) (readAny T) T W (deniedAt none none) before (at + 1) depth n s r t buf → EvaluatesBy (Any n) T W at depth s r t buf
   unfolding policyNode
   any-node a = record {
     few = a .few;
     says = λ e. node-holds W at depth (Any n) lt e
-        (then-holds (many pnil pcons (readPolicy (productSets .value) true depth) n (drop (at + 1) W)) (λ ts vs. got (any ts) vs) (a .says no-arms) (λ ps rest h. fine (record {
-          decision-is = h .decision-is ∙ ap (λ d. anyOf false d (evalPolicies productSets T ps)) (denied-is W T before none (omega arith)) ∙ sym (any-is (evalPolicies productSets T ps));
+        (then-holds (many pnil pcons (readPolicy true depth) n (drop (at + 1) W)) (λ ts vs. got (any ts) vs) (a .says no-arms) (λ ps rest h. fine (record {
+          decision-is = h .decision-is ∙ ap (λ d. anyOf false d (evalPolicies T ps)) (denied-is W T before none (omega arith)) ∙ sym (any-is (evalPolicies T ps));
           sound = h .sound;
           next-is = omega (arith, h .next-is);
           log = consults-as (λ l. refl) (h .log);
@@ -214,34 +226,34 @@ module _ (T : Table) (W : List ℕ) (at depth : ℕ) (n : ℕ) (s : Lent) (r : P
   }
 
 -- ---- OrElse: the fallback counts only where the primary denies
-first-permits : (x y : Decided ℕ) → decides x ≡ true → firstOf x y ≡ x
+first-permits : (x y : Decided Outcome) → decides x ≡ true → firstOf x y ≡ x
 first-permits (permits p) y e = refl
 first-permits (denies d) y e = cc
 
-first-denies : (x y : Decided ℕ) → decides x ≡ false → firstOf x y ≡ y
+first-denies : (x y : Decided Outcome) → decides x ≡ false → firstOf x y ≡ y
 first-denies (permits p) y e = cc
 first-denies (denies d) y e = refl
 
-after-deny : (x : Decided ℕ) (here on : Consulted) → decides x ≡ false → afterDeny x here on ≡ on
+after-deny : (x : Decided Outcome) (here on : Consulted) → decides x ≡ false → afterDeny x here on ≡ on
 after-deny (permits p) here on e = cc
 after-deny (denies d) here on e = refl
 
-after-deny-stop : (x : Decided ℕ) (here on : Consulted) → decides x ≡ true → afterDeny x here on ≡ here
+after-deny-stop : (x : Decided Outcome) (here on : Consulted) → decides x ≡ true → afterDeny x here on ≡ here
 after-deny-stop (permits p) here on e = refl
 after-deny-stop (denies d) here on e = cc
 
 -- One policy that is passed over.
-pub one-passed : (at n : ℕ) (q : Parsed (Policy ℕ)) →
+pub one-passed : (at n : ℕ) (q : Parsed (Policy Outcome)) →
     Holds (λ ps rest. n ≡ at + wordss ps) (next q (λ p vs. next (got pnil vs) (λ ps us. got (pcons p ps) us))) → Holds (λ p rest. n ≡ at + words p) q
 one-passed at n (refuse k) h = nothing
 one-passed at n (got p rest) h = fine (omega (arith, h .it))
 
 module _ (T : Table) (W : List ℕ) (at depth : ℕ) (s m : Lent) (a : PolicyEval) (mid : List ℕ) (lt : at < length W) (first : EvaluatesP T W (at + 1) depth s a m mid) where
-  abbrev one : List ℕ → Parsed (Policy ℕ)
-  one = readPolicy (productSets .value) true depth
+  abbrev one : List ℕ → Parsed (Policy Outcome)
+  one = readPolicy true depth
 
   pub or-permits : (next : ℕ) → a .decision .permit ≡ true →
-      ((depth : ℕ) (res : Bool) → Skipped wordss (a .next) (many pnil pcons (readPolicy (productSets .value) res depth) 1 (drop (a .next) W)) next) → EvaluatesBy OrElse T W at depth s (evalOf (a .decision) next (a .count)) m mid
+      ((depth : ℕ) (res : Bool) → Skipped wordss (a .next) (many pnil pcons (readPolicy res depth) 1 (drop (a .next) W)) next) → EvaluatesBy OrElse T W at depth s (evalOf (a .decision) next (a .count)) m mid
   unfolding policyNode
   or-permits end q k = record {
     few = first .few;
@@ -249,13 +261,13 @@ module _ (T : Table) (W : List ℕ) (at depth : ℕ) (s m : Lent) (a : PolicyEva
         (then-holds (one (drop (at + 1) W)) (λ x vs. next (one vs) (λ y us. got (orElse x y) us))
         (both-hold (one (drop (at + 1) W)) (first .says true) (policy-leaves true depth (drop (at + 1) W))) (λ x vs h.
         let after : drop (a .next) W ≡ vs = ap (λ n. drop n W) (h .0 .next-is) ∙ sym (drop-drop (words x) (at + 1) W) ∙ h .1 in
-        let permit : decides (evalPolicy productSets T x) ≡ true = ap decides (sym (h .0 .decision-is)) ∙ decides-as W T mid (a .decision) ∙ q in
+        let permit : decides (evalPolicy T x) ≡ true = ap decides (sym (h .0 .decision-is)) ∙ decides-as W T mid (a .decision) ∙ q in
         then-holds (one vs) (λ y us. got (orElse x y) us)
         (subst (λ ws. Holds (λ y _. end ≡ a .next + words y) (one ws)) after (one-passed (a .next) end (one (drop (a .next) W)) (skipped wordss (a .next) end (many pnil pcons one 1 (drop (a .next) W)) (k depth true)))) (λ y us g. fine (record {
-          decision-is = h .0 .decision-is ∙ sym (first-permits (evalPolicy productSets T x) (evalPolicy productSets T y) permit);
+          decision-is = h .0 .decision-is ∙ sym (first-permits (evalPolicy T x) (evalPolicy T y) permit);
           sound = h .0 .sound;
           next-is = omega (arith, h .0 .next-is, g);
-          log = consults-as (λ l. after-deny-stop (evalPolicy productSets T x) (read productSets T x l) (read productSets T y (read productSets T x l)) permit) (h .0 .log);
+          log = consults-as (λ l. after-deny-stop (evalPolicy T x) (read T x l) (read T y (read T x l)) permit) (h .0 .log);
         }))));
   }
 
@@ -267,24 +279,20 @@ module _ (T : Table) (W : List ℕ) (at depth : ℕ) (s m : Lent) (a : PolicyEva
         (then-holds (one (drop (at + 1) W)) (λ x vs. next (one vs) (λ y us. got (orElse x y) us))
         (both-hold (one (drop (at + 1) W)) (first .says true) (policy-leaves true depth (drop (at + 1) W))) (λ x vs h.
         let after : drop (a .next) W ≡ vs = ap (λ n. drop n W) (h .0 .next-is) ∙ sym (drop-drop (words x) (at + 1) W) ∙ h .1 in
-        let denied : decides (evalPolicy productSets T x) ≡ false = ap decides (sym (h .0 .decision-is)) ∙ decides-as W T mid (a .decision) ∙ q in
+        let denied : decides (evalPolicy T x) ≡ false = ap decides (sym (h .0 .decision-is)) ∙ decides-as W T mid (a .decision) ∙ q in
         then-holds (one vs) (λ y us. got (orElse x y) us)
-        (subst (λ ws. Holds (λ y _. Answers T W (evalPolicy productSets T y) (a .next + words y) (read productSets T y) m b t buf) (one ws)) after (second .says true)) (λ y us g. fine (record {
-          decision-is = g .decision-is ∙ sym (first-denies (evalPolicy productSets T x) (evalPolicy productSets T y) denied);
+        (subst (λ ws. Holds (λ y _. Answers T W (evalPolicy T y) (a .next + words y) (read T y) m b t buf) (one ws)) after (second .says true)) (λ y us g. fine (record {
+          decision-is = g .decision-is ∙ sym (first-denies (evalPolicy T x) (evalPolicy T y) denied);
           sound = g .sound;
           next-is = omega (arith, h .0 .next-is, g .next-is);
-          log = consults-as (λ l. after-deny (evalPolicy productSets T x) (read productSets T x l) (read productSets T y (read productSets T x l)) denied) (consults-then (h .0 .log) (g .log));
+          log = consults-as (λ l. after-deny (evalPolicy T x) (read T x l) (read T y (read T x l)) denied) (consults-then (h .0 .log) (g .log));
         }))));
   }
 
--- ---- a loop over arms: what was lent, s and buf₀, is u and buf now, as long as it was; and what is known of the arms that are left
-pub record Going (Known : Type 0) (s u : Lent) (buf₀ buf : List ℕ) : Type 0 where
+-- ---- a loop over arms: what was lent is s and buf₀, and is u and buf now; what answers for the arms that are left answers for all
+pub record Going (Left Whole : PolicyEval → Lent → List ℕ → Type 0) (s u : Lent) (sofar : Decision) (buf₀ buf : List ℕ) : Type 0 where
   pub entries-long : length (u .entries) ≡ length (s .entries)
   pub seen-long : length (u .seen) ≡ length (s .seen)
   pub buf-long : length buf ≡ length buf₀
-  pub known : Known
-
--- Under All, that what answers for the arms that are left answers for all.
-pub record Leads (Left Whole : PolicyEval → Lent → List ℕ → Type 0) (sofar : Decision) : Type 0 where
-  pub few : sofar .count ≤ 64
+  pub few : sofar .united ≤ obligationRoom
   pub goes : (r : PolicyEval) (t : Lent) (end : List ℕ) → Left r t end → Whole r t end

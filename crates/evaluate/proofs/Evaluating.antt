@@ -8,47 +8,46 @@ use native.Mathlib.Omega.{arith}
 use lib.ListN.{length, drop, getD, length-drop}
 use lib.Seq.{drop-drop, getD-drop}
 use Rattle.model.specs.Facts.{Table}
-use Rattle.model.specs.Outcome.{productSets}
 use Rattle.model.specs.Condition.{Condition, satisfied, unsatisfied, evalCondition}
 use Rattle.model.specs.Condition as model
-use Rattle.model.specs.Consulted.{read, readC}
+use Rattle.model.specs.Consulted.{readC}
 use Rattle.model.specs.Policy.{Policy, Grant as Clause, grant, stored}
 use Rattle.model.specs.Decision.{permits, denies}
-use Rattle.model.specs.Evaluate.{evalPolicy}
-use Rattle.model.specs.Reading.{refuse, got, readCondition, readPolicy}
+use Rattle.model.specs.Reading.{refuse, got, readCondition}
+use Rattle.model.specs.Products.{Outcome, read, evalPolicy, readPolicy, policyAt}
 use Rattle.laws.specs.FieldLaws.{Holds, fine, nothing, weaker}
 use Rattle.laws.specs.Size.{wordsC, words}
 use Rattle.policy_model.specs.declared.PolicyHead.{PolicyHead}
 use Rattle.policy_model.specs.declared.PolicyHead.the-variants.{Permit, Deny, Grant, PermitWithTrace, DenyWithTrace, BadKind, BadField}
 use Rattle.policy_model.specs.Heads.{policyHead, policyNode}
 use Rattle.policy_model.specs.HeadLaws.{policy-deep, permit-word}
-use Rattle.policy_model.specs.Plain.{plainGrant, plain-reads}
 use Rattle.policy_model.proofs.Checking.{no-word}
 use Rattle.condition.specs.declared.ConditionEval.{ConditionEval}
 use Rattle.condition.specs.Listing.{Lent, lent}
-use Rattle.condition.specs.Evaluating.{isSatisfied, Evaluated, EvaluatesC, EvaluatesHas}
+use Rattle.condition.specs.Evaluating.{isSatisfied, Evaluated, EvaluatesC}
 use Rattle.condition.proofs.Listing.{consults-none, consults-as}
 use Rattle.decision.specs.Nodes.{nodeAt}
 use Rattle.decision.specs.Meaning.{deniedAt, permittedAt, decisionOf, past, reads, Sound}
 use Rattle.decision.proofs.Standing.{node-reads, as-permit, denied-is, denied-grant, denied-stored, permitted-is, permitted-grant, permitted-stored, sound-denied, sound-permitted}
 use Rattle.evaluate.specs.declared.PolicyEval.{PolicyEval}
 use Rattle.evaluate.specs.Evaluating.{evalOf, grantedAt, Answers, EvaluatesP, EvaluatesBy}
-use Rattle.evaluate.proofs.Nodes.{held-at, in-fewer, in-sheet, node-holds, node-knows, grant-reads, permit-reads, deny-reads}
+use Rattle.evaluate.proofs.Nodes.{held-at, in-sheet, node-holds, node-knows, grant-reads, permit-reads, deny-reads}
+use Rattle.decision.specs.Room.{obligationRoom}
 
 -- The answer to a policy at `at`.
-abbrev pub Answered : Table → List ℕ → ℕ → Lent → PolicyEval → Lent → List ℕ → Policy ℕ → List ℕ → Type 0
-Answered T W at s r t buf p rest = Answers T W (evalPolicy productSets T p) (at + words p) (read productSets T p) s r t buf
+abbrev pub Answered : Table → List ℕ → ℕ → Lent → PolicyEval → Lent → List ℕ → Policy Outcome → List ℕ → Type 0
+Answered T W at s r t buf p rest = Answers T W (evalPolicy T p) (at + words p) (read T p) s r t buf
 
-pub nothing-there : (res : Bool) (depth : ℕ) → readPolicy (productSets .value) res depth [] ≡ refuse 6
+pub nothing-there : (res : Bool) (depth : ℕ) → readPolicy res depth [] ≡ refuse 6
 nothing-there res zero = refl
 nothing-there res (suc depth) = refl
 
-pub no-levels : {Q : Policy ℕ → List ℕ → Type 0} (res : Bool) (ws : List ℕ) → Holds Q (readPolicy (productSets .value) res zero ws)
+pub no-levels : {Q : Policy Outcome → List ℕ → Type 0} (res : Bool) (ws : List ℕ) → Holds Q (readPolicy res zero ws)
 no-levels res [] = nothing
 no-levels res (w ∷ ws) = rw (policy-deep res w ws) nothing
 
-pub one-level : {Q : Policy ℕ → List ℕ → Type 0} (depth : ℕ) (ws : List ℕ) → (depth ≡ 0 → ⊥) →
-    Holds Q (readPolicy (productSets .value) true (suc (depth - 1)) ws) → Holds Q (readPolicy (productSets .value) true depth ws)
+pub one-level : {Q : Policy Outcome → List ℕ → Type 0} (depth : ℕ) (ws : List ℕ) → (depth ≡ 0 → ⊥) →
+    Holds Q (readPolicy true (suc (depth - 1)) ws) → Holds Q (readPolicy true depth ws)
 one-level zero ws f h = absurd (f refl)
 one-level (suc depth) ws f h = rw sub-one at h
 
@@ -120,14 +119,14 @@ eval-permit-word T W at (suc depth) count entries seen buf lt e =
 
 -- ---- a grant
 -- The answer to a grant at `at`, by the answer to its condition.
-module _ (T : Table) (W : List ℕ) (at : ℕ) (buf : List ℕ) (g : Clause ℕ) (c : Condition) (rest : List ℕ) (node : nodeAt W at ≡ got (grant g c) rest) where
-  granted-is : (b : Bool) (x : model.ConditionEval) → evalCondition T c ≡ x → b ≡ isSatisfied x → decisionOf W T buf (grantedAt b (g .outcome) at (length W)) ≡ evalPolicy productSets T (grant g c)
+module _ (T : Table) (W : List ℕ) (at : ℕ) (buf : List ℕ) (g : Clause Outcome) (c : Condition) (rest : List ℕ) (node : nodeAt W at ≡ got (grant g c) rest) where
+  pub granted-is : (b : Bool) (x : model.ConditionEval) → evalCondition T c ≡ x → b ≡ isSatisfied x → decisionOf W T buf (grantedAt b (g .outcome) at (length W)) ≡ evalPolicy T (grant g c)
   granted-is true (satisfied fs) e y = permitted-grant W T buf at g c rest fs node e
   granted-is true (unsatisfied fs) e y = cc
   granted-is false (satisfied fs) e y = cc
   granted-is false (unsatisfied fs) e y = denied-grant W T buf at (length W) g c rest fs node e
 
-  granted-sound : (b : Bool) → Sound W buf (grantedAt b (g .outcome) at (length W))
+  pub granted-sound : (b : Bool) → Sound W buf (grantedAt b (g .outcome) at (length W))
   granted-sound true = sound-permitted W buf (g .outcome) at (reads (grant g c) rest node)
   granted-sound false = sound-denied W buf at (length W) (reads (grant g c) rest node) (omega arith)
 
@@ -140,13 +139,13 @@ module _ (T : Table) (W : List ℕ) (at : ℕ) (buf : List ℕ) (g : Clause ℕ)
     log = consults-as (λ l. refl) (h .log);
   }
 
-granted-few : (b : Bool) (o at none : ℕ) → grantedAt b o at none .count ≤ 64
+pub granted-few : (b : Bool) (o at none : ℕ) → grantedAt b o at none .united ≤ obligationRoom
 granted-few true o at none = omega arith
 granted-few false o at none = omega arith
 
 module _ (T : Table) (W : List ℕ) (at depth : ℕ) (hidden : Bool) (n o : ℕ) (lt : at < length W) (deep : depth < 32) where
   -- A grant that ends early.
-  pub grant-short : (s : Lent) (r : PolicyEval) (buf : List ℕ) → r .decision .count ≤ 64 → length W - at < 2 + (n + 3) / 4 → EvaluatesBy (Grant hidden n o) T W at depth s r s buf
+  pub grant-short : (s : Lent) (r : PolicyEval) (buf : List ℕ) → r .decision .united ≤ obligationRoom → length W - at < 2 + (n + 3) / 4 → EvaluatesBy (Grant hidden n o) T W at depth s r s buf
   unfolding policyNode
   grant-short s r buf few h = record {
     few = few;
@@ -155,8 +154,8 @@ module _ (T : Table) (W : List ℕ) (at depth : ℕ) (hidden : Bool) (n o : ℕ)
   }
 
   -- What is known of the grant, given the answer to its condition.
-  record Granted (a : ConditionEval) (s t : Lent) (p : Policy ℕ) (rest : List ℕ) : Type 0 where
-    clause : Clause ℕ
+  record Granted (a : ConditionEval) (s t : Lent) (p : Policy Outcome) (rest : List ℕ) : Type 0 where
+    clause : Clause Outcome
     inner : Condition
     policy-is : p ≡ grant clause inner
     outcome-is : clause .outcome ≡ o
@@ -165,10 +164,10 @@ module _ (T : Table) (W : List ℕ) (at depth : ℕ) (hidden : Bool) (n o : ℕ)
     answer : Evaluated (isSatisfied (evalCondition T inner)) (at + (2 + (n + 3) / 4) + wordsC inner) (readC T inner) s a t
 
   grant-known : (a : ConditionEval) (s t : Lent) → EvaluatesC T W (at + (2 + (n + 3) / 4)) depth s a t → Grant hidden n o ≡ policyHead (getD W at 0) true →
-      Holds (Granted a s t) (readPolicy (productSets .value) true (suc depth) (drop at W))
+      Holds (Granted a s t) (policyAt W at (suc depth))
   unfolding policyNode
   grant-known a s t c e =
-      weaker (readPolicy (productSets .value) true (suc depth) (drop at W)) (λ p rest h.
+      weaker (policyAt W at (suc depth)) (λ p rest h.
       let g = h .1 in
       let k = (n + 3) / 4 in
       let from : drop k (drop 1 (drop (at + 1) W)) ≡ drop (at + (2 + k)) W =
@@ -188,23 +187,12 @@ module _ (T : Table) (W : List ℕ) (at depth : ℕ) (hidden : Bool) (n o : ℕ)
       EvaluatesBy (Grant hidden n o) T W at depth s (evalOf (grantedAt (a .satisfied) o at (length W)) (a .next) (a .count)) t buf
   grant-decides a s t buf c = record {
     few = granted-few (a .satisfied) o at (length W);
-    says = λ e. weaker (readPolicy (productSets .value) true (suc depth) (drop at W)) (λ p rest g.
+    says = λ e. weaker (policyAt W at (suc depth)) (λ p rest g.
         let clause = g .clause in
         subst (λ q. Answered T W at s (evalOf (grantedAt (a .satisfied) o at (length W)) (a .next) (a .count)) t buf q rest) (sym (g .policy-is))
         (subst (λ i. Answered T W at s (evalOf (grantedAt (a .satisfied) i at (length W)) (a .next) (a .count)) t buf (grant clause (g .inner)) rest) (g .outcome-is)
         (granted-answers T W at buf clause (g .inner) rest (g .node) a s t _ (g .answer) (sym (g .words-are))))) (grant-known a s t c e);
   }
-
--- A grant on one fact that its three words tell.
-pub eval-plain : (T : Table) (W : List ℕ) (at depth : ℕ) (s : Lent) (a : ConditionEval) (t : Lent) (buf : List ℕ) → plainGrant (drop at W) ≡ true →
-    EvaluatesHas T (getD W (at + 2) 0 % 1024) (at + 3) s a t → EvaluatesP T W at depth s (evalOf (grantedAt (a .satisfied) (getD W at 0 % 65536) at (length W)) (a .next) (a .count)) t buf
-eval-plain T W at depth s a t buf plain h =
-    let rest = drop (at + 3) W in
-    let node = node-reads W at 2 true _ rest (omega arith) (plain-reads W at plain true 0) in
-    record {
-      few = granted-few (a .satisfied) (getD W at 0 % 65536) at (length W);
-      says = in-fewer depth (suc (suc depth)) (drop at W) (omega arith) (rw (plain-reads W at plain true depth) (fine (granted-answers T W at buf _ _ rest node a s t (at + 3) (h .says) refl)));
-    }
 
 -- ---- stored decisions
 module _ (T : Table) (W : List ℕ) (at depth : ℕ) (lt : at < length W) (deep : depth < 32) where
@@ -213,7 +201,7 @@ module _ (T : Table) (W : List ℕ) (at depth : ℕ) (lt : at < length W) (deep 
   after-first i j e = getD-drop (at + 1) W i 0 ∙ ap (λ k. getD W k 0) e
 
   module _ (n o : ℕ) (s : Lent) (buf : List ℕ) where
-    pub permit-short : (r : PolicyEval) → r .decision .count ≤ 64 → length W - at < 2 + (n + 3) / 4 + (getD W (at + 1) 0 % 4096 + 1) / 2 →
+    pub permit-short : (r : PolicyEval) → r .decision .united ≤ obligationRoom → length W - at < 2 + (n + 3) / 4 + (getD W (at + 1) 0 % 4096 + 1) / 2 →
         EvaluatesBy (PermitWithTrace n o) T W at depth s r s buf
     unfolding policyNode
     permit-short r few h = record {
@@ -229,7 +217,7 @@ module _ (T : Table) (W : List ℕ) (at depth : ℕ) (lt : at < length W) (deep 
     unfolding policyNode
     permit-stored next count i = record {
       few = omega arith;
-      says = λ e. weaker (readPolicy (productSets .value) true (suc depth) (drop at W)) (λ p rest h.
+      says = λ e. weaker (policyAt W at (suc depth)) (λ p rest h.
           let g = h .1 in
           let w : getD (drop (at + 1) W) 0 0 ≡ getD W (at + 1) 0 = after-first 0 (at + 1) (omega arith) in
           let node : nodeAt W at ≡ got (stored (permits (g .was))) rest = node-reads W at (suc depth) true (stored (permits (g .was))) rest (omega arith) (h .0 ∙ ap (λ x. got x rest) (g .policy-is)) in
@@ -243,7 +231,7 @@ module _ (T : Table) (W : List ℕ) (at depth : ℕ) (lt : at < length W) (deep 
     }
 
   module _ (hidden denied : Bool) (o : ℕ) (s : Lent) (buf : List ℕ) where
-    pub deny-short : (r : PolicyEval) → r .decision .count ≤ 64 → length W - at < 3 + (getD W (at + 2) 0 % 4096 + 1) / 2 → EvaluatesBy (DenyWithTrace hidden denied o) T W at depth s r s buf
+    pub deny-short : (r : PolicyEval) → r .decision .united ≤ obligationRoom → length W - at < 3 + (getD W (at + 2) 0 % 4096 + 1) / 2 → EvaluatesBy (DenyWithTrace hidden denied o) T W at depth s r s buf
     unfolding policyNode
     deny-short r few h = record {
       few = few;
@@ -258,7 +246,7 @@ module _ (T : Table) (W : List ℕ) (at depth : ℕ) (lt : at < length W) (deep 
     unfolding policyNode
     deny-stored next count i = record {
       few = omega arith;
-      says = λ e. weaker (readPolicy (productSets .value) true (suc depth) (drop at W)) (λ p rest h.
+      says = λ e. weaker (policyAt W at (suc depth)) (λ p rest h.
           let g = h .1 in
           let w : getD (drop (at + 1) W) 1 0 ≡ getD W (at + 2) 0 = after-first 1 (at + 2) (omega arith) in
           let node : nodeAt W at ≡ got (stored (denies (g .was))) rest = node-reads W at (suc depth) true (stored (denies (g .was))) rest (omega arith) (h .0 ∙ ap (λ x. got x rest) (g .policy-is)) in

@@ -7,7 +7,7 @@ use native.Mathlib.Omega.{arith}
 use lib.Dec.{eqb, ltb, leb}
 use lib.ListN.{getD}
 use Rattle.model.specs.Facts.{Table}
-use Rattle.model.specs.Reading.{kindOf, restOf}
+use Rattle.model.specs.Reading.{kindOf, restOf, mostObligations}
 use Rattle.policy_model.specs.declared.PolicyHead.{PolicyHead}
 use Rattle.policy_model.specs.declared.PolicyHead.the-variants.{Permit, Deny, Grant, All, Any, OrElse, PermitWithTrace, DenyWithTrace, BadKind, BadField}
 use Rattle.policy_model.specs.Heads.{policyHead, policyHeads, permitHead, grantHead, permitTraceHead, denyTraceHead}
@@ -38,7 +38,7 @@ unfolding Says grantHead
 grant-says w =
     let r = restOf w in
     let h = Grant (eqb (r / 134217728) 1) (r / 1048576 % 128) (r % 65536) in
-    either-says w (leb (r / 1048576 % 128) 64) (cond (eqb (r / 65536 % 16) 0) h BadField) BadField
+    either-says w (leb (r / 1048576 % 128) mostObligations) (cond (eqb (r / 65536 % 16) 0) h BadField) BadField
     (either-says w (eqb (r / 65536 % 16) 0) h BadField (omega arith, omega arith) tt) tt
 
 permit-trace-says : (w r : ℕ) → Says w (permitTraceHead r)
@@ -46,8 +46,8 @@ unfolding Says permitTraceHead
 permit-trace-says w r =
     let h = PermitWithTrace (r / 1048576 % 128) (r % 65536) in
     let g = cond (eqb (r / 65536 % 16) 0) h BadField in
-    either-says w (eqb (r / 134217728) 0) (cond (leb (r / 1048576 % 128) 64) g BadField) BadField
-    (either-says w (leb (r / 1048576 % 128) 64) g BadField (either-says w (eqb (r / 65536 % 16) 0) h BadField tt tt) tt) tt
+    either-says w (eqb (r / 134217728) 0) (cond (leb (r / 1048576 % 128) mostObligations) g BadField) BadField
+    (either-says w (leb (r / 1048576 % 128) mostObligations) g BadField (either-says w (eqb (r / 65536 % 16) 0) h BadField tt tt) tt) tt
 
 deny-trace-says : (w r : ℕ) → Says w (denyTraceHead r)
 unfolding Says denyTraceHead
@@ -73,7 +73,7 @@ head-says : (w : ℕ) → Says w (policyHead w true)
 unfolding Says policyHead
 head-says w = either-says w (leb 6 (kindOf w)) (getD (policyHeads true (restOf w)) (kindOf w - 6) BadKind) BadKind (kind-says w (kindOf w - 6)) tt
 
-grant-fields : (w : ℕ) (hidden : Bool) (n o : ℕ) → Grant hidden n o ≡ policyHead w true → (n ≡ w / 1048576 % 128) × (o ≡ w % 65536)
+pub grant-fields : (w : ℕ) (hidden : Bool) (n o : ℕ) → Grant hidden n o ≡ policyHead w true → (n ≡ w / 1048576 % 128) × (o ≡ w % 65536)
 unfolding Says
 grant-fields w hidden n o e = subst (Says w) (sym e) (head-says w)
 

@@ -3,4 +3,3 @@ pub mod Folds
 pub mod Evaluating
 pub mod Grants
 pub mod Arms
-pub mod Runs

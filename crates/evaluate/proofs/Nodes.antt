@@ -13,7 +13,8 @@ use Rattle.model.specs.Condition.{Condition}
 use Rattle.model.specs.Decision.{Permit, Denial, Decision, permits, denies}
 use Rattle.model.specs.Policy.{Policy, Grant, grant, stored}
 use Rattle.model.specs.Writing.{obligationBits, entryBits}
-use Rattle.model.specs.Reading.{Parsed, refuse, got, next, another, counted, readList, obligation, listed, mark, shapeOf, readCondition, readPolicy}
+use Rattle.model.specs.Reading.{Parsed, refuse, got, next, another, counted, readList, obligation, listed, mark, shapeOf, readCondition}
+use Rattle.model.specs.Products.{Outcome, readPolicy, policyAt}
 use Rattle.laws.specs.FieldLaws.{Holds, fine, nothing, if-holds, weaker, then-holds, both-hold}
 use Rattle.laws.specs.Deeper.{deeper, follows-got}
 use Rattle.laws.specs.ReadForm.{ok-obligations, ok-facts}
@@ -37,35 +38,35 @@ anything (refuse n) = nothing
 anything (got a ws) = fine tt
 
 -- What holds of a policy where nodes 12 and 13 and more levels are allowed holds of it with fewer levels, and in a sheet.
-pub in-fewer : {Q : Policy ℕ → List ℕ → Type 0} (d depth : ℕ) (ws : List ℕ) → d ≤ depth → Holds Q (readPolicy (productSets .value) true depth ws) → (res : Bool) →
-    Holds Q (readPolicy (productSets .value) res d ws)
+pub in-fewer : {Q : Policy Outcome → List ℕ → Type 0} (d depth : ℕ) (ws : List ℕ) → d ≤ depth → Holds Q (readPolicy true depth ws) → (res : Bool) →
+    Holds Q (readPolicy res d ws)
 in-fewer d depth ws l h res =
-    weaker (readPolicy (productSets .value) res d ws)
+    weaker (readPolicy res d ws)
     (λ p rest e. held-at h (follows-got (deeper (productSets .value) res d depth ws l) e))
-    (itself (readPolicy (productSets .value) res d ws))
+    (itself (readPolicy res d ws))
 
-pub in-sheet : {Q : Policy ℕ → List ℕ → Type 0} (depth : ℕ) (ws : List ℕ) → Holds Q (readPolicy (productSets .value) true depth ws) → (res : Bool) → Holds Q (readPolicy (productSets .value) res depth ws)
+pub in-sheet : {Q : Policy Outcome → List ℕ → Type 0} (depth : ℕ) (ws : List ℕ) → Holds Q (readPolicy true depth ws) → (res : Bool) → Holds Q (readPolicy res depth ws)
 in-sheet depth ws h res = in-fewer depth depth ws (omega arith) h res
 
 -- A policy by its head, at its position.
 module _ (W : List ℕ) (at depth : ℕ) (h : PolicyHead) (lt : at < length W) (e : h ≡ policyHead (getD W at 0) true) where
-  pub node-is : readPolicy (productSets .value) true (suc depth) (drop at W) ≡ nodeOf true depth h (drop (at + 1) W)
+  node-is : policyAt W at (suc depth) ≡ nodeOf true depth h (drop (at + 1) W)
   node-is =
-      ap (readPolicy (productSets .value) true (suc depth)) (word-at W at lt)
+      ap (readPolicy true (suc depth)) (word-at W at lt)
       ∙ policy-node true depth (getD W at 0) (drop (at + 1) W)
       ∙ ap (λ x. nodeOf true depth x (drop (at + 1) W)) (sym e)
 
-  pub node-holds : {Q : Policy ℕ → List ℕ → Type 0} → Holds Q (nodeOf true depth h (drop (at + 1) W)) → Holds Q (readPolicy (productSets .value) true (suc depth) (drop at W))
+  pub node-holds : {Q : Policy Outcome → List ℕ → Type 0} → Holds Q (nodeOf true depth h (drop (at + 1) W)) → Holds Q (policyAt W at (suc depth))
   node-holds {Q} g = subst (Holds Q) (sym node-is) g
 
-  pub node-knows : {Q : Policy ℕ → List ℕ → Type 0} → Holds Q (nodeOf true depth h (drop (at + 1) W)) →
-      Holds (λ p rest. (readPolicy (productSets .value) true (suc depth) (drop at W) ≡ got p rest) × Q p rest) (readPolicy (productSets .value) true (suc depth) (drop at W))
-  node-knows g = both-hold (readPolicy (productSets .value) true (suc depth) (drop at W)) (itself (readPolicy (productSets .value) true (suc depth) (drop at W))) (node-holds g)
+  pub node-knows : {Q : Policy Outcome → List ℕ → Type 0} → Holds Q (nodeOf true depth h (drop (at + 1) W)) →
+      Holds (λ p rest. (policyAt W at (suc depth) ≡ got p rest) × Q p rest) (policyAt W at (suc depth))
+  node-knows g = both-hold (policyAt W at (suc depth)) (itself (policyAt W at (suc depth))) (node-holds g)
 
 -- ---- what a node holds, ws being the words after its first
 -- A grant: n obligations after its second word, then the condition.
-pub record ReadsGrant (depth n o : ℕ) (ws : List ℕ) (p : Policy ℕ) (rest : List ℕ) : Type 0 where
-  pub clause : Grant ℕ
+pub record ReadsGrant (depth n o : ℕ) (ws : List ℕ) (p : Policy Outcome) (rest : List ℕ) : Type 0 where
+  pub clause : Grant Outcome
   pub inner : Condition
   pub policy-is : p ≡ grant clause inner
   pub outcome-is : clause .outcome ≡ o
@@ -92,8 +93,8 @@ grant-reads depth hidden n o (w ∷ ws) =
     })))))
 
 -- A stored permit: its second word ends with the count of facts.
-pub record ReadsPermit (n o : ℕ) (ws : List ℕ) (p : Policy ℕ) (rest : List ℕ) : Type 0 where
-  pub was : Permit ℕ
+pub record ReadsPermit (n o : ℕ) (ws : List ℕ) (p : Policy Outcome) (rest : List ℕ) : Type 0 where
+  pub was : Permit Outcome
   pub policy-is : p ≡ stored (permits was)
   pub outcome-is : was .outcome ≡ o
   pub long : length (was .obligations) ≡ n
@@ -104,7 +105,7 @@ pub permit-reads : (n o : ℕ) (ws : List ℕ) → Holds (ReadsPermit n o ws) (n
 unfolding permitTraceNode
 permit-reads n o [] = nothing
 permit-reads n o (w ∷ ws) =
-    let node : Parsed (Decision ℕ) = permitTraceNode n o (w ∷ ws) in
+    let node : Parsed (Decision Outcome) = permitTraceNode n o (w ∷ ws) in
     then-holds {Q = λ d vs. ReadsPermit n o (w ∷ ws) (stored d) vs} node (λ d vs. got (stored d) vs)
     (then-holds (mark (w / 65536)) _ (anything (mark (w / 65536))) (λ l _ _.
     if-holds (ltb (w % 65536) 4096) 8 _ (λ b.
@@ -123,8 +124,8 @@ permit-reads n o (w ∷ ws) =
     (λ d vs h. fine h)
 
 -- A stored deny: its third word is the count of facts.
-pub record ReadsDeny (ws : List ℕ) (p : Policy ℕ) (rest : List ℕ) : Type 0 where
-  pub was : Denial ℕ
+pub record ReadsDeny (ws : List ℕ) (p : Policy Outcome) (rest : List ℕ) : Type 0 where
+  pub was : Denial Outcome
   pub policy-is : p ≡ stored (denies was)
   pub facts-long : length (was .facts) ≡ getD ws 1 0 % 4096
   pub fits : 2 + (getD ws 1 0 % 4096 + 1) / 2 ≤ length ws
@@ -149,7 +150,7 @@ pub deny-reads : (hidden denied : Bool) (o : ℕ) (ws : List ℕ) → Holds (Rea
 unfolding denyTraceNode
 deny-reads hidden denied o [] = nothing
 deny-reads hidden denied o (w ∷ ws) =
-    let node : Parsed (Decision ℕ) = denyTraceNode hidden denied o (w ∷ ws) in
+    let node : Parsed (Decision Outcome) = denyTraceNode hidden denied o (w ∷ ws) in
     then-holds {Q = λ d vs. ReadsDeny (w ∷ ws) (stored d) vs} node (λ d vs. got (stored d) vs)
     (then-holds (mark (w / 65536)) _ (anything (mark (w / 65536))) (λ l _ _.
     then-holds (mark (w % 65536)) _ (anything (mark (w % 65536))) (λ m _ _. deny-facts hidden denied o w l m ws)))

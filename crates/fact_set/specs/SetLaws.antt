@@ -1,20 +1,23 @@
 -- A set of facts number by number: one fact put into it, and one asked for.
-use mathlib.Core.Path.{_≡_, refl, sym, _∙_, ap, ap₂}
+use mathlib.Core.Path.{_≡_, refl, sym, _∙_, ap, ap₂, subst}
 use mathlib.Core.Bool.{Bool, true, false, _||_, or-false, or-true}
 use mathlib.Core.List.{List, [], _∷_, _++_}
 use Prim.Native.Nat.{ℕ, zero, suc, _+_, _-_, _*_, _/_, _%_, _^_, _≤_, _<_}
-use native.Mathlib.Nat.{one-mul, suc-mul, pow-suc, add-zero, zero-add, mod-eq-of-lt}
+use native.Mathlib.Nat.{one-mul, mul-one, suc-mul, add-zero, zero-add}
 use native.Mathlib.Omega.{arith}
 use borrow.Author.Tests.{eq-eqb, ne-eqb}
 use lib.Dec.{eqb}
-use lib.Pow.{pow-pos, pow-lt, pow-add, shl-shr, high, low, field, mod-mod-pow}
+use lib.Pow.{pow-pos, pow-lt, pow-add, shl-shr}
 use lib.Bits.{bitOr, or-block, or-zero-r}
 use lib.ListN.{length, drop, set, getD, replicate}
 use lib.Seq.{drop-at}
 use Rattle.model.specs.Fields.{joined, packed}
 use Rattle.model.specs.Facts.{factCount}
 use Rattle.model.specs.Required.{oneBit, flags, factSet}
-use Rattle.fact_set.specs.Sets.{Grown, Contained}
+use Rattle.laws.specs.FieldAt.{Narrow}
+use Rattle.laws.specs.FieldLaws.{joined-small}
+use Rattle.laws.specs.FieldAtLaws.{packed-shift}
+use Rattle.fact_set.specs.Sets.{Grown, Contained, numbers}
 
 -- ---- one-bit fields
 -- Flags that agree on so many facts.
@@ -30,20 +33,18 @@ length-flags a (suc n) from = ap suc (length-flags a n (suc from))
 top-flag : (n v : ℕ) (vs : List ℕ) → joined 1 (suc n) (v ∷ vs) ≡ v * 2 ^ n + joined 1 n vs
 top-flag n v vs = ap (λ k. v * 2 ^ k + joined 1 n vs) (one-mul n)
 
-small-flags : (b : Bool) (n r : ℕ) → r < 2 ^ n → oneBit b * 2 ^ n + r < 2 ^ suc n
-small-flags true n r h = omega (arith, pow-suc 2 n)
-small-flags false n r h = omega (arith, pow-suc 2 n)
+small-bit : (b : Bool) → oneBit b < 2
+small-bit true = omega arith
+small-bit false = omega arith
+
+pub narrow-flags : (a : ℕ → Bool) (n from : ℕ) → Narrow 1 (flags a from n)
+narrow-flags a zero from = tt
+narrow-flags a (suc n) from = (small-bit (a from), narrow-flags a n (suc from))
 
 flags-small : (a : ℕ → Bool) (n from : ℕ) → joined 1 n (flags a from n) < 2 ^ n
-flags-small a zero from = omega arith
-flags-small a (suc n) from =
-    omega (arith, top-flag n (oneBit (a from)) (flags a (suc from) n), small-flags (a from) n (joined 1 n (flags a (suc from) n)) (flags-small a n (suc from)))
+flags-small a n from = subst (λ k. joined 1 n (flags a from n) < 2 ^ k) (one-mul n) (joined-small 1 n (flags a from n) (narrow-flags a n from))
 
 -- ---- a set, number by number: m numbers of n facts each, from `from` on
-unfoldable pub numbers : (ℕ → Bool) → ℕ → ℕ → ℕ → List ℕ
-numbers named n zero from = []
-numbers named n (suc m) from = joined 1 n (flags named from n) ∷ numbers named n m (from + n)
-
 pub flags-append : (a : ℕ → Bool) (n m from : ℕ) → flags a from (n + m) ≡ flags a from n ++ flags a (from + n) m
 flags-append a zero m from = ap₂ (λ f k. flags a f k) (sym (add-zero from)) (zero-add m)
 flags-append a (suc n) m from =
@@ -171,41 +172,10 @@ no-fact fact before h = record {
 }
 
 -- ---- a fact asked for
-small-bit : (b : Bool) → oneBit b < 2
-small-bit true = omega arith
-small-bit false = omega arith
-
--- A bit below others is that of the number without them.
-bit-below : (v n k r : ℕ) → r < 2 ^ n → k < n → (v * 2 ^ n + r) / 2 ^ k % 2 ≡ r / 2 ^ k % 2
-bit-below v n k r h p =
-    let w = v * 2 ^ n + r in
-    let e : n ≡ n - (1 + k) + (1 + k) = omega arith in
-    let below : w % 2 ^ (1 + k) ≡ r % 2 ^ (1 + k) =
-    sym (mod-mod-pow w (n - (1 + k)) (1 + k)) ∙ ap (λ j. w % 2 ^ j % 2 ^ (1 + k)) (sym e) ∙ ap (λ x. x % 2 ^ (1 + k)) (low v n h) in
-    sym (field w 1 k) ∙ ap (λ x. x / 2 ^ k) below ∙ field r 1 k
-
-module _ (named : ℕ → Bool) where
-  -- The i-th fact's bit in a number of n facts; and in the k-th number.
-  bit-in : (n i from : ℕ) → i < n → joined 1 n (flags named from n) / 2 ^ (n - 1 - i) % 2 ≡ oneBit (named (from + i))
-  bit-in zero i from h = let z : ⊥ = omega arith in absurd z
-  bit-in (suc n) zero from h =
-      ap₂ (λ w k. w / 2 ^ k % 2) (top-flag n (oneBit (named from)) (flags named (suc from) n)) (let k : suc n - 1 - 0 ≡ n = omega arith in k)
-      ∙ ap (λ x. x % 2) (high (oneBit (named from)) n (flags-small named n (suc from)))
-      ∙ mod-eq-of-lt (small-bit (named from))
-      ∙ ap (λ f. oneBit (named f)) (let k : from ≡ from + 0 = omega arith in k)
-  bit-in (suc n) (suc i) from h =
-      ap₂ (λ w k. w / 2 ^ k % 2) (top-flag n (oneBit (named from)) (flags named (suc from) n)) (let k : suc n - 1 - suc i ≡ n - 1 - i = omega arith in k)
-      ∙ bit-below (oneBit (named from)) n (n - 1 - i) (joined 1 n (flags named (suc from) n)) (flags-small named n (suc from)) (omega arith)
-      ∙ bit-in n i (suc from) (omega arith)
-      ∙ ap (λ f. oneBit (named f)) (let k : suc from + i ≡ from + suc i = omega arith in k)
-
-  number-bit : (n m k i from : ℕ) → k < m → i < n → getD (numbers named n m from) k 0 / 2 ^ (n - 1 - i) % 2 ≡ oneBit (named (from + k * n + i))
-  unfolding numbers
-  number-bit n zero k i from hk hi = let z : ⊥ = omega arith in absurd z
-  number-bit n (suc m) zero i from hk hi = bit-in n i from hi ∙ ap (λ f. oneBit (named f)) (let e : from + i ≡ from + 0 * n + i = omega arith in e)
-  number-bit n (suc m) (suc k) i from hk hi =
-      let s : suc k * n ≡ k * n + n = suc-mul k n in
-      number-bit n m k i (from + n) (omega arith) hi ∙ ap (λ f. oneBit (named f)) (let e : from + n + k * n + i ≡ from + suc k * n + i = omega arith in e)
+flag-at : (a : ℕ → Bool) (n from i : ℕ) → i < n → getD (flags a from n) i 0 ≡ oneBit (a (from + i))
+flag-at a zero from i h = absurd (omega arith)
+flag-at a (suc n) from zero h = ap (λ f. oneBit (a f)) (let e : from ≡ from + zero = omega arith in e)
+flag-at a (suc n) from (suc i) h = flag-at a n (suc from) i (omega arith) ∙ ap (λ f. oneBit (a f)) (let e : suc from + i ≡ from + suc i = omega arith in e)
 
 one-is : (b : Bool) → eqb (oneBit b) 1 ≡ b
 one-is true = refl
@@ -215,10 +185,11 @@ one-is false = refl
 pub has-fact : (fact : ℕ) (set : List ℕ) → fact / 64 < length set → Contained fact set (eqb (getD set (fact / 64) 0 / 2 ^ (63 - fact % 64) % 2) 1)
 has-fact fact set h = record {
   is-named = λ named e p.
-      ap (λ s. eqb (getD s (fact / 64) 0 / 2 ^ (63 - fact % 64) % 2) 1) (e ∙ set-numbers named)
-      ∙ ap (λ x. eqb x 1) (number-bit named 64 16 (fact / 64) (fact % 64) 0 (omega arith) (omega arith))
-      ∙ one-is (named (0 + fact / 64 * 64 + fact % 64))
-      ∙ ap named (let k : 0 + fact / 64 * 64 + fact % 64 ≡ fact = omega arith in k);
+      let at = fact / 64 * 64 + fact % 64 in
+      ap₂ (λ s k. eqb (getD s (fact / 64) 0 / 2 ^ (63 - k) % 2) 1) e (sym (mul-one (fact % 64)))
+      ∙ ap (λ x. eqb x 1) (packed-shift 1 63 16 (fact / 64) (fact % 64) (flags named 0 1024) (narrow-flags named 1024 0) (omega arith) (omega arith) ∙ flag-at named 1024 0 at (omega arith))
+      ∙ one-is (named (0 + at))
+      ∙ ap named (let k : 0 + at ≡ fact = omega arith in k);
   too-short = λ s. let z : ⊥ = omega arith in absurd z;
 }
 

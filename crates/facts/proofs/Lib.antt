@@ -1,3 +1,3 @@
--- Laws that several proofs cite; those of fields are for callers too.
-pub mod Fields
+-- Laws that several proofs cite.
+mod Fields
 mod Faults

@@ -1,8 +1,11 @@
--- What the answers stand for: document 01's readings of a fact and its refusal numbers.
+-- What the answers stand for: document 01's readings of a fact, their numbers, and its refusal numbers.
+use mathlib.Core.Path.{_≡_}
 use mathlib.Core.Bool.{Bool, true, false}
 use mathlib.Core.Option.{Option, none, some}
 use Prim.Native.Nat.{ℕ}
 use Rattle.model.specs.Facts as model
+use Rattle.model.specs.Consulted.{Entry}
+use Rattle.model.specs.Writing.{presenceField}
 use Rattle.facts.specs.declared.Presence.{Presence}
 use Rattle.facts.specs.declared.Presence.the-variants.{Absent, Present, Unknown}
 use Rattle.facts.specs.declared.TableFault.{TableFault}
@@ -14,6 +17,21 @@ abbrev pub presenceOf : Presence → model.Presence
 presenceOf Absent = model.absent
 presenceOf Present = model.present
 presenceOf Unknown = model.unknown
+
+-- Document 01's number.
+abbrev pub presenceNumber : Presence → ℕ
+presenceNumber Absent = 0
+presenceNumber Present = 1
+presenceNumber Unknown = 2
+
+-- An answer reads as p: it is that case, and has its number.
+pub record Reads (r : Presence) (p : model.Presence) : Type 0 where
+  pub seen : presenceOf r ≡ p
+  pub number : presenceNumber r ≡ presenceField p
+
+-- A fact as it was read.
+abbrev pub entryOf : ℕ → Presence → Entry
+entryOf f p = record { fact = f; seen = presenceOf p }
 
 abbrev pub isPresent : model.Presence → Bool
 isPresent model.absent = false

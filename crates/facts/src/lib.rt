@@ -1,19 +1,28 @@
-// Fact tables, after gatekeep's facts.rs: what a table says of a fact, and the fault for which a table is turned back.
+// Fact tables, after gatekeep's facts.rs: what a table says of a fact, how that stands in a consulted entry, and the fault for which a table is turned back.
 ghost use mathlib.Core.Path.{_≡_};
-ghost use Prim.Native.Nat.{_≤_};
+ghost use Prim.Native.Nat.{_/_, _≤_, _<_};
 ghost use lib.Dec.{eqb};
 ghost use lib.ListN.{length, getD};
 ghost use Rattle.model.specs.Fields.{split};
-ghost use Rattle.model.specs.Facts.{tableFields, tableOf, fieldFault, firstFault, tableBytes, tableFault};
+ghost use Rattle.model.specs.Facts.{factCount, presence, tableFields, tableOf, fieldFault, firstFault, tableBytes, tableFault};
 ghost use Rattle.model.specs.Facts.{partialFacts, knownFacts};
-ghost use Rattle.facts.specs.Answers.{presenceOf, isPresent, isSettled, kindOf, faultOf, noFault};
+ghost use Rattle.model.specs.Writing.{entryField};
+ghost use Rattle.facts.specs.Answers.{presenceNumber, Reads, entryOf, isPresent, isSettled, kindOf, faultOf, noFault};
 
-// What a table says of a fact.
+// What a table says of a fact: 0, 1 and 2 in a table and in a consulted entry.
 pub enum Presence {
     Absent,
     Present,
     Unknown,
 }
+
+// How many presences there are.
+pub const PRESENCES: u32 = 3;
+
+// The presence of a consulted entry stands above its fact and four zero bits.
+pub const ABOVE_FACT: u32 = 16384;
+
+const ABOVE_FACT_16: u16 = ABOVE_FACT as u16;
 
 // Whether a table is turned back, and the number for which it is.
 pub enum TableFault {
@@ -22,7 +31,7 @@ pub enum TableFault {
 }
 
 // A table has at most this many bytes.
-const TABLE_BYTES: usize = 256;
+pub const TABLE_BYTES: usize = 256;
 
 // A known table holds no Unknown.
 enum TableKind {
@@ -42,16 +51,49 @@ fn field(facts: &[u8], fact: u32) -> u8
 }
 
 impl Presence {
-    // What the table says of a fact. A field of 3, which no accepted table holds, reads Unknown.
-    pub fn of(facts: &[u8], fact: u32) -> Presence
-        ensures { λ r. ⌜ presenceOf r ≡ tableOf (now (facts .entry)) fact ⌝ }
+    // By its number. 3, which no accepted table or record holds, reads Unknown.
+    fn numbered(number: u32) -> Presence
+        ensures { λ r. ⌜ Reads r (presence number) ⌝ }
     {
-        match field(facts, fact) {
+        match number {
             0 => Presence::Absent,
             1 => Presence::Present,
             _ => Presence::Unknown,
         }
     }
+
+    // Its number.
+    fn number(self) -> u16
+        ensures { λ r. ⌜ r ≡ presenceNumber self ⌝ }
+    {
+        match self {
+            Presence::Absent => 0,
+            Presence::Present => 1,
+            Presence::Unknown => 2,
+        }
+    }
+
+    // What the table says of a fact.
+    pub fn of(facts: &[u8], fact: u32) -> Presence
+        ensures { λ r. ⌜ Reads r (tableOf (now (facts .entry)) fact) ⌝ }
+    {
+        Presence::numbered(field(facts, fact) as u32)
+    }
+}
+
+// A consulted entry: presence (2), zero (4), fact (10).
+pub fn entry(fact: u32, presence: Presence) -> u16
+    requires { ⌜ fact < factCount ⌝ }
+    ensures { λ r. ⌜ r ≡ entryField (entryOf fact presence) ⌝ }
+{
+    presence.number() * ABOVE_FACT_16 + fact as u16
+}
+
+// The presence in a consulted entry.
+pub fn entry_presence(field: u32) -> Presence
+    ensures { λ r. ⌜ Reads r (presence (field / 16384)) ⌝ }
+{
+    Presence::numbered(field / ABOVE_FACT)
 }
 
 // Whether the table has the fact as Present.

@@ -1,7 +1,7 @@
 // A grant, after gatekeep's `GrantRef`: the lent words and the place of the grant's first word. Its methods take it apart and leave the work to
 // functions on the words and the place. The functions at the end are for callers that have no `GrantRef`.
 ghost use mathlib.Core.Path.{_≡_};
-ghost use Rattle.grant.specs.Fields.{outcomeAt, obligationsAt, beforeConditionAt};
+ghost use Rattle.grant.specs.Fields.{outcomeAt, beforeConditionAt};
 
 pub struct GrantRef<'a> {
     pub words: &'a [u32],
@@ -12,27 +12,15 @@ pub struct GrantRef<'a> {
 fn outcome_at(words: &[u32], at: usize) -> u32
     ensures { λ r. ⌜ r ≡ outcomeAt (now (words .entry)) at ⌝ }
 {
-    if at < words.len() {
-        return words[at] % 65536;
-    }
-    0
-}
-
-// How many obligations there are, 7 bits of the first word.
-fn obligations_at(words: &[u32], at: usize) -> u32
-    ensures { λ r. ⌜ r ≡ obligationsAt (now (words .entry)) at ⌝ }
-{
-    if at < words.len() {
-        return words[at] / 1048576 % 128;
-    }
-    0
+    policy_model::outcome_of(policy_model::word_at(words, at)) as u32
 }
 
 // How many words stand before the condition: the first two, and those of the obligations.
 fn before_condition_at(words: &[u32], at: usize) -> u32
     ensures { λ r. ⌜ r ≡ beforeConditionAt (now (words .entry)) at ⌝ }
 {
-    2 + (obligations_at(words, at) + 3) / 4
+    let obligations = policy_model::obligations_of(policy_model::word_at(words, at));
+    2 + policy_model::obligation_words(obligations) as u32
 }
 
 impl<'a> GrantRef<'a> {

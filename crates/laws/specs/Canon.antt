@@ -18,7 +18,7 @@ use Rattle.model.specs.Partial.{ReducedPolicy, resolved, pending, asResidual}
 use Rattle.model.specs.Consulted.{Consulted}
 use Rattle.model.specs.Record.{Record}
 use Rattle.model.specs.Writing.{obligationBits, entryBits, word, shapeBit, marked, entryField, countC, count, encodeC, encodeCs, deniedField, encodeD, encode, encodes, leadKind, encodeR}
-use Rattle.model.specs.Reading.{Parsed, refuse, got, next, unless, another, readList, obligation, listed, consulted, many, nodeC, readCondition, whole, mark, shapeOf, outcomeOf, deniedOf, grantMore, grantAt, more12, at12, more13, at13, asStored, inResidual, nodeP, lastKind, readPolicy, readSheet, node14, parse14, parse15, rest, leads, readLead, readRecord}
+use Rattle.model.specs.Reading.{Parsed, refuse, got, next, unless, another, readList, obligation, listed, consulted, many, nodeC, readCondition, whole, mark, shapeOf, outcomeOf, deniedOf, grantMore, grantAt, more12, at12, more13, at13, asStored, inResidual, nodeP, lastKind, readPolicy, readSheet, node14, parse14, parse15, rest, leads, readLead, readRecord, mostObligations}
 use Rattle.laws.specs.FieldLaws.{Holds, fine, nothing, if-holds, weaker, then-holds, same-list}
 use Rattle.laws.specs.Form.{IfThere}
 use Rattle.laws.specs.ReadForm.{same-obligation, same-listed, same-consulted}
@@ -139,7 +139,7 @@ module _ {O : Type 0} (number : O → ℕ) (value : ℕ → Option O) (only : (v
       let v = r % 65536 in
       let sb = shape-same sh (omega arith) in
       let pr = parts-of r in
-      if-holds (leb n 64) 8 (unless (eqb z 0) 8 (outcomeOf value (value v) (λ o. another us (λ w vs. grantMore value p sh n o (w / 65536) (w % 65536) vs)))) (λ _.
+      if-holds (leb n mostObligations) 8 (unless (eqb z 0) 8 (outcomeOf value (value v) (λ o. another us (λ w vs. grantMore value p sh n o (w / 65536) (w % 65536) vs)))) (λ _.
       if-holds (eqb z 0) 8 (outcomeOf value (value v) (λ o. another us (λ w vs. grantMore value p sh n o (w / 65536) (w % 65536) vs))) (λ ez.
       same-outcome v (value v) (λ o. another us (λ w vs. grantMore value p sh n o (w / 65536) (w % 65536) vs)) (only v) (λ o eo.
       another-is us (λ w vs. grantMore value p sh n o (w / 65536) (w % 65536) vs) (λ w vs ew.
@@ -161,8 +161,8 @@ module _ {O : Type 0} (number : O → ℕ) (value : ℕ → Option O) (only : (v
       let z = r / 65536 % 16 in
       let v = r % 65536 in
       let pr = parts-of r in
-      if-holds (eqb sh 0) 8 (unless (leb n 64) 8 (unless (eqb z 0) 8 (outcomeOf value (value v) (λ o. another us (λ w vs. more12 value n o (w / 65536) (w % 65536) vs))))) (λ es.
-      if-holds (leb n 64) 8 (unless (eqb z 0) 8 (outcomeOf value (value v) (λ o. another us (λ w vs. more12 value n o (w / 65536) (w % 65536) vs)))) (λ _.
+      if-holds (eqb sh 0) 8 (unless (leb n mostObligations) 8 (unless (eqb z 0) 8 (outcomeOf value (value v) (λ o. another us (λ w vs. more12 value n o (w / 65536) (w % 65536) vs))))) (λ es.
+      if-holds (leb n mostObligations) 8 (unless (eqb z 0) 8 (outcomeOf value (value v) (λ o. another us (λ w vs. more12 value n o (w / 65536) (w % 65536) vs)))) (λ _.
       if-holds (eqb z 0) 8 (outcomeOf value (value v) (λ o. another us (λ w vs. more12 value n o (w / 65536) (w % 65536) vs))) (λ ez.
       same-outcome v (value v) (λ o. another us (λ w vs. more12 value n o (w / 65536) (w % 65536) vs)) (only v) (λ o eo.
       another-is us (λ w vs. more12 value n o (w / 65536) (w % 65536) vs) (λ w vs ew.

@@ -3,15 +3,16 @@ use mathlib.Core.Path.{_≡_, refl, sym, _∙_, ap, ap₂, subst}
 use mathlib.Core.Bool.{Bool, true, false, cond}
 use mathlib.Core.List.{List, [], _∷_, _++_, map, map-append, append-assoc, append-nil}
 use Prim.Native.Nat.{ℕ, zero, suc, _+_, _-_, _*_, _/_, _%_, _^_, _≤_, _<_, min}
-use native.Mathlib.Nat.{pow-zero, mul-zero, mul-suc, mul-le-mul-right, mul-add-div-right, mul-add-mod-self-right, div-eq-of-lt, mod-eq-of-lt, mod-lt, div-add-mod', zero-div, zero-mod, add-div-right, div-eq-of-lt-le, add-zero, zero-add, add-comm, suc-mul}
+use native.Mathlib.Nat.{mul-zero, mul-suc, mul-le-mul-right, mul-add-div-right, mul-add-mod-self-right, div-eq-of-lt, mod-eq-of-lt, mod-lt, div-add-mod', zero-div, zero-mod, add-div-right, div-eq-of-lt-le, add-zero, add-comm, suc-mul}
 use native.Mathlib.Omega.{arith}
 use borrow.Author.Tests.{eqb-true}
 use lib.Dec.{eqb}
 use lib.Pow.{pow-pos, pow-add}
-use lib.ListN.{length, take, drop, length-append, length-drop, length-take, length-map, take-append-drop, drop-of-length-le}
-use lib.Seq.{take-nil, drop-nil, drop-append-le, drop-append-seam}
+use lib.ListN.{length, take, drop, getD, length-append, length-drop, length-map, take-append-drop, drop-of-length-le}
+use lib.Seq.{take-nil, drop-nil, drop-append-seam}
 use Rattle.model.specs.Fields.{split, joined, packed, wordsFor, perWord, pack}
 use Rattle.model.specs.Reading.{Parsed, refuse, got, next, unless, Fields, bad, ok, put, takeField, takeFields, readWords, readList, rest}
+use Rattle.laws.specs.FieldAt.{padded, Narrow}
 
 -- ---- how many words
 pub wordsFor-none : (n : ℕ) → wordsFor (suc n) 0 ≡ 0
@@ -40,23 +41,22 @@ wordsFor-more n k =
     (λ h. words-last n k (omega arith) ∙ ap suc (sym (ap (wordsFor (suc n)) (let z : k - n ≡ 0 = omega arith in z) ∙ wordsFor-none n)))
 
 -- ---- one word
--- The first n values, 0 where there are fewer.
-abbrev pub padded : ℕ → List ℕ → List ℕ
-padded zero vs = []
-padded (suc n) [] = 0 ∷ padded n []
-padded (suc n) (v ∷ vs) = v ∷ padded n vs
+pub padded-none : (n k : ℕ) → getD (padded n []) k 0 ≡ 0
+padded-none zero k = refl
+padded-none (suc n) zero = refl
+padded-none (suc n) (suc k) = padded-none n k
 
--- Each value fits the width.
-abbrev pub Narrow : ℕ → List ℕ → Type 0
-Narrow width [] = Unit {0}
-Narrow width (v ∷ vs) = (v < 2 ^ width) × Narrow width vs
+pub narrow-drop : (width n : ℕ) (vs : List ℕ) → Narrow width vs → Narrow width (drop n vs)
+narrow-drop width zero vs h = h
+narrow-drop width (suc n) [] h = h
+narrow-drop width (suc n) (v ∷ vs) h = narrow-drop width n vs (h .1)
 
 joined-nil : (width n : ℕ) → joined width n [] ≡ 0
 joined-nil width zero = refl
 joined-nil width (suc n) = refl
 
 module _ (width : ℕ) where
-  joined-small : (n : ℕ) (vs : List ℕ) → Narrow width vs → joined width n vs < 2 ^ (width * n)
+  pub joined-small : (n : ℕ) (vs : List ℕ) → Narrow width vs → joined width n vs < 2 ^ (width * n)
   joined-small zero vs h = pow-pos (width * 0)
   joined-small (suc n) [] h = pow-pos (width * suc n)
   joined-small (suc n) (v ∷ vs) h =
@@ -67,7 +67,7 @@ module _ (width : ℕ) where
       let s : suc v * b ≡ b + v * b = suc-mul v b ∙ add-comm (v * b) b in
       omega arith
 
-  split-nil : (n : ℕ) → split width n 0 ≡ padded n []
+  pub split-nil : (n : ℕ) → split width n 0 ≡ padded n []
   split-nil zero = refl
   split-nil (suc n) = ap₂ (λ x y. x ∷ split width n y) (zero-div (2 ^ (width * n))) (zero-mod (2 ^ (width * n))) ∙ ap (λ l. 0 ∷ l) (split-nil n)
 
@@ -96,7 +96,7 @@ module _ (width : ℕ) where
   joined-padded (suc n) [] = ap (λ x. 0 * 2 ^ (width * n) + x) (joined-padded n [] ∙ joined-nil width n) ∙ omega arith
   joined-padded (suc n) (v ∷ vs) = ap (λ x. v * 2 ^ (width * n) + x) (joined-padded n vs)
 
-length-split : (width n w : ℕ) → length (split width n w) ≡ n
+pub length-split : (width n w : ℕ) → length (split width n w) ≡ n
 length-split width zero w = refl
 length-split width (suc n) w = ap suc (length-split width n (w % 2 ^ (width * n)))
 
@@ -127,11 +127,6 @@ module _ {A : Type 0} (e : A → ℕ) (chk : List A → ℕ → Parsed A) where
   passes-drop (suc n) sofar [] h = tt
   passes-drop (suc n) sofar (x ∷ xs) h = subst (λ s. Passes s (drop n xs)) (append-assoc sofar (x ∷ []) (take n xs)) (passes-drop n (sofar ++ x ∷ []) xs (h .1))
 
-  narrow-drop : (width n : ℕ) (xs : List A) → Narrow width (map e xs) → Narrow width (map e (drop n xs))
-  narrow-drop width zero xs h = h
-  narrow-drop width (suc n) [] h = h
-  narrow-drop width (suc n) (x ∷ xs) h = narrow-drop width n xs (h .1)
-
   take-fields : (n : ℕ) (xs sofar : List A) → Passes sofar xs → takeFields chk (ok sofar (length xs)) (padded n (map e xs)) ≡ ok (sofar ++ take n xs) (length (drop n xs))
   take-fields zero xs sofar h = ap (λ s. ok s (length xs)) (sym (append-nil sofar))
   take-fields (suc n) [] sofar h = take-fields n [] sofar h ∙ ap₂ (λ s t. ok (sofar ++ s) (length t)) (take-nil n) (drop-nil n)
@@ -157,7 +152,7 @@ module _ {A : Type 0} (e : A → ℕ) (chk : List A → ℕ → Parsed A) where
         ap (λ fs. readWords chk width (suc n) (packed width (suc n) m (drop (suc n) (map e all)) ++ ws) (takeFields chk (ok sofar (length all)) fs)) (split-joined width (suc n) (map e all) h)
         ∙ ap (readWords chk width (suc n) (packed width (suc n) m (drop (suc n) (map e all)) ++ ws)) (take-fields (suc n) all sofar p)
         ∙ ap (λ l. readWords chk width (suc n) (packed width (suc n) m l ++ ws) (ok (sofar ++ take (suc n) all) (length rest))) (map-drop e n xs)
-        ∙ back-words m rest (sofar ++ take (suc n) all) ws more (narrow-drop width (suc n) all h) (passes-drop (suc n) sofar all p)
+        ∙ back-words m rest (sofar ++ take (suc n) all) ws more (subst (Narrow width) (map-drop e n xs) (narrow-drop width (suc n) (map e all) h)) (passes-drop (suc n) sofar all p)
         ∙ ap (λ s. got s ws) (append-assoc sofar (take (suc n) all) rest ∙ ap (λ s. sofar ++ s) (take-append-drop (suc n) all))
 
   -- A list is read back from its words.
@@ -200,6 +195,16 @@ pub both-hold : {A : Type 0} {Q R : A → List ℕ → Type 0} (p : Parsed A) �
 both-hold (refuse n) h k = nothing
 both-hold (got a ws) h k = fine (h .it, k .it)
 
+-- What is refused stays so.
+module _ {A : Type 0} (chk : List A → ℕ → Parsed A) where
+  pub bad-fields : (bs : List ℕ) (n : ℕ) → takeFields chk (bad n) bs ≡ bad n
+  bad-fields [] n = refl
+  bad-fields (b ∷ bs) n = bad-fields bs n
+
+  pub bad-words : (width n : ℕ) (vs : List ℕ) (m : ℕ) → readWords chk width n vs (bad m) ≡ refuse m
+  bad-words width n [] m = refl
+  bad-words width n (v ∷ vs) m = refl
+
 -- The same of fields that were taken.
 abbrev TakenAt : {A : Type 0} → (List A → ℕ → Type 0) → Fields A → Type 0
 TakenAt Q (bad n) = Unit {0}
@@ -220,10 +225,6 @@ module _ {A : Type 0} (e : A → ℕ) (chk : List A → ℕ → Parsed A) (same 
     were : padded (length bs) (map e new) ≡ bs
     few : length new ≡ min k (length bs)
     to-come : m ≡ k - length bs
-
-  bad-fields : (bs : List ℕ) (n : ℕ) → takeFields chk (bad n) bs ≡ bad n
-  bad-fields [] n = refl
-  bad-fields (b ∷ bs) n = bad-fields bs n
 
   nil-of : (l : List A) → length l ≡ 0 → l ≡ []
   nil-of [] h = refl
@@ -257,11 +258,11 @@ module _ {A : Type 0} (e : A → ℕ) (chk : List A → ℕ → Parsed A) (same 
   took-zero : (bs : List ℕ) (s : List A) (b : ℕ) (t : Bool) → eqb b 0 ≡ t → Taken (Since s 0 bs) (takeFields chk (ok s zero) bs)
       → Taken (Since s 0 (b ∷ bs)) (takeFields chk (cond t (ok s zero) (bad 8)) bs)
   took-zero bs s b true h ih = taken-map (takeFields chk (ok s zero) bs) (a-zero s b bs (eqb-true b 0 h)) ih
-  took-zero bs s b false h ih = subst (Taken (Since s 0 (b ∷ bs))) (sym (bad-fields bs 8)) (record { it = tt })
+  took-zero bs s b false h ih = subst (Taken (Since s 0 (b ∷ bs))) (sym (bad-fields chk bs 8)) (record { it = tt })
 
   took-one : (bs : List ℕ) (s : List A) (k b : ℕ) (q : Parsed A) → Holds (λ a _. e a ≡ b) q → ((s′ : List A) → Taken (Since s′ k bs) (takeFields chk (ok s′ k) bs))
       → Taken (Since s (suc k) (b ∷ bs)) (takeFields chk (put s k q) bs)
-  took-one bs s k b (refuse n) h ih = subst (Taken (Since s (suc k) (b ∷ bs))) (sym (bad-fields bs n)) (record { it = tt })
+  took-one bs s k b (refuse n) h ih = subst (Taken (Since s (suc k) (b ∷ bs))) (sym (bad-fields chk bs n)) (record { it = tt })
   took-one bs s k b (got a ws) h ih = taken-map (takeFields chk (ok (s ++ a ∷ []) k) bs) (one-more s k b bs a (h .it)) (ih (s ++ a ∷ []))
 
   took : (bs : List ℕ) (s : List A) (k : ℕ) → Taken (Since s k bs) (takeFields chk (ok s k) bs)
@@ -309,14 +310,10 @@ module _ {A : Type 0} (e : A → ℕ) (chk : List A → ℕ → Parsed A) (same 
             (λ f. ap (λ i. drop i (ys ++ zs)) (sym f) ∙ drop-append-seam ys zs)
             (λ z f. ap (λ l. drop (suc n) (ys ++ l)) z ∙ ap (drop (suc n)) (append-nil ys) ∙ drop-of-length-le ys f ∙ sym z))
 
-    bad-words : (vs : List ℕ) (m : ℕ) → readWords chk width (suc n) vs (bad m) ≡ refuse m
-    bad-words [] m = refl
-    bad-words (v ∷ vs) m = refl
-
     same-rest : (us : List ℕ) (w : ℕ) (s : List A) (k : ℕ) (t : Fields A) → Taken (Since s (suc k) (split width (suc n) w)) t
         → ((xs : List A) (m : ℕ) → Holds (Read xs m us) (readWords chk width (suc n) us (ok xs m)))
         → Holds (Read s (suc k) (w ∷ us)) (readWords chk width (suc n) us t)
-    same-rest us w s k (bad m) h ih = subst (Holds (Read s (suc k) (w ∷ us))) (sym (bad-words us m)) nothing
+    same-rest us w s k (bad m) h ih = subst (Holds (Read s (suc k) (w ∷ us))) (sym (bad-words chk width (suc n) us m)) nothing
     same-rest us w s k (ok xs m) h ih =
         let g = h .it in
         let l = length-split width (suc n) w in

@@ -74,7 +74,7 @@ any-permits-from first (denies d ∷ ds) = any-permits-from (some (firstDeny fir
 pub any-permits : (T : Table) (ts : Policies ℕ) → products (evalPolicy productSets T (any ts)) ≡ ifAny unionOf (permitted (evalPolicies productSets T ts))
 any-permits T ts = any-permits-from none (evalPolicies productSets T ts)
 
-and-all : (o : ℕ) → InRange o → bitAnd o allProducts ≡ o
+pub and-all : (o : ℕ) → InRange o → bitAnd o allProducts ≡ o
 and-all o h = and-mask o outcomeBits ∙ mod-eq-of-lt h
 
 all-from : (p : Permit ℕ) (ds : List (Decision ℕ)) → InRange (p .outcome) → Permitting ds → products (allFrom productSets (some p) ds) ≡ some (bitAnd (p .outcome) (intersectionOf (permitted ds)))

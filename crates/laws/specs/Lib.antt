@@ -1,12 +1,14 @@
 pub mod Lists
+pub mod FieldAt
 pub mod FieldLaws
 pub mod Each
 pub mod Names
 pub mod Size
 pub mod Form
 pub mod Lengths
-pub mod ReadBack
 pub mod ReadForm
+pub mod FieldAtLaws
+pub mod ReadBack
 pub mod Canon
 pub mod Products
 pub mod Folds

@@ -16,7 +16,7 @@ use Rattle.model.specs.Partial.{ReducedPolicy, resolved, pending}
 use Rattle.model.specs.Consulted.{Consulted}
 use Rattle.model.specs.Record.{Record, evaluated, reduced, narrowed, completed}
 use Rattle.model.specs.Writing.{encodeR, countBits, markBits, obligationBits, entryBits}
-use Rattle.model.specs.Reading.{Parsed, refuse, got, next, unless, another, Fields, bad, ok, put, takeField, takeFields, readWords, readList, obligation, fewObligations, listed, entry, consulted, kindOf, restOf, plain, counted, many, nodeC, readCondition, levels, sheetLength, recordLength, whole, mark, shapeOf, outcomeOf, deniedOf, grantMore, parseGrant, grantAt, more12, parse12, at12, more13, parse13, at13, asStored, inResidual, nodeP, lastKind, readPolicy, readSheet, node14, parse14, parse15, rest, leads, readLead, readRecord}
+use Rattle.model.specs.Reading.{Parsed, refuse, got, next, unless, another, Fields, bad, ok, put, takeField, takeFields, readWords, readList, obligation, fewObligations, listed, entry, consulted, kindOf, restOf, plain, counted, many, nodeC, readCondition, levels, sheetLength, recordLength, whole, mark, shapeOf, outcomeOf, deniedOf, grantMore, parseGrant, grantAt, more12, parse12, at12, more13, parse13, at13, asStored, inResidual, nodeP, lastKind, readPolicy, readSheet, node14, parse14, parse15, rest, leads, readLead, readRecord, obligationCount}
 use Rattle.model.specs.Calls.{Answer, refusal, wrote, unlessLong, unlessFault, onRead, fits, write, evaluate, partialEvaluate, narrowResidual, completeResidual}
 
 -- A number of the table.
@@ -117,7 +117,7 @@ module _ {A : Type 0} (chk : List A → ℕ → Parsed A) (sound : (xs : List A)
   list-numbered width k ws = words-numbered width (perWord width) ws (ok [] k) tt
 
 obligation-numbered : (os : List ℕ) (b : ℕ) → Numbered (obligation os b)
-obligation-numbered os b = unless-numbered (ltb b 64) 8 (unless (not (held b os)) 9 (got b [])) eight (unless-numbered (not (held b os)) 9 (got b []) nine tt)
+obligation-numbered os b = unless-numbered (ltb b obligationCount) 8 (unless (not (held b os)) 9 (got b [])) eight (unless-numbered (not (held b os)) 9 (got b []) nine tt)
 
 listed-numbered : (fs : List ℕ) (b : ℕ) → Numbered (listed fs b)
 listed-numbered fs b = unless-numbered (ltb b factCount) 8 (got b []) eight tt

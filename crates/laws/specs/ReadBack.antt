@@ -1,12 +1,12 @@
 -- What is written is read back: for a tree or record of good form, reading the words that it was written as gives it again.
-use mathlib.Core.Path.{_≡_, refl, sym, _∙_, ap, ap₂, subst}
-use mathlib.Core.Bool.{Bool, true, false, cond, not, _||_, _&&_}
+use mathlib.Core.Path.{_≡_, refl, sym, _∙_, ap, subst}
+use mathlib.Core.Bool.{Bool, true, false, cond, not, _&&_}
 use mathlib.Core.Option.{Option, none, some}
 use mathlib.Core.List.{List, [], _∷_, _++_, append-assoc, append-nil, map, map-id}
-use Prim.Native.Nat.{ℕ, zero, suc, _+_, _-_, _*_, _/_, _%_, _≤_, _<_, max}
+use Prim.Native.Nat.{ℕ, zero, suc, _+_, _-_, _*_, _/_, _%_, _^_, _≤_, _<_}
 use native.Mathlib.Omega.{arith}
-use borrow.Author.Tests.{ltb-true, leb-true, eqb-true, not-true, lt-ltb, le-ltb, le-leb}
-use lib.Dec.{eqb, ltb, leb, eqb-refl, lt→ltb, le→leb, ltb→lt, T}
+use borrow.Author.Tests.{lt-ltb, le-ltb, le-leb}
+use lib.Dec.{eqb, ltb, leb}
 use lib.ListN.{length}
 use Rattle.model.specs.Fields.{pack}
 use Rattle.model.specs.Facts.{Presence, absent, present, unknown}
@@ -17,11 +17,14 @@ use Rattle.model.specs.Partial.{ReducedPolicy, resolved, pending}
 use Rattle.model.specs.Consulted.{Entry, Consulted}
 use Rattle.model.specs.Record.{Record, tree}
 use Rattle.model.specs.Writing.{obligationBits, entryBits, word, shapeBit, marked, presenceField, entryField, countC, count, encodeC, encodeCs, deniedField, encodeD, encode, encodes, encodeR}
-use Rattle.model.specs.Reading.{Parsed, got, next, unless, readList, obligation, listed, entry, consulted, many, nodeC, readCondition, whole, mark, shapeOf, outcomeOf, deniedOf, grantMore, parseGrant, grantAt, more12, parse12, at12, more13, parse13, at13, asStored, node, readPolicy, readSheet, node14, parse14, parse15, rest, leads, readLead, readRecord}
+use Rattle.model.specs.Reading.{Parsed, got, next, unless, readList, obligation, listed, entry, consulted, many, nodeC, readCondition, whole, mark, shapeOf, outcomeOf, deniedOf, grantMore, parseGrant, grantAt, more12, parse12, at12, more13, parse13, at13, asStored, node, readPolicy, readSheet, node14, parse14, parse15, rest, leads, readLead, readRecord, obligationCount, mostObligations}
 use Rattle.laws.specs.Lists.{Distinct, Every, Below, eqb-sym, or-false-l, or-false-r, held-end, pigeon}
-use Rattle.laws.specs.FieldLaws.{Narrow, Passes, back-list}
+use Rattle.laws.specs.FieldAt.{Narrow}
+use Rattle.laws.specs.FieldLaws.{Passes, back-list}
+use Rattle.laws.specs.FieldAtLaws.{narrow-below, narrow-entries}
 use Rattle.laws.specs.Size.{IsSheet, SheetIf, SheetsIf}
 use Rattle.laws.specs.Form.{FormC, FormCs, IfThere, FormL, FormO, FormP, FormN, FormD, FormG, Form, Forms, depthC, depthCs, depth, depths}
+use Rattle.laws.specs.ReadForm.{Named}
 
 -- ---- tests
 unless-is : {A : Type 0} {b : Bool} (n : ℕ) (p : Parsed A) → b ≡ true → unless b n p ≡ p
@@ -87,45 +90,36 @@ fresh-nil : (os : List ℕ) → Fresh [] os
 fresh-nil [] = tt
 fresh-nil (o ∷ os) = (refl, fresh-nil os)
 
-obligation-passes : (os : List ℕ) (o : ℕ) → o < 64 → held o os ≡ false → obligation os o ≡ got o []
-obligation-passes os o h f = unless-is 8 (unless (not (held o os)) 9 (got o [])) (lt-ltb o 64 h) ∙ unless-is 9 (got o []) (ap not f)
+obligation-passes : (os : List ℕ) (o : ℕ) → o < obligationCount → held o os ≡ false → obligation os o ≡ got o []
+obligation-passes os o h f = unless-is 8 (unless (not (held o os)) 9 (got o [])) (lt-ltb o obligationCount h) ∙ unless-is 9 (got o []) (ap not f)
 
-passes-obligations : (os sofar : List ℕ) → Below 64 os → Distinct os → Fresh sofar os → Passes self obligation sofar os
+passes-obligations : (os sofar : List ℕ) → Below obligationCount os → Distinct os → Fresh sofar os → Passes self obligation sofar os
 passes-obligations [] sofar b d f = tt
 passes-obligations (o ∷ os) sofar b d f =
     (obligation-passes sofar o (b .0) (f .0), passes-obligations os (sofar ++ o ∷ []) (b .1) (d .1) (fresh-end sofar o os (d .0) (f .1)))
 
-narrow-obligations : (os : List ℕ) → Below 64 os → Narrow obligationBits (map self os)
-narrow-obligations [] b = tt
-narrow-obligations (o ∷ os) b = (omega (arith, b .0), narrow-obligations os (b .1))
+-- Numbers below n, as they are packed.
+narrow : (width n : ℕ) (vs : List ℕ) → n ≤ 2 ^ width → Below n vs → Narrow width (map self vs)
+narrow width n vs h b = subst (Narrow width) (sym (map-id vs)) (narrow-below width n vs h b)
 
 passes-facts : (fs sofar : List ℕ) → Below 1024 fs → Passes self listed sofar fs
 passes-facts [] sofar b = tt
 passes-facts (f ∷ fs) sofar b = (unless-is 8 (got f []) (lt-ltb f 1024 (b .0)), passes-facts fs (sofar ++ f ∷ []) (b .1))
 
-narrow-facts : (fs : List ℕ) → Below 1024 fs → Narrow entryBits (map self fs)
-narrow-facts [] b = tt
-narrow-facts (f ∷ fs) b = (omega (arith, b .0), narrow-facts fs (b .1))
-
 back-obligations : (os : List ℕ) (ws : List ℕ) → FormO os → readList obligation obligationBits (length os) (pack obligationBits os ++ ws) ≡ got os ws
 back-obligations os ws f =
     ap (λ l. readList obligation obligationBits (length os) (pack obligationBits l ++ ws)) (sym (map-id os))
-    ∙ back-list self obligation obligationBits 3 os ws refl (narrow-obligations os (f .1)) (passes-obligations os [] (f .1) (f .0) (fresh-nil os))
+    ∙ back-list self obligation obligationBits 3 os ws refl (narrow obligationBits obligationCount os (omega arith) (f .1)) (passes-obligations os [] (f .1) (f .0) (fresh-nil os))
 
 back-facts : (fs : List ℕ) (ws : List ℕ) → Below 1024 fs → readList listed entryBits (length fs) (pack entryBits fs ++ ws) ≡ got fs ws
 back-facts fs ws f =
     ap (λ l. readList listed entryBits (length fs) (pack entryBits l ++ ws)) (sym (map-id fs))
-    ∙ back-list self listed entryBits 1 fs ws refl (narrow-facts fs f) (passes-facts fs [] f)
+    ∙ back-list self listed entryBits 1 fs ws refl (narrow entryBits 1024 fs (omega arith) f) (passes-facts fs [] f)
 
 seen-back : (p : Presence) (f : ℕ) → entry (presenceField p) f ≡ got (record { fact = f; seen = p }) []
 seen-back absent f = refl
 seen-back present f = refl
 seen-back unknown f = refl
-
-seen-small : (p : Presence) → presenceField p ≤ 2
-seen-small absent = omega arith
-seen-small present = omega arith
-seen-small unknown = omega arith
 
 entry-passes : (es : Consulted) (x : Entry) → x .fact < 1024 → consulted es (entryField x) ≡ got x []
 entry-passes es x h =
@@ -135,19 +129,11 @@ entry-passes es x h =
     ∙ unless-is 8 (entry (presenceField (x .seen)) (x .fact)) (lt-ltb (x .fact) 1024 h)
     ∙ seen-back (x .seen) (x .fact)
 
-abbrev pub Facts : Consulted → Type 0
-Facts [] = Unit {0}
-Facts (x ∷ xs) = (x .fact < 1024) × Facts xs
-
-passes-entries : (es sofar : Consulted) → Facts es → Passes entryField consulted sofar es
+passes-entries : (es sofar : Consulted) → Named es → Passes entryField consulted sofar es
 passes-entries [] sofar b = tt
 passes-entries (x ∷ es) sofar b = (entry-passes sofar x (b .0), passes-entries es (sofar ++ x ∷ []) (b .1))
 
-narrow-entries : (es : Consulted) → Facts es → Narrow entryBits (map entryField es)
-narrow-entries [] b = tt
-narrow-entries (x ∷ es) b = (omega (arith, b .0, seen-small (x .seen)), narrow-entries es (b .1))
-
-back-entries : (es : Consulted) (ws : List ℕ) → Facts es → readList consulted entryBits (length es) (pack entryBits (map entryField es) ++ ws) ≡ got es ws
+back-entries : (es : Consulted) (ws : List ℕ) → Named es → readList consulted entryBits (length es) (pack entryBits (map entryField es) ++ ws) ≡ got es ws
 back-entries es ws f = back-list entryField consulted entryBits 1 es ws refl (narrow-entries es f) (passes-entries es [] f)
 
 -- ---- labels, reasons, shapes
@@ -163,11 +149,11 @@ marked-small : (l : Option ℕ) → FormL l → marked l < 65536
 marked-small none f = omega arith
 marked-small (some n) f = omega arith
 
-shape-back : (s : Shape) → shapeOf (shapeBit s) ≡ s
+pub shape-back : (s : Shape) → shapeOf (shapeBit s) ≡ s
 shape-back forbidden = refl
 shape-back hidden = refl
 
-shape-small : (s : Shape) → shapeBit s ≤ 1
+pub shape-small : (s : Shape) → shapeBit s ≤ 1
 shape-small forbidden = omega arith
 shape-small hidden = omega arith
 
@@ -186,8 +172,8 @@ module _ {O : Type 0} (G : O → Type 0) (number : O → ℕ) (value : ℕ → O
       ∙ ap (λ q. next q (λ x us. got (grant (record { outcome = g .outcome; obligations = g .obligations; label = g .label; reason = g .reason; shape = shapeOf (shapeBit (g .shape)) }) x) us)) h
       ∙ ap (λ s. got (grant (record { outcome = g .outcome; obligations = g .obligations; label = g .label; reason = g .reason; shape = s }) c) ws) (shape-back (g .shape))
 
-  obligations-few : (os : List ℕ) → FormO os → length os ≤ 64
-  obligations-few os f = pigeon 64 os (f .0) (f .1)
+  obligations-few : (os : List ℕ) → FormO os → length os ≤ mostObligations
+  obligations-few os f = pigeon obligationCount os (f .0) (f .1)
 
   back-grant : (p : List ℕ → Parsed Condition) (g : Grant O) (c : Condition) (ws : List ℕ) → FormG G g → p (encodeC c ++ ws) ≡ got c ws
       → grantAt value p (shapeBit (g .shape) * 134217728 + length (g .obligations) * 1048576 + number (g .outcome)) ((marked (g .label) * 65536 + marked (g .reason)) ∷ (pack obligationBits (g .obligations) ++ (encodeC c ++ ws))) ≡ got (grant g c) ws
@@ -210,7 +196,7 @@ module _ {O : Type 0} (G : O → Type 0) (number : O → ℕ) (value : ℕ → O
       let e₅ : w / 65536 ≡ marked (g .label) = omega arith in
       let e₆ : w % 65536 ≡ marked (g .reason) = omega arith in
       (λ i. parseGrant value p (e₁ i) (e₂ i) (e₃ i) (e₄ i) (w ∷ vs))
-      ∙ unless-is 8 (outcomeOf value (value o) (λ x. grantMore value p sb n x (w / 65536) (w % 65536) vs)) (le-leb n 64 few)
+      ∙ unless-is 8 (outcomeOf value (value o) (λ x. grantMore value p sb n x (w / 65536) (w % 65536) vs)) (le-leb n mostObligations few)
       ∙ outcome-back (g .outcome) (f .0) (λ x. grantMore value p sb n x (w / 65536) (w % 65536) vs)
       ∙ (λ i. grantMore value p sb n (g .outcome) (e₅ i) (e₆ i) vs)
       ∙ back-grantMore p g c ws f h
@@ -237,7 +223,7 @@ module _ {O : Type 0} (G : O → Type 0) (number : O → ℕ) (value : ℕ → O
       let e₆ : w % 65536 ≡ m = omega arith in
       let mk : Option ℕ → List ℕ → List ℕ → List ℕ → Parsed (Decision O) = λ l os fs us. got (permits (record { outcome = q .outcome; obligations = os; label = l; facts = fs })) us in
       (λ i. parse12 value (e₁ i) (e₂ i) (e₃ i) (e₄ i) (w ∷ vs))
-      ∙ unless-is 8 (outcomeOf value (value o) (λ x. more12 value n x (w / 65536) (w % 65536) vs)) (le-leb n 64 few)
+      ∙ unless-is 8 (outcomeOf value (value o) (λ x. more12 value n x (w / 65536) (w % 65536) vs)) (le-leb n mostObligations few)
       ∙ outcome-back (q .outcome) (f .0) (λ x. more12 value n x (w / 65536) (w % 65536) vs)
       ∙ (λ i. more12 value n (q .outcome) (e₅ i) (e₆ i) (append-assoc (pack obligationBits (q .obligations)) (pack entryBits (q .facts)) ws i))
       ∙ ap (λ x. next x (λ l _. unless (ltb m 4096) 8 (next (readList obligation obligationBits n vs′) (λ os us. next (readList listed entryBits m us) (λ fs ts. mk l os fs ts))))) (mark-back (q .label) (f .2))
@@ -423,7 +409,7 @@ module _ {O : Type 0} (G : O → Type 0) (number : O → ℕ) (value : ℕ → O
       (λ i. unless (leb 12 (word-kind 13 r hr i)) 5 (node14 value (word-kind 13 r hr i - 12) (word-rest 13 r hr i) vs))
       ∙ ap (λ x. next x (λ d us. got (resolved d) us)) (back-13 q ws f)
 
-  back-rest : (p : List ℕ → Parsed (ReducedPolicy O)) (b : ReducedPolicy O) (es : Consulted) (vs ws : List ℕ) → length es < 4096 → Facts es → p (vs ++ ws) ≡ got b ws
+  back-rest : (p : List ℕ → Parsed (ReducedPolicy O)) (b : ReducedPolicy O) (es : Consulted) (vs ws : List ℕ) → length es < 4096 → Named es → p (vs ++ ws) ≡ got b ws
       → rest value p (length es) ((pack entryBits (map entryField es) ++ vs) ++ ws) ≡ got (record { body = b; log = es }) ws
   back-rest p b es vs ws n f h =
       ap (λ us. rest value p (length es) us) (append-assoc (pack entryBits (map entryField es)) vs ws)
@@ -434,7 +420,7 @@ module _ {O : Type 0} (G : O → Type 0) (number : O → ℕ) (value : ℕ → O
   lead-word : (k : ℕ) (n : ℕ) (vs : List ℕ) → n < 268435456 → readLead value (word k n ∷ vs) ≡ unless (leb 14 k) 5 (leads value (k - 14) n vs)
   lead-word k n vs h = λ i. unless (leb 14 (word-kind k n h i)) 5 (leads value (word-kind k n h i - 14) (word-rest k n h i) vs)
 
-  back-lead : (b : ReducedPolicy O) (es : Consulted) (ws : List ℕ) → length es < 4096 → Facts es → Form G (tree (record { body = b; log = es })) → depth (tree (record { body = b; log = es })) ≤ 32
+  back-lead : (b : ReducedPolicy O) (es : Consulted) (ws : List ℕ) → length es < 4096 → Named es → Form G (tree (record { body = b; log = es })) → depth (tree (record { body = b; log = es })) ≤ 32
       → readLead value (encodeR number (record { body = b; log = es }) ++ ws) ≡ got (record { body = b; log = es }) ws
   back-lead (resolved e) es ws n f g h =
       lead-word 14 (length es) ((pack entryBits (map entryField es) ++ encodeD number e) ++ ws) (omega arith)
@@ -444,7 +430,7 @@ module _ {O : Type 0} (G : O → Type 0) (number : O → ℕ) (value : ℕ → O
       ∙ back-rest (parse15 value) (pending t) es (encode number t) ws n f (ap (λ q. next q (λ x us. got (pending x) us)) (back-T t true 32 ws h g tt))
 
   -- A record of good form is read back from its words.
-  pub back-R : (r : Record O) → length (r .log) < 4096 → Facts (r .log) → Form G (tree r) → depth (tree r) ≤ 32 → length (encodeR number r) ≤ 16384 → readRecord value (encodeR number r) ≡ got r []
+  pub back-R : (r : Record O) → length (r .log) < 4096 → Named (r .log) → Form G (tree r) → depth (tree r) ≤ 32 → length (encodeR number r) ≤ 16384 → readRecord value (encodeR number r) ≡ got r []
   back-R r n f g h k =
       unless-is 1 (whole (readLead value (encodeR number r))) (both-is (leb 1 (length (encodeR number r))) (leb (length (encodeR number r)) 16384) (le-leb 1 (length (encodeR number r)) (omega arith)) (le-leb (length (encodeR number r)) 16384 k))
       ∙ ap (λ us. whole (readLead value us)) (sym (append-nil (encodeR number r)))

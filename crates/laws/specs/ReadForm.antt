@@ -18,7 +18,7 @@ use Rattle.model.specs.Partial.{ReducedPolicy, resolved, pending, asResidual}
 use Rattle.model.specs.Consulted.{Entry, Consulted}
 use Rattle.model.specs.Record.{Record, tree}
 use Rattle.model.specs.Writing.{obligationBits, entryBits, entryField, countC, count, mostListed}
-use Rattle.model.specs.Reading.{Parsed, refuse, got, next, unless, another, readList, obligation, listed, entry, consulted, kindOf, restOf, counted, many, nodeC, readCondition, recordLength, whole, mark, shapeOf, outcomeOf, deniedOf, grantMore, parseGrant, more12, at12, more13, at13, asStored, inResidual, nodeP, lastKind, readPolicy, readSheet, node14, parse14, parse15, rest, leads, readLead, readRecord}
+use Rattle.model.specs.Reading.{Parsed, refuse, got, next, unless, another, readList, obligation, listed, entry, consulted, kindOf, restOf, counted, many, nodeC, readCondition, recordLength, whole, mark, shapeOf, outcomeOf, deniedOf, grantMore, parseGrant, more12, at12, more13, at13, asStored, inResidual, nodeP, lastKind, readPolicy, readSheet, node14, parse14, parse15, rest, leads, readLead, readRecord, obligationCount, mostObligations}
 use Rattle.model.specs.Calls.{fits}
 use Rattle.laws.specs.Lists.{Below, distinct-end, every-end}
 use Rattle.laws.specs.FieldLaws.{Holds, fine, nothing, if-holds, weaker, then-holds, both-hold, same-list, kept-list}
@@ -66,15 +66,15 @@ ok-C (suc d) (w ∷ ws) = node-C d (λ vs. readCondition d vs) (λ vs. ok-C d vs
 
 -- ---- obligations, facts, entries: a field that passes its check is what it stands for
 pub same-obligation : (os : List ℕ) (b : ℕ) → Holds (λ a _. a ≡ b) (obligation os b)
-same-obligation os b = if-holds (ltb b 64) 8 (unless (not (held b os)) 9 (got b [])) (λ _. if-holds (not (held b os)) 9 (got b []) (λ _. fine refl))
+same-obligation os b = if-holds (ltb b obligationCount) 8 (unless (not (held b os)) 9 (got b [])) (λ _. if-holds (not (held b os)) 9 (got b []) (λ _. fine refl))
 
 pub same-listed : (fs : List ℕ) (b : ℕ) → Holds (λ a _. a ≡ b) (listed fs b)
 same-listed fs b = if-holds (ltb b 1024) 8 (got b []) (λ _. fine refl)
 
 obligation-keeps : (os : List ℕ) (b : ℕ) → FormO os → Holds (λ a _. FormO (os ++ a ∷ [])) (obligation os b)
 obligation-keeps os b f =
-    if-holds (ltb b 64) 8 (unless (not (held b os)) 9 (got b [])) (λ e. if-holds (not (held b os)) 9 (got b [])
-    (λ g. fine (distinct-end os b (f .0) (not-true (held b os) g), every-end (λ o. o < 64) os b (f .1) (ltb-true b 64 e))))
+    if-holds (ltb b obligationCount) 8 (unless (not (held b os)) 9 (got b [])) (λ e. if-holds (not (held b os)) 9 (got b [])
+    (λ g. fine (distinct-end os b (f .0) (not-true (held b os) g), every-end (λ o. o < obligationCount) os b (f .1) (ltb-true b obligationCount e))))
 
 listed-keeps : (fs : List ℕ) (b : ℕ) → Below 1024 fs → Holds (λ a _. Below 1024 (fs ++ a ∷ [])) (listed fs b)
 listed-keeps fs b f = if-holds (ltb b 1024) 8 (got b []) (λ e. fine (every-end (λ o. o < 1024) fs b f (ltb-true b 1024 e)))
@@ -178,8 +178,8 @@ module _ {O : Type 0} (G : O → Type 0) (value : ℕ → Option O) (sound : (n 
       let sh = r / 134217728 in
       let n = r / 1048576 % 128 in
       let more : O → ℕ → List ℕ → Parsed (Decision O) = λ o w vs. more12 value n o (w / 65536) (w % 65536) vs in
-      if-holds (eqb sh 0) 8 (unless (leb n 64) 8 (unless (eqb (r / 65536 % 16) 0) 8 (outcomeOf value (value (r % 65536)) (λ o. another ws (more o))))) (λ _.
-      if-holds (leb n 64) 8 (unless (eqb (r / 65536 % 16) 0) 8 (outcomeOf value (value (r % 65536)) (λ o. another ws (more o)))) (λ _.
+      if-holds (eqb sh 0) 8 (unless (leb n mostObligations) 8 (unless (eqb (r / 65536 % 16) 0) 8 (outcomeOf value (value (r % 65536)) (λ o. another ws (more o))))) (λ _.
+      if-holds (leb n mostObligations) 8 (unless (eqb (r / 65536 % 16) 0) 8 (outcomeOf value (value (r % 65536)) (λ o. another ws (more o)))) (λ _.
       if-holds (eqb (r / 65536 % 16) 0) 8 (outcomeOf value (value (r % 65536)) (λ o. another ws (more o))) (λ _.
       outcome-holds (value (r % 65536)) (λ o. another ws (more o)) (sound (r % 65536)) (λ o g.
       another-holds ws (more o) (λ w vs e.
@@ -258,7 +258,7 @@ module _ {O : Type 0} (G : O → Type 0) (value : ℕ → Option O) (sound : (n 
         → Holds (OkT (suc d) (suc (length ws))) (parseGrant value p sh n z v ws)
     ok-grant d p hp sh n z v ws room =
         let more : O → ℕ → List ℕ → Parsed (Policy O) = λ o w vs. grantMore value p sh n o (w / 65536) (w % 65536) vs in
-        if-holds (leb n 64) 8 (unless (eqb z 0) 8 (outcomeOf value (value v) (λ o. another ws (more o)))) (λ _.
+        if-holds (leb n mostObligations) 8 (unless (eqb z 0) 8 (outcomeOf value (value v) (λ o. another ws (more o)))) (λ _.
         if-holds (eqb z 0) 8 (outcomeOf value (value v) (λ o. another ws (more o))) (λ _.
         outcome-holds (value v) (λ o. another ws (more o)) (sound v) (λ o g.
         another-holds ws (more o) (λ w vs e.

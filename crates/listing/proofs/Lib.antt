@@ -1,4 +1,3 @@
-pub mod Fields
 pub mod Digits
 pub mod Lists
 pub mod Words

@@ -5,8 +5,8 @@ use Prim.Native.Nat.{ℕ, suc, _+_, _<_}
 use native.Mathlib.Omega.{arith}
 use lib.ListN.{length, drop, getD, set}
 use lib.Seq.{drop-cons, set-at}
-use Rattle.listing.specs.Texts.{firsts}
-use Rattle.listing.specs.ListTexts.{length-firsts}
+use Rattle.laws.specs.FieldAt.{firsts}
+use Rattle.laws.specs.FieldAtLaws.{length-firsts}
 
 pub store-next : (f : ℕ → ℕ) (i : ℕ) (out before : List ℕ) → i < length before → out ≡ firsts f i ++ drop i before → set out i (f i) ≡ firsts f (i + 1) ++ drop (i + 1) before
 unfolding firsts

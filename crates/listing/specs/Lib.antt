@@ -3,3 +3,4 @@ pub mod Writers
 pub mod ListTexts
 pub mod RecordTexts
 pub mod Inputs
+pub mod InputLaws

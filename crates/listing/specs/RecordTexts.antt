@@ -3,63 +3,45 @@ use mathlib.Core.Path.{_≡_, refl, sym, _∙_, ap, ap₂, subst}
 use mathlib.Core.Bool.{Bool, true, false, cond}
 use mathlib.Core.Option.{Option, none, some}
 use mathlib.Core.List.{List, [], _∷_, _++_, map, append-assoc, append-nil}
-use Prim.Native.Nat.{ℕ, suc, _+_, _-_, _*_, _/_, _%_, _≤_, _<_}
+use Prim.Native.Nat.{ℕ, suc, _+_, _*_, _/_, _%_, _≤_, _<_}
 use native.Mathlib.Omega.{arith}
 use borrow.Author.Tests.{eq-eqb, ne-eqb}
 use lib.Dec.{eqb}
 use lib.ListN.{length, drop, getD, length-append, length-map}
 use lib.Seq.{getD-drop, drop-drop, drop-at}
 use Rattle.model.specs.Fields.{wordsFor, pack}
-use Rattle.model.specs.Facts.{Presence, absent, present, unknown, presence}
+use Rattle.model.specs.Facts.{presence, factCount}
 use Rattle.model.specs.Outcome.{productSets}
 use Rattle.model.specs.Decision.{Shape, forbidden, hidden, Permit, Denial, Decision, permits, denies}
 use Rattle.model.specs.Partial.{ReducedPolicy, resolved, pending}
 use Rattle.model.specs.Consulted.{Entry, Consulted}
 use Rattle.model.specs.Record.{Record}
-use Rattle.model.specs.Writing.{word, marked, shapeBit, presenceField, entryField, obligationBits, entryBits, deniedField, encodeD, encodeR}
-use Rattle.model.specs.Reading.{Parsed, refuse, got, shapeOf, readRecord}
+use Rattle.model.specs.Writing.{word, marked, shapeBit, presenceField, entryField, obligationBits, entryBits, mostListed}
+use Rattle.model.specs.Reading.{Parsed, refuse, got, shapeOf, obligationCount, mostObligations}
 use Rattle.model.specs.Listing.{text, newline, digits, decimal, listOf, line, shapeName, presenceText, entryText, listing}
+use Rattle.model.specs.Products.{Outcome, deniedField, encodeD, encodeR, readRecord}
 use Rattle.laws.specs.Lists.{Below, pigeon}
-use Rattle.laws.specs.FieldLaws.{Holds, Narrow}
+use Rattle.laws.specs.FieldAt.{fieldAt, firsts}
+use Rattle.laws.specs.FieldLaws.{Holds}
+use Rattle.laws.specs.FieldAtLaws.{fields-held, narrow-below, narrow-entries, presence-few, presence-back}
 use Rattle.laws.specs.Lengths.{length-pack}
 use Rattle.laws.specs.Form.{IfThere, FormP, FormN, FormD}
 use Rattle.laws.specs.Products.{InRange, writtenProducts}
+use Rattle.laws.specs.ReadBack.{shape-back, shape-small}
 use Rattle.laws.specs.ReadForm.{Named, OkRecord, ok-record}
 use Rattle.laws.specs.Canon.{same-record}
 use Rattle.listing.specs.declared.Listed.the-variants.{Obligations, Facts, Consulted as Entries}
-use Rattle.listing.specs.Texts.{Wrote, listsRoom, decisionRoom, consultedRoom, listingRoom, fieldAt, firsts, fieldText, fieldsText, permitLines, denyHead, denyLines, permitLists, permitText, denyText, decisionText, recordText, ListedBody, ListedAs}
+use Rattle.listing.specs.Texts.{Wrote, listsRoom, decisionRoom, consultedRoom, listingRoom, fieldText, fieldsText, permitLines, denyHead, denyLines, permitLists, permitText, denyText, decisionText, recordText, ListedBody, ListedAs}
 use Rattle.listing.specs.Writers.{wrote-as}
-use Rattle.listing.specs.ListTexts.{length-fields, fields-held}
+use Rattle.listing.specs.ListTexts.{length-fields}
 
 -- ---- obligations, facts and entries from their words
-narrow-obligations : (os : List ℕ) → Below 64 os → Narrow obligationBits os
-narrow-obligations [] b = tt
-narrow-obligations (o ∷ os) b = (omega (arith, b .0), narrow-obligations os (b .1))
-
-narrow-facts : (fs : List ℕ) → Below 1024 fs → Narrow entryBits fs
-narrow-facts [] b = tt
-narrow-facts (f ∷ fs) b = (omega (arith, b .0), narrow-facts fs (b .1))
-
-seen-small : (p : Presence) → presenceField p ≤ 2
-seen-small absent = omega arith
-seen-small present = omega arith
-seen-small unknown = omega arith
-
-narrow-entries : (es : Consulted) → Named es → Narrow entryBits (map entryField es)
-narrow-entries [] b = tt
-narrow-entries (e ∷ es) b = (omega (arith, b .0, seen-small (e .seen)), narrow-entries es (b .1))
-
-presence-same : (p : Presence) → presence (presenceField p) ≡ p
-presence-same absent = refl
-presence-same present = refl
-presence-same unknown = refl
-
-entry-same : (e : Entry) → e .fact < 1024 → fieldText Entries (entryField e) ≡ entryText e
+entry-same : (e : Entry) → e .fact < factCount → fieldText Entries (entryField e) ≡ entryText e
 unfolding fieldText
 entry-same e h =
-    let f : entryField e % 16384 ≡ e .fact = omega (arith, seen-small (e .seen)) in
-    let p : entryField e / 16384 ≡ presenceField (e .seen) = omega (arith, seen-small (e .seen)) in
-    ap₂ (λ x y. decimal x ++ (61 ∷ presenceText y)) f (ap presence p ∙ presence-same (e .seen))
+    let f : entryField e % 16384 ≡ e .fact = omega (arith, presence-few (e .seen)) in
+    let p : entryField e / 16384 ≡ presenceField (e .seen) = omega (arith, presence-few (e .seen)) in
+    ap₂ (λ x y. decimal x ++ (61 ∷ presenceText y)) f (ap presence p ∙ presence-back (e .seen))
 
 entries-same : (es : Consulted) → Named es → map (fieldText Entries) (map entryField es) ≡ map entryText es
 entries-same [] h = refl
@@ -75,40 +57,32 @@ unfolding fieldText
 facts-same [] = refl
 facts-same (f ∷ fs) = ap (λ l. decimal f ∷ l) (facts-same fs)
 
-low-seven : (x n : ℕ) → x ≡ 3072 + n → n ≤ 64 → x % 128 ≡ n
+low-seven : (x n : ℕ) → x ≡ 3072 + n → n ≤ mostObligations → x % 128 ≡ n
 low-seven x n e h = omega arith
 
-shape-same : (s : Shape) → shapeOf (shapeBit s) ≡ s
-shape-same forbidden = refl
-shape-same hidden = refl
-
-shape-small : (s : Shape) → shapeBit s ≤ 1
-shape-small forbidden = omega arith
-shape-small hidden = omega arith
-
-denied-small : (x : Option ℕ) → IfThere InRange x → deniedField (productSets .number) x < 134217728
+denied-small : (x : Option ℕ) → IfThere InRange x → deniedField x < 134217728
 denied-small none h = omega arith
 denied-small (some o) h = omega (arith, h)
 
 -- A decision's five lines.
-abbrev decided : Decision ℕ → List ℕ
+abbrev decided : Decision Outcome → List ℕ
 decided (permits p) = permitLines (p .outcome) (listOf (map decimal (p .obligations))) (listOf (map decimal (p .facts)))
 decided (denies d) = denyLines (d .shape) (listOf (map decimal (d .facts)))
 
 module _ (ws : List ℕ) where
-  obligations-held : (at : ℕ) (os rest : List ℕ) → drop at ws ≡ pack obligationBits os ++ rest → Below 64 os → fieldsText Obligations ws at (length os) ≡ listOf (map decimal os)
+  obligations-held : (at : ℕ) (os rest : List ℕ) → drop at ws ≡ pack obligationBits os ++ rest → Below obligationCount os → fieldsText Obligations ws at (length os) ≡ listOf (map decimal os)
   unfolding fieldsText
-  obligations-held at os rest e h = ap (λ l. listOf (map (fieldText Obligations) l)) (fields-held obligationBits 3 ws at os rest refl e (narrow-obligations os h)) ∙ ap listOf (numbers-same os)
+  obligations-held at os rest e h = ap (λ l. listOf (map (fieldText Obligations) l)) (fields-held obligationBits 3 (drop at ws) os rest refl e (narrow-below obligationBits obligationCount os (omega arith) h)) ∙ ap listOf (numbers-same os)
 
-  facts-held : (at : ℕ) (fs rest : List ℕ) → drop at ws ≡ pack entryBits fs ++ rest → Below 1024 fs → fieldsText Facts ws at (length fs) ≡ listOf (map decimal fs)
+  facts-held : (at : ℕ) (fs rest : List ℕ) → drop at ws ≡ pack entryBits fs ++ rest → Below factCount fs → fieldsText Facts ws at (length fs) ≡ listOf (map decimal fs)
   unfolding fieldsText
-  facts-held at fs rest e h = ap (λ l. listOf (map (fieldText Facts) l)) (fields-held entryBits 1 ws at fs rest refl e (narrow-facts fs h)) ∙ ap listOf (facts-same fs)
+  facts-held at fs rest e h = ap (λ l. listOf (map (fieldText Facts) l)) (fields-held entryBits 1 (drop at ws) fs rest refl e (narrow-below entryBits factCount fs (omega arith) h)) ∙ ap listOf (facts-same fs)
 
   entries-held : (at : ℕ) (es : Consulted) (rest : List ℕ) → drop at ws ≡ pack entryBits (map entryField es) ++ rest → Named es → fieldsText Entries ws at (length es) ≡ listOf (map entryText es)
   unfolding fieldsText
   entries-held at es rest e h =
-      ap (λ n. listOf (map (fieldText Entries) (firsts (fieldAt entryBits ws at) n))) (sym (length-map es entryField))
-      ∙ ap (λ l. listOf (map (fieldText Entries) l)) (fields-held entryBits 1 ws at (map entryField es) rest refl e (narrow-entries es h))
+      ap (λ n. listOf (map (fieldText Entries) (firsts (fieldAt entryBits (drop at ws)) n))) (sym (length-map es entryField))
+      ∙ ap (λ l. listOf (map (fieldText Entries) l)) (fields-held entryBits 1 (drop at ws) (map entryField es) rest refl e (narrow-entries es h))
       ∙ ap listOf (entries-same es h)
 
   -- ---- a decision's words
@@ -118,15 +92,15 @@ module _ (ws : List ℕ) where
   later-words : (at n : ℕ) (us vs : List ℕ) → length us ≡ n → drop at ws ≡ us ++ vs → drop (at + n) ws ≡ vs
   later-words at n us vs l e = sym (drop-drop n at ws) ∙ ap (drop n) e ∙ drop-at us vs n l
 
-  permit-held : (at : ℕ) (p : Permit ℕ) → drop at ws ≡ encodeD (productSets .number) (permits p) → FormP InRange p
+  permit-held : (at : ℕ) (p : Permit Outcome) → drop at ws ≡ encodeD (permits p) → FormP InRange p
       → permitText ws at ≡ permitLines (p .outcome) (listOf (map decimal (p .obligations))) (listOf (map decimal (p .facts)))
   unfolding permitText permitLists
   permit-held at p e f =
       let os = p .obligations in
       let fs = p .facts in
       let packed = pack obligationBits os ++ pack entryBits fs in
-      let few : length os ≤ 64 = pigeon 64 os (f .1 .0) (f .1 .1) in
-      let listed : length fs ≤ 4095 = f .3 .0 in
+      let few : length os ≤ mostObligations = pigeon obligationCount os (f .1 .0) (f .1 .1) in
+      let listed : length fs ≤ mostListed = f .3 .0 in
       let first : getD ws at 0 ≡ word 12 (length os * 1048576 + p .outcome) = first-word at (word 12 (length os * 1048576 + p .outcome)) ((marked (p .label) * 65536 + length fs) ∷ packed) e in
       let after : drop (at + 1) ws ≡ (marked (p .label) * 65536 + length fs) ∷ packed = later-words at 1 (word 12 (length os * 1048576 + p .outcome) ∷ []) ((marked (p .label) * 65536 + length fs) ∷ packed) refl e in
       let second : getD ws (at + 1) 0 ≡ marked (p .label) * 65536 + length fs = first-word (at + 1) (marked (p .label) * 65536 + length fs) packed after in
@@ -140,13 +114,13 @@ module _ (ws : List ℕ) where
       (λ i. permitLines (eo i) (fieldsText Obligations ws (at + 2) (en i)) (fieldsText Facts ws (at + 2 + wordsFor 4 (en i)) (em i)))
       ∙ ap₂ (permitLines (p .outcome)) (obligations-held (at + 2) os (pack entryBits fs) lists (f .1 .1)) (facts-held (at + 2 + wordsFor 4 (length os)) fs [] tail (f .3 .1))
 
-  deny-held : (at : ℕ) (d : Denial ℕ) → drop at ws ≡ encodeD (productSets .number) (denies d) → FormN InRange d → denyText ws at ≡ denyLines (d .shape) (listOf (map decimal (d .facts)))
+  deny-held : (at : ℕ) (d : Denial Outcome) → drop at ws ≡ encodeD (denies d) → FormN InRange d → denyText ws at ≡ denyLines (d .shape) (listOf (map decimal (d .facts)))
   unfolding denyText
   deny-held at d e f =
       let fs = d .facts in
-      let w₀ = word 13 (shapeBit (d .shape) * 134217728 + deniedField (productSets .number) (d .denied)) in
+      let w₀ = word 13 (shapeBit (d .shape) * 134217728 + deniedField (d .denied)) in
       let w₁ = marked (d .label) * 65536 + marked (d .reason) in
-      let listed : length fs ≤ 4095 = f .1 .0 in
+      let listed : length fs ≤ mostListed = f .1 .0 in
       let first : getD ws at 0 ≡ w₀ = first-word at w₀ (w₁ ∷ length fs ∷ pack entryBits fs) e in
       let third : getD ws (at + 2) 0 ≡ length fs = first-word (at + 2) (length fs) (pack entryBits fs) (later-words at 2 (w₀ ∷ w₁ ∷ []) (length fs ∷ pack entryBits fs) refl e) in
       let tail : drop (at + 3) ws ≡ pack entryBits fs ++ [] = later-words at 3 (w₀ ∷ w₁ ∷ length fs ∷ []) (pack entryBits fs) refl e ∙ sym (append-nil (pack entryBits fs)) in
@@ -156,19 +130,19 @@ module _ (ws : List ℕ) where
       let es : getD ws at 0 / 134217728 % 2 ≡ shapeBit (d .shape) = omega arith in
       let em : getD ws (at + 2) 0 % 4096 ≡ length fs = omega arith in
       ap₂ (λ s n. denyLines (shapeOf s) (fieldsText Facts ws (at + 3) n)) es em
-      ∙ ap₂ denyLines (shape-same (d .shape)) (facts-held (at + 3) fs [] tail (f .1 .1))
+      ∙ ap₂ denyLines (shape-back (d .shape)) (facts-held (at + 3) fs [] tail (f .1 .1))
 
-  decision-held : (at : ℕ) (d : Decision ℕ) → drop at ws ≡ encodeD (productSets .number) d → FormD InRange d → decisionText ws at ≡ decided d
+  decision-held : (at : ℕ) (d : Decision Outcome) → drop at ws ≡ encodeD d → FormD InRange d → decisionText ws at ≡ decided d
   unfolding decisionText
   decision-held at (permits p) e f =
       let w = word 12 (length (p .obligations) * 1048576 + p .outcome) in
-      let few : length (p .obligations) ≤ 64 = pigeon 64 (p .obligations) (f .1 .0) (f .1 .1) in
+      let few : length (p .obligations) ≤ mostObligations = pigeon obligationCount (p .obligations) (f .1 .0) (f .1 .1) in
       let small : p .outcome < 65536 = f .0 in
       let first : getD ws at 0 ≡ w = first-word at w ((marked (p .label) * 65536 + length (p .facts)) ∷ (pack obligationBits (p .obligations) ++ pack entryBits (p .facts))) e in
       ap (λ b. cond b (permitText ws at) (denyText ws at)) (eq-eqb (getD ws at 0 / 268435456) 12 (omega arith))
       ∙ permit-held at p e f
   decision-held at (denies d) e f =
-      let w = word 13 (shapeBit (d .shape) * 134217728 + deniedField (productSets .number) (d .denied)) in
+      let w = word 13 (shapeBit (d .shape) * 134217728 + deniedField (d .denied)) in
       let first : getD ws at 0 ≡ w = first-word at w ((marked (d .label) * 65536 + marked (d .reason)) ∷ length (d .facts) ∷ pack entryBits (d .facts)) e in
       let b = shape-small (d .shape) in
       let k = denied-small (d .denied) (f .0) in
@@ -185,7 +159,7 @@ deny-lines : (s : Shape) (facts entries : List ℕ)
 deny-lines forbidden facts entries = ap (λ l. denyHead forbidden ++ (text "\nfacts " ++ l)) (sym (last-lines facts entries))
 deny-lines hidden facts entries = ap (λ l. denyHead hidden ++ (text "\nfacts " ++ l)) (sym (last-lines facts entries))
 
-listing-lines : (d : Decision ℕ) (l : Consulted) → decided d ++ ((text "\nconsulted " ++ listOf (map entryText l)) ++ newline) ≡ listing d l
+listing-lines : (d : Decision Outcome) (l : Consulted) → decided d ++ ((text "\nconsulted " ++ listOf (map entryText l)) ++ newline) ≡ listing d l
 listing-lines (permits p) l =
     let obligations = listOf (map decimal (p .obligations)) in
     let facts = listOf (map decimal (p .facts)) in
@@ -198,51 +172,51 @@ listing-lines (permits p) l =
 listing-lines (denies d) l = deny-lines (d .shape) (listOf (map decimal (d .facts))) (listOf (map entryText l))
 
 -- The words of a Resolved record.
-pub resolved-text : (d : Decision ℕ) (l : Consulted) → FormD InRange d → Named l → length l ≤ 4095
-    → recordText (encodeR (productSets .number) (record { body = resolved d; log = l })) ≡ listing d l
+resolved-text : (d : Decision Outcome) (l : Consulted) → FormD InRange d → Named l → length l ≤ mostListed
+    → recordText (encodeR (record { body = resolved d; log = l })) ≡ listing d l
 unfolding recordText
 resolved-text d l f named few =
-    let ws = encodeR (productSets .number) (record { body = resolved d; log = l }) in
+    let ws = encodeR (record { body = resolved d; log = l }) in
     let entries = pack entryBits (map entryField l) in
     let en : word 14 (length l) % 4096 ≡ length l = omega arith in
-    let there : drop (1 + wordsFor 2 (length l)) ws ≡ encodeD (productSets .number) d =
+    let there : drop (1 + wordsFor 2 (length l)) ws ≡ encodeD d =
     ap (λ n. drop n ws) (let z : 1 + wordsFor 2 (length l) ≡ suc (wordsFor 2 (length l)) = omega arith in z)
-    ∙ drop-at entries (encodeD (productSets .number) d) (wordsFor 2 (length l)) (length-pack entryBits (map entryField l) ∙ ap (wordsFor 2) (length-map l entryField)) in
+    ∙ drop-at entries (encodeD d) (wordsFor 2 (length l)) (length-pack entryBits (map entryField l) ∙ ap (wordsFor 2) (length-map l entryField)) in
     ap (λ n. decisionText ws (1 + wordsFor 2 n) ++ ((text "\nconsulted " ++ fieldsText Entries ws 1 n) ++ newline)) en
-    ∙ ap₂ (λ x y. x ++ ((text "\nconsulted " ++ y) ++ newline)) (decision-held ws (1 + wordsFor 2 (length l)) d there f) (entries-held ws 1 l (encodeD (productSets .number) d) refl named)
+    ∙ ap₂ (λ x y. x ++ ((text "\nconsulted " ++ y) ++ newline)) (decision-held ws (1 + wordsFor 2 (length l)) d there f) (entries-held ws 1 l (encodeD d) refl named)
     ∙ listing-lines d l
 
-body-text : (ws : List ℕ) (b : ReducedPolicy ℕ) (l : Consulted) (vs : List ℕ) → readRecord (productSets .value) ws ≡ got (record { body = b; log = l }) vs → ListedBody (λ bytes. recordText ws ≡ bytes) b l
+body-text : (ws : List ℕ) (b : ReducedPolicy Outcome) (l : Consulted) (vs : List ℕ) → readRecord ws ≡ got (record { body = b; log = l }) vs → ListedBody (λ bytes. recordText ws ≡ bytes) b l
 body-text ws (pending t) l vs e = tt
 body-text ws (resolved d) l vs e =
-    let r : Record ℕ = record { body = resolved d; log = l } in
+    let r : Record Outcome = record { body = resolved d; log = l } in
     let ok : OkRecord InRange (productSets .value) (writtenProducts .sound) (length ws) r = subst (Holds (λ x _. OkRecord InRange (productSets .value) (writtenProducts .sound) (length ws) x)) e (ok-record InRange (productSets .value) (writtenProducts .sound) ws) .it in
     ap recordText (sym (same-record (productSets .number) (productSets .value) (writtenProducts .only) ws r vs e))
     ∙ resolved-text d l (ok .form) (ok .entries) (ok .few)
 
-parsed-text : (ws : List ℕ) (q : Parsed (Record ℕ)) → readRecord (productSets .value) ws ≡ q → ListedAs (λ bytes. recordText ws ≡ bytes) q
+parsed-text : (ws : List ℕ) (q : Parsed (Record Outcome)) → readRecord ws ≡ q → ListedAs (λ bytes. recordText ws ≡ bytes) q
 parsed-text ws (refuse n) e = tt
 parsed-text ws (got r vs) e = body-text ws (r .body) (r .log) vs e
 
 -- What was read of a record is what its text lists.
-pub record-text : (ws : List ℕ) → ListedAs (λ bytes. recordText ws ≡ bytes) (readRecord (productSets .value) ws)
-record-text ws = parsed-text ws (readRecord (productSets .value) ws) refl
+record-text : (ws : List ℕ) → ListedAs (λ bytes. recordText ws ≡ bytes) (readRecord ws)
+record-text ws = parsed-text ws (readRecord ws) refl
 
-listed-by : (ws before after : List ℕ) (n : ℕ) (q : Parsed (Record ℕ)) → ListedAs (λ bytes. recordText ws ≡ bytes) q → Wrote (recordText ws) before after n → ListedAs (λ bytes. Wrote bytes before after n) q
+listed-by : (ws before after : List ℕ) (n : ℕ) (q : Parsed (Record Outcome)) → ListedAs (λ bytes. recordText ws ≡ bytes) q → Wrote (recordText ws) before after n → ListedAs (λ bytes. Wrote bytes before after n) q
 listed-by ws before after n (refuse k) h w = tt
 listed-by ws before after n (got r vs) h w = of-body (r .body) h
   where
-    of-body : (b : ReducedPolicy ℕ) → ListedBody (λ bytes. recordText ws ≡ bytes) b (r .log) → ListedBody (λ bytes. Wrote bytes before after n) b (r .log)
+    of-body : (b : ReducedPolicy Outcome) → ListedBody (λ bytes. recordText ws ≡ bytes) b (r .log) → ListedBody (λ bytes. Wrote bytes before after n) b (r .log)
     of-body (resolved d) e = wrote-as e w
     of-body (pending t) e = tt
 
 -- Whoever wrote a record's text wrote its listing.
-pub record-listed : (ws before after : List ℕ) (n : ℕ) → Wrote (recordText ws) before after n → ListedAs (λ bytes. Wrote bytes before after n) (readRecord (productSets .value) ws)
-record-listed ws before after n w = listed-by ws before after n (readRecord (productSets .value) ws) (record-text ws) w
+pub record-listed : (ws before after : List ℕ) (n : ℕ) → Wrote (recordText ws) before after n → ListedAs (λ bytes. Wrote bytes before after n) (readRecord ws)
+record-listed ws before after n w = listed-by ws before after n (readRecord ws) (record-text ws) w
 
 -- What a listing of a record that was read as Resolved says.
-pub listed-resolved : (ws before after : List ℕ) (n : ℕ) (d : Decision ℕ) (l : Consulted) (vs : List ℕ) → readRecord (productSets .value) ws ≡ got (record { body = resolved d; log = l }) vs
-    → ListedAs (λ bytes. Wrote bytes before after n) (readRecord (productSets .value) ws) → Wrote (listing d l) before after n
+pub listed-resolved : (ws before after : List ℕ) (n : ℕ) (d : Decision Outcome) (l : Consulted) (vs : List ℕ) → readRecord ws ≡ got (record { body = resolved d; log = l }) vs
+    → ListedAs (λ bytes. Wrote bytes before after n) (readRecord ws) → Wrote (listing d l) before after n
 listed-resolved ws before after n d l vs e h = subst (ListedAs (λ bytes. Wrote bytes before after n)) e h
 
 -- ---- lengths

@@ -1,11 +1,11 @@
 -- The listing's bytes as its writers put them down, from any words; and what a writer leaves. Document 01, "Listing".
 use mathlib.Core.Path.{_≡_}
 use mathlib.Core.Bool.{cond}
-use mathlib.Core.List.{List, [], _∷_, _++_, map}
-use Prim.Native.Nat.{ℕ, zero, suc, _+_, _/_, _%_, _^_}
+use mathlib.Core.List.{List, _++_, map}
+use Prim.Native.Nat.{ℕ, _+_, _/_, _%_, _^_}
 use lib.Dec.{eqb}
 use lib.ListN.{length, drop, getD}
-use Rattle.model.specs.Fields.{bits, split, perWord, wordsFor}
+use Rattle.model.specs.Fields.{bits, wordsFor}
 use Rattle.model.specs.Facts.{factBits, presence}
 use Rattle.model.specs.Outcome.{outcomeBits}
 use Rattle.model.specs.Decision.{Shape, forbidden, hidden}
@@ -15,6 +15,8 @@ use Rattle.model.specs.Record.{Record}
 use Rattle.model.specs.Writing.{obligationBits, entryBits, countBits}
 use Rattle.model.specs.Reading.{Parsed, refuse, got, kindOf, shapeOf}
 use Rattle.model.specs.Listing.{text, newline, digits, decimal, listOf, presenceText, listing}
+use Rattle.model.specs.Products.{Outcome}
+use Rattle.laws.specs.FieldAt.{fieldAt, firsts}
 use Rattle.listing.specs.declared.Listed.{Listed}
 use Rattle.listing.specs.declared.Listed.the-variants.{Obligations, Facts, Consulted as Entries}
 
@@ -49,15 +51,6 @@ mostOf Obligations = 5
 mostOf Facts = 5
 mostOf Entries = 13
 
--- The field at a place of the list that begins at a position; 0 past the words.
-unfoldable pub fieldAt : ℕ → List ℕ → ℕ → ℕ → ℕ
-fieldAt width ws at i = getD (split width (perWord width) (getD ws (at + i / perWord width) 0)) (i % perWord width) 0
-
--- The first n values.
-unfoldable pub firsts : (ℕ → ℕ) → ℕ → List ℕ
-firsts f zero = []
-firsts f (suc n) = firsts f n ++ f n ∷ []
-
 -- An obligation and a fact in decimal; of a consulted entry the fact, `=` and the presence.
 unfoldable pub fieldText : Listed → ℕ → List ℕ
 fieldText Obligations b = decimal b
@@ -65,7 +58,7 @@ fieldText Facts b = decimal b
 fieldText Entries b = decimal (b % 2 ^ (4 + factBits)) ++ (text "=" ++ presenceText (presence (b / 2 ^ (4 + factBits))))
 
 unfoldable pub fieldsText : Listed → List ℕ → ℕ → ℕ → List ℕ
-fieldsText kind ws at n = listOf (map (fieldText kind) (firsts (fieldAt (widthOf kind) ws at) n))
+fieldsText kind ws at n = listOf (map (fieldText kind) (firsts (fieldAt (widthOf kind) (drop at ws)) n))
 
 -- ---- the lines, from the words of a node 12 or 13 at a position
 
@@ -113,10 +106,10 @@ recordText ws =
     ++ newline)
 
 -- ---- what is listed of a record that was read: of a Resolved one the decision and the consulted facts
-abbrev pub ListedBody : (List ℕ → Type 0) → ReducedPolicy ℕ → Consulted → Type 0
+abbrev pub ListedBody : (List ℕ → Type 0) → ReducedPolicy Outcome → Consulted → Type 0
 ListedBody Q (resolved d) l = Q (listing d l)
 ListedBody Q (pending t) l = Unit {0}
 
-abbrev pub ListedAs : (List ℕ → Type 0) → Parsed (Record ℕ) → Type 0
+abbrev pub ListedAs : (List ℕ → Type 0) → Parsed (Record Outcome) → Type 0
 ListedAs Q (refuse n) = Unit {0}
 ListedAs Q (got r ws) = ListedBody Q (r .body) (r .log)

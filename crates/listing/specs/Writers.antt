@@ -34,10 +34,6 @@ wrote-then {xs} {ys} {before} {mid} {part} {n} {k} w v =
       count = omega (arith, w .count, v .count);
     }
 
--- The bytes fit where the output keeps its length.
-pub wrote-fits : {xs before after : List ℕ} {r : ℕ} → Wrote xs before after r → length after ≡ length before → length xs ≤ length before
-wrote-fits {xs} {before} w e = omega (arith, ap length (w .output), length-append xs (drop (length xs) before), length-drop (length xs) before)
-
 -- The bytes that are counted are there.
 pub wrote-there : {xs before after : List ℕ} {r : ℕ} → Wrote xs before after r → r ≤ length after
 wrote-there {xs} {before} w = omega (arith, w .count, ap length (w .output), length-append xs (drop (length xs) before))

@@ -1,14 +1,16 @@
 // The listing of the program `sitting`: the bytes of a Resolved record and of a refusal, and the numbers of the program's input.
+use facts::Presence;
 ghost use mathlib.Core.Path.{_≡_};
 ghost use mathlib.Core.List.{_++_};
 ghost use Prim.Native.Nat.{_+_, _*_, _%_, _<_, _≤_};
 ghost use lib.ListN.{length, drop, getD};
-ghost use Rattle.model.specs.Fields.{bits, split};
-ghost use Rattle.model.specs.Facts.{presence as presenceIn};
-ghost use Rattle.model.specs.Outcome.{productSets};
-ghost use Rattle.model.specs.Reading.{got, readRecord, shapeOf};
-ghost use Rattle.model.specs.Listing.{digit as digitOf, digits, text, decimal, newline, presenceText, refusedText, numberFrom, wordsFrom};
-ghost use Rattle.listing.specs.Texts.{Wrote, listsRoom, decisionRoom, consultedRoom, listingRoom, widthOf, mostOf, fieldAt, fieldText, fieldsText, permitLists, permitText, denyHead, denyText, decisionText, ListedAs};
+ghost use Rattle.model.specs.Fields.{bits};
+ghost use Rattle.model.specs.Reading.{got, shapeOf};
+ghost use Rattle.model.specs.Listing.{digit as digitOf, digits, text, decimal, newline, presenceText, refusedText, numberFrom};
+ghost use Rattle.model.specs.Products.{readRecord};
+ghost use Rattle.laws.specs.FieldAt.{fieldAt};
+ghost use Rattle.facts.specs.Answers.{presenceOf};
+ghost use Rattle.listing.specs.Texts.{Wrote, listsRoom, decisionRoom, consultedRoom, listingRoom, widthOf, mostOf, fieldText, fieldsText, permitLists, permitText, denyHead, denyText, decisionText, ListedAs};
 ghost use Rattle.listing.specs.Inputs.{wordIn, WordsRead};
 
 // A listing takes no more bytes than this.
@@ -23,46 +25,19 @@ enum Listed {
 
 // ---- fields of the record
 
-// The word at a position, 0 past the end.
-fn word_at(words: &[u32], at: usize) -> u32
-    ensures { λ r. ⌜ r ≡ getD (now (words .entry)) at 0 ⌝ }
-{
-    if at < words.len() { words[at] } else { 0 }
-}
-
-// A word's field of 8 bits, from the left.
-fn quarter(word: u32, place: usize) -> u32
-    ensures { λ r. ⌜ r ≡ getD (split 8 4 word) place 0 ⌝ }
-{
-    match place {
-        0 => word / 16777216,
-        1 => word % 16777216 / 65536,
-        2 => word % 65536 / 256,
-        3 => word % 256,
-        _ => 0,
-    }
-}
-
-// A word's field of 16 bits, from the left.
-fn half(word: u32, place: usize) -> u32
-    ensures { λ r. ⌜ r ≡ getD (split 16 2 word) place 0 ⌝ }
-{
-    match place {
-        0 => word / 65536,
-        1 => word % 65536,
-        _ => 0,
-    }
-}
-
-// The field at a place of the list that begins at a position.
+// The field at a place of the list that begins at a position, 8 or 16 bits from the left.
 fn field_at(words: &[u32], at: usize, place: usize, kind: Listed) -> u32
     requires { ⌜ at + place < 65536 ⌝ }
-    ensures { λ r. ⌜ r ≡ fieldAt (widthOf kind) (now (words .entry)) at place ⌝ }
+    ensures { λ r. ⌜ r ≡ fieldAt (widthOf kind) (drop at (now (words .entry))) place ⌝ }
 {
     match kind {
-        Listed::Obligations => quarter(word_at(words, at + place / 4), place % 4),
-        Listed::Facts => half(word_at(words, at + place / 2), place % 2),
-        Listed::Consulted => half(word_at(words, at + place / 2), place % 2),
+        Listed::Obligations => (policy_model::word_at(words, at + place / 4)
+            >> (24 - place % 4 * 8))
+            % policy_model::QUARTER,
+        Listed::Facts => (policy_model::word_at(words, at + place / 2) >> (16 - place % 2 * 16))
+            % policy_model::HALF,
+        Listed::Consulted => (policy_model::word_at(words, at + place / 2) >> (16 - place % 2 * 16))
+            % policy_model::HALF,
     }
 }
 
@@ -121,14 +96,14 @@ fn put_decimal(value: u32, out: &mut [u8]) -> usize
 // ---- lists
 
 // `=` and the word for a presence.
-fn put_presence(presence: u32, out: &mut [u8]) -> usize
+fn put_presence(presence: Presence, out: &mut [u8]) -> usize
     requires { ⌜ 8 ≤ length (now out) ⌝ }
-    ensures { λ r. ⌜ Wrote (text "=" ++ presenceText (presenceIn presence)) (now (out .entry)) (now (out .exit)) r ⌝ }
+    ensures { λ r. ⌜ Wrote (text "=" ++ presenceText (presenceOf presence)) (now (out .entry)) (now (out .exit)) r ⌝ }
 {
     match presence {
-        0 => bytes::copy(b"=absent", out),
-        1 => bytes::copy(b"=present", out),
-        _ => bytes::copy(b"=unknown", out),
+        Presence::Absent => bytes::copy(b"=absent", out),
+        Presence::Present => bytes::copy(b"=present", out),
+        Presence::Unknown => bytes::copy(b"=unknown", out),
     }
 }
 
@@ -137,8 +112,8 @@ fn put_entry(field: u32, out: &mut [u8]) -> usize
     requires { ⌜ 12 ≤ length (now out) ⌝ }
     ensures { λ r. ⌜ Wrote (fieldText Listed.Consulted field) (now (out .entry)) (now (out .exit)) r ⌝ }
 {
-    let n = put_decimal(field % 16384, out);
-    n + put_presence(field / 16384, &mut out[n..])
+    let n = put_decimal(field % policy_model::PRESENCE, out);
+    n + put_presence(facts::entry_presence(field), &mut out[n..])
 }
 
 // One of a list.
@@ -203,7 +178,7 @@ fn put_products(word: u32, out: &mut [u8]) -> usize
     ensures { λ r. ⌜ Wrote (text "effect permit\nproducts " ++ digits 16 4 (word % 65536)) (now (out .entry)) (now (out .exit)) r ⌝ }
 {
     let n = bytes::copy(b"effect permit\nproducts ", out);
-    n + put_digits(word % 65536, 16, 4, &mut out[n..])
+    n + put_digits(word % policy_model::HALF, 16, 4, &mut out[n..])
 }
 
 // Its obligations and facts.
@@ -211,8 +186,9 @@ fn put_permit_lists(words: &[u32], at: usize, out: &mut [u8]) -> usize
     requires { ⌜ (at < 4096) × (listsRoom ≤ length (now out)) ⌝ }
     ensures { λ r. ⌜ Wrote (permitLists (now (words .entry)) at) (now (out .entry)) (now (out .exit)) r ⌝ }
 {
-    let obligations = (word_at(words, at) / 1048576 % 128) as usize;
-    let facts = (word_at(words, at + 1) % 4096) as usize;
+    let obligations = (policy_model::word_at(words, at) / policy_model::OBLIGATIONS
+        % policy_model::OBLIGATION_COUNTS) as usize;
+    let facts = (policy_model::word_at(words, at + 1) % policy_model::COUNTS) as usize;
     let after = at + 2 + (obligations + 3) / 4;
     let n = put_named(
         b"\nshape -\nobligations ",
@@ -238,7 +214,7 @@ fn put_permit(words: &[u32], at: usize, out: &mut [u8]) -> usize
     requires { ⌜ (at < 4096) × (decisionRoom ≤ length (now out)) ⌝ }
     ensures { λ r. ⌜ Wrote (permitText (now (words .entry)) at) (now (out .entry)) (now (out .exit)) r ⌝ }
 {
-    let n = put_products(word_at(words, at), out);
+    let n = put_products(policy_model::word_at(words, at), out);
     n + put_permit_lists(words, at, &mut out[n..])
 }
 
@@ -247,7 +223,7 @@ fn put_shape(word: u32, out: &mut [u8]) -> usize
     requires { ⌜ 64 ≤ length (now out) ⌝ }
     ensures { λ r. ⌜ Wrote (denyHead (shapeOf (bits 27 1 word))) (now (out .entry)) (now (out .exit)) r ⌝ }
 {
-    if word / 134217728 % 2 == 1 {
+    if word / policy_model::HIDDEN % 2 == 1 {
         bytes::copy(
             b"effect deny\nproducts ----\nshape hidden\nobligations -",
             out,
@@ -265,8 +241,8 @@ fn put_deny(words: &[u32], at: usize, out: &mut [u8]) -> usize
     requires { ⌜ (at < 4096) × (decisionRoom ≤ length (now out)) ⌝ }
     ensures { λ r. ⌜ Wrote (denyText (now (words .entry)) at) (now (out .entry)) (now (out .exit)) r ⌝ }
 {
-    let facts = (word_at(words, at + 2) % 4096) as usize;
-    let n = put_shape(word_at(words, at), out);
+    let facts = (policy_model::word_at(words, at + 2) % policy_model::COUNTS) as usize;
+    let n = put_shape(policy_model::word_at(words, at), out);
     n
         + put_named(
             b"\nfacts ",
@@ -283,7 +259,9 @@ fn put_decision(words: &[u32], at: usize, out: &mut [u8]) -> usize
     requires { ⌜ (at < 4096) × (decisionRoom ≤ length (now out)) ⌝ }
     ensures { λ r. ⌜ Wrote (decisionText (now (words .entry)) at) (now (out .entry)) (now (out .exit)) r ⌝ }
 {
-    if word_at(words, at) / 268435456 == 12 {
+    if policy_model::word_at(words, at) / policy_model::KIND
+        == policy_model::KIND_PERMIT_WITH_TRACE
+    {
         put_permit(words, at, out)
     } else {
         put_deny(words, at, out)
@@ -303,9 +281,9 @@ fn put_consulted(words: &[u32], count: usize, out: &mut [u8]) -> usize
 pub fn list_record(words: &[u32], out: &mut [u8]) -> usize
     requires { ⌜ listingRoom ≤ length (now out) ⌝ }
     ensures room { λ r. ⌜ r ≤ listingRoom ⌝ }
-    ensures listing { λ r. ⌜ ListedAs (λ bytes. Wrote bytes (now (out .entry)) (now (out .exit)) r) (readRecord (productSets .value) (now (words .entry))) ⌝ }
+    ensures listing { λ r. ⌜ ListedAs (λ bytes. Wrote bytes (now (out .entry)) (now (out .exit)) r) (readRecord (now (words .entry))) ⌝ }
 {
-    let consulted = (word_at(words, 0) % 4096) as usize;
+    let consulted = (policy_model::word_at(words, 0) % policy_model::COUNTS) as usize;
     let n = put_decision(words, 1 + (consulted + 1) / 2, out);
     n + put_consulted(words, consulted, &mut out[n..])
 }

@@ -12,5 +12,6 @@ pub mod Writing
 pub mod Reading
 pub mod Calls
 pub mod Required
+pub mod Products
 pub mod Listing
 pub mod Worked

@@ -76,11 +76,14 @@ readList chk width k ws = readWords chk width (perWord width) ws (ok [] k)
 abbrev pub obligationCount : ℕ
 obligationCount = 64
 
+abbrev pub mostObligations : ℕ
+mostObligations = 64
+
 abbrev pub obligation : List ℕ → ℕ → Parsed ℕ
 obligation os b = unless (ltb b obligationCount) 8 (unless (not (held b os)) 9 (got b []))
 
 abbrev pub fewObligations : ℕ → Bool
-fewObligations n = leb n obligationCount
+fewObligations n = leb n mostObligations
 
 -- A listed fact: zero (6), fact (10).
 abbrev pub listed : List ℕ → ℕ → Parsed ℕ
@@ -148,11 +151,17 @@ abbrev pub levels : ℕ
 levels = 32
 
 -- A sheet is 1..4,096 words, a record 1..16,384.
+abbrev pub sheetWords : ℕ
+sheetWords = 4096
+
+abbrev pub recordWords : ℕ
+recordWords = 16384
+
 abbrev pub sheetLength : List ℕ → Bool
-sheetLength ws = leb 1 (length ws) && leb (length ws) 4096
+sheetLength ws = leb 1 (length ws) && leb (length ws) sheetWords
 
 abbrev pub recordLength : List ℕ → Bool
-recordLength ws = leb 1 (length ws) && leb (length ws) 16384
+recordLength ws = leb 1 (length ws) && leb (length ws) recordWords
 
 -- Words after the tree (10).
 abbrev pub whole : {A : Type 0} → Parsed A → Parsed A

@@ -1,15 +1,14 @@
--- The words that each turn of a loop stores, and the shift that a field is read by. Assumes nothing.
+-- The words that each turn of a loop stores. Assumes nothing.
 use mathlib.Core.Path.{_≡_, sym, _∙_, ap, ap₂}
 use mathlib.Core.List.{List, [], _∷_}
-use Prim.Native.Nat.{ℕ, suc, _+_, _-_, _*_, _/_, _%_, _^_, _≤_, _<_}
+use Prim.Native.Nat.{ℕ, suc, _+_, _-_, _*_, _/_, _%_, _≤_, _<_}
 use native.Mathlib.Numerals.{add-one}
 use native.Mathlib.Omega.{arith}
 use lib.ListN.{length, take, drop, getD, length-take, length-drop, List·getD-eq-default}
 use lib.Seq.{getD-take, getD-drop}
-use Rattle.model.specs.Fields.{split, joined, wordsFor, pack}
+use Rattle.model.specs.Fields.{joined, wordsFor, pack}
 use Rattle.model.specs.Writing.{obligationBits, entryBits}
 use Rattle.packing.specs.PackedLaws.{packed-number, pack-word}
-use Rattle.packing.specs.FieldAt.{fieldAt, split-place}
 
 -- ---- a part that is copied
 module _ (from : List ℕ) (at n : ℕ) (h : at + n ≤ length from) where
@@ -52,18 +51,3 @@ module _ (count : ℕ) (vs : List ℕ) (h : count ≤ length vs) where
       let two : j * 4 + 2 ≡ suc (suc (j * 4)) = omega arith in
       let three : j * 4 + 3 ≡ suc (suc (suc (j * 4))) = omega arith in
       e ∙ rw (ea, eb, ec, ed, one, two, three) (sym (pack-word obligationBits count vs h j k))
-
--- ---- a field by a shift
-pub entry-by-shift : (ws : List ℕ) (at i : ℕ) → getD ws (at + i / 2) 0 < 2 ^ 32 → getD ws (at + i / 2) 0 / 2 ^ (16 - i % 2 * 16) % 65536 ≡ fieldAt entryBits (drop at ws) i
-unfolding fieldAt
-entry-by-shift ws at i h =
-    ap (λ k. getD ws (at + i / 2) 0 / 2 ^ k % 65536) (let e : 16 - i % 2 * 16 ≡ 16 * (2 - suc (i % 2)) = omega arith in e)
-    ∙ sym (split-place 16 2 (i % 2) (getD ws (at + i / 2) 0) h (omega arith))
-    ∙ ap (λ w. getD (split 16 2 w) (i % 2) 0) (sym (getD-drop at ws (i / 2) 0))
-
-pub obligation-by-shift : (ws : List ℕ) (at i : ℕ) → getD ws (at + i / 4) 0 < 2 ^ 32 → getD ws (at + i / 4) 0 / 2 ^ (24 - i % 4 * 8) % 256 ≡ fieldAt obligationBits (drop at ws) i
-unfolding fieldAt
-obligation-by-shift ws at i h =
-    ap (λ k. getD ws (at + i / 4) 0 / 2 ^ k % 256) (let e : 24 - i % 4 * 8 ≡ 8 * (4 - suc (i % 4)) = omega arith in e)
-    ∙ sym (split-place 8 4 (i % 4) (getD ws (at + i / 4) 0) h (omega arith))
-    ∙ ap (λ w. getD (split 8 4 w) (i % 4) 0) (sym (getD-drop at ws (i / 4) 0))

@@ -1,3 +1,4 @@
 pub mod Written
+pub mod WrittenLaws
+pub mod Packed
 pub mod PackedLaws
-pub mod FieldAt

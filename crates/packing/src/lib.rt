@@ -5,21 +5,24 @@ ghost use Prim.Native.Nat.{_+_, _/_, _≤_, _<_};
 ghost use lib.ListN.{length, take, drop, getD};
 ghost use Rattle.model.specs.Fields.{joined, wordsFor, pack};
 ghost use Rattle.model.specs.Writing.{obligationBits, entryBits};
+ghost use Rattle.laws.specs.FieldAt.{fieldAt};
 ghost use Rattle.packing.specs.Written.{Written};
-ghost use Rattle.packing.specs.FieldAt.{fieldAt};
 
 // A word of two fields of 16 bits.
 fn entries_word(first: u16, second: u16) -> u32
     ensures { λ r. ⌜ r ≡ joined entryBits 2 (first ∷ second ∷ []) ⌝ }
 {
-    first as u32 * 65536 + second as u32
+    first as u32 * policy_model::HALF + second as u32
 }
 
 // A word of four fields of 8 bits.
 fn obligations_word(first: u8, second: u8, third: u8, fourth: u8) -> u32
     ensures { λ r. ⌜ r ≡ joined obligationBits 4 (first ∷ second ∷ third ∷ fourth ∷ []) ⌝ }
 {
-    first as u32 * 16777216 + second as u32 * 65536 + third as u32 * 256 + fourth as u32
+    first as u32 * policy_model::THREE_QUARTERS
+        + second as u32 * policy_model::HALF
+        + third as u32 * policy_model::QUARTER
+        + fourth as u32
 }
 
 // The first `count` facts or consulted entries, two a word; an unused last field is 0. The loop has no test but its own, so it is compiled to work
@@ -88,5 +91,5 @@ pub fn unpack_entry(words: &[u32], at: usize, index: usize) -> u16
     ensures { λ r. ⌜ r ≡ fieldAt entryBits (drop at (now (words .entry))) index ⌝ }
 {
     let word = words[at + index / 2];
-    ((word >> (16 - index % 2 * 16)) % 65536) as u16
+    ((word >> (16 - index % 2 * 16)) % policy_model::HALF) as u16
 }

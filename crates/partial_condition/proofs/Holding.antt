@@ -10,11 +10,12 @@ use Rattle.model.specs.Partial.{through}
 use Rattle.model.specs.Writing.{word, countC, encodeC, encodeCs}
 use Rattle.laws.specs.Size.{wordsC, wordsCs}
 use Rattle.laws.specs.Lengths.{length-encodeC}
-use Rattle.sizes.specs.Laid.{tooMany, capped, Laid, laid-as, laid-none, laid-lead, laid-then}
+use Rattle.sizes.specs.Laid.{tooMany, capped, Laid}
+use Rattle.sizes.specs.LaidLaws.{laid-as, laid-none, laid-lead, laid-then}
 use Rattle.partial_condition.specs.declared.ReducedCondition.{ReducedCondition}
-use Rattle.partial_condition.specs.declared.Held.{Held}
-use Rattle.partial_condition.specs.Reducing.{knownOf, leftOf, Left, endOf}
-use Rattle.partial_condition.specs.Holding.{heldOf, listKind, Holding, MovedUp, Heeds, Negates, Ends}
+use Rattle.partial_condition.specs.declared.Kept.{Kept}
+use Rattle.partial_condition.specs.Reducing.{knownOf, pendingOf, Left, endOf}
+use Rattle.partial_condition.specs.Holding.{keptOf, listKind, Holding, MovedUp, Heeds, Negates, Ends}
 use Rattle.partial_condition.proofs.Laying.{Returned, front-same, laid-under, laid-gap, laid-moved}
 
 -- ---- one arm more, at the end
@@ -35,7 +36,7 @@ count-snoc cnil c = refl
 count-snoc (ccons d ds) c = ap suc (count-snoc ds c)
 
 -- ---- what is held after an arm
-module _ (h g : Held) (arm : ReducedCondition) (from : ℕ) (mid part before after : List ℕ) (b : Returned (h .used) from mid part before) (e : Heeds h arm before g after) where
+module _ (h g : Kept) (arm : ReducedCondition) (from : ℕ) (mid part before after : List ℕ) (b : Returned (h .used) from mid part before) (e : Heeds h arm before g after) where
   -- A known arm drops out, whatever it left in its part.
   pub held-same : (cs : Conditions) → arm .pending ≡ false → Holding cs mid h → Holding cs after g
   held-same cnil p k = rw (e .dropped p .0) k
@@ -69,32 +70,32 @@ module _ (h g : Held) (arm : ReducedCondition) (from : ℕ) (mid part before aft
       )
 
 -- ---- the end of a list that no arm decided
-module _ (h : Held) (next count : ℕ) (before : List ℕ) where
-  pub ends-none : (stop : Bool) → h .count ≡ 0 → Ends stop h next count before (knownOf (not stop) next count) before
-  ends-none stop z = record { next-is = refl; count-is = refl; bound = omega arith; ends = λ cs k. none stop cs k }
+module _ (h : Kept) (next count : ℕ) (before : List ℕ) where
+  pub ends-none : (any : Bool) → h .count ≡ 0 → Ends any h next count before (knownOf (not any) next count) before
+  ends-none any z = record { next-is = refl; count-is = refl; bound = omega arith; ends = λ cs k. none any cs k }
     where
-      none : (stop : Bool) (cs : Conditions) → Holding cs before h → Left (endOf stop (through cs)) (knownOf (not stop) next count) before
+      none : (any : Bool) (cs : Conditions) → Holding cs before h → Left (endOf any (through cs)) (knownOf (not any) next count) before
       none false cnil k = (refl, refl)
       none true cnil k = (refl, refl)
-      none stop (ccons c cnil) k = absurd (omega (arith, k .0))
-      none stop (ccons c (ccons d cs)) k = absurd (omega (arith, k .0))
+      none any (ccons c cnil) k = absurd (omega (arith, k .0))
+      none any (ccons c (ccons d cs)) k = absurd (omega (arith, k .0))
 
-  pub ends-alone : (stop : Bool) → h .count ≡ 1 → h .first ≤ tooMany → Ends stop h next count before (leftOf (h .first) next count) before
-  ends-alone stop z most = record { next-is = refl; count-is = refl; bound = most; ends = λ cs k. alone stop cs k }
+  pub ends-alone : (any : Bool) → h .count ≡ 1 → h .first ≤ tooMany → Ends any h next count before (pendingOf (h .first) next count) before
+  ends-alone any z most = record { next-is = refl; count-is = refl; bound = most; ends = λ cs k. alone any cs k }
     where
-      alone : (stop : Bool) (cs : Conditions) → Holding cs before h → Left (endOf stop (through cs)) (leftOf (h .first) next count) before
-      alone stop cnil k = absurd (omega (arith, k .0))
+      alone : (any : Bool) (cs : Conditions) → Holding cs before h → Left (endOf any (through cs)) (pendingOf (h .first) next count) before
+      alone any cnil k = absurd (omega (arith, k .0))
       alone false (ccons c cnil) k = (refl, k .2)
       alone true (ccons c cnil) k = (refl, k .2)
-      alone stop (ccons c (ccons d cs)) k = absurd (omega (arith, k .0))
+      alone any (ccons c (ccons d cs)) k = absurd (omega (arith, k .0))
 
-  pub ends-list : (stop : Bool) (w : ℕ) (after : List ℕ) → 2 ≤ h .count → h .used ≤ tooMany → w ≡ word (listKind stop) (h .count) → after ≡ set before 0 w →
-      Ends stop h next count before (leftOf (h .used) next count) after
-  ends-list stop w after some most v e = record { next-is = refl; count-is = refl; bound = most; ends = λ cs k. rw (e, v) (list stop cs k) }
+  pub ends-list : (any : Bool) (w : ℕ) (after : List ℕ) → 2 ≤ h .count → h .used ≤ tooMany → w ≡ word (listKind any) (h .count) → after ≡ set before 0 w →
+      Ends any h next count before (pendingOf (h .used) next count) after
+  ends-list any w after some most v e = record { next-is = refl; count-is = refl; bound = most; ends = λ cs k. rw (e, v) (list any cs k) }
     where
-      list : (stop : Bool) (cs : Conditions) → Holding cs before h → Left (endOf stop (through cs)) (leftOf (h .used) next count) (set before 0 (word (listKind stop) (h .count)))
-      list stop cnil k = absurd (omega (arith, k .0))
-      list stop (ccons c cnil) k = absurd (omega (arith, k .0))
+      list : (any : Bool) (cs : Conditions) → Holding cs before h → Left (endOf any (through cs)) (pendingOf (h .used) next count) (set before 0 (word (listKind any) (h .count)))
+      list any cnil k = absurd (omega (arith, k .0))
+      list any (ccons c cnil) k = absurd (omega (arith, k .0))
       list false (ccons c (ccons d cs)) k = (refl, laid-as refl (ap (λ n. word 4 n ∷ encodeCs (ccons c (ccons d cs))) (k .0)) (laid-lead (word 4 (h .count)) before (omega arith) (k .1 .laid)))
       list true (ccons c (ccons d cs)) k = (refl, laid-as refl (ap (λ n. word 5 n ∷ encodeCs (ccons c (ccons d cs))) (k .0)) (laid-lead (word 5 (h .count)) before (omega arith) (k .1 .laid)))
 
@@ -106,11 +107,11 @@ module _ (inner : ReducedCondition) (before after : List ℕ) where
   pub negates-known : inner .pending ≡ false → Negates inner before (knownOf (not (inner .satisfied)) (inner .next) (inner .count)) after
   negates-known p = record { next-is = refl; count-is = refl; bound = omega arith; flips = λ _. (refl, refl); wraps = λ q. clash (sym q ∙ p) }
 
-  pub negates-left : inner .pending ≡ true → inner .size ≤ tooMany → after ≡ set before 0 (word 3 0) → Negates inner before (leftOf (capped (1 + inner .size)) (inner .next) (inner .count)) after
+  pub negates-left : inner .pending ≡ true → inner .size ≤ tooMany → after ≡ set before 0 (word 3 0) → Negates inner before (pendingOf (capped (1 + inner .size)) (inner .next) (inner .count)) after
   negates-left p most e = record { next-is = refl; count-is = refl; bound = omega arith; flips = λ q. clash (sym p ∙ q); wraps = λ _. (refl, refl, e) }
 
 -- ---- an arm that is heeded, by how many are held
-module _ (h : Held) (arm : ReducedCondition) (before : List ℕ) (first : h .first ≤ tooMany) (used : h .used ≤ tooMany) where
+module _ (h : Kept) (arm : ReducedCondition) (before : List ℕ) (first : h .first ≤ tooMany) (used : h .used ≤ tooMany) where
   pub heeds-known : arm .pending ≡ false → Heeds h arm before h before
   heeds-known p = record {
     few = omega arith;
@@ -123,7 +124,7 @@ module _ (h : Held) (arm : ReducedCondition) (before : List ℕ) (first : h .fir
   }
 
   module _ (p : arm .pending ≡ true) (most : arm .size ≤ tooMany) where
-    pub heeds-first : h .count ≡ 0 → Heeds h arm before (heldOf 1 (arm .size) (capped (arm .size + 1))) before
+    pub heeds-first : h .count ≡ 0 → Heeds h arm before (keptOf 1 (arm .size) (capped (arm .size + 1))) before
     heeds-first z = record {
       few = omega arith;
       first-most = most;
@@ -134,7 +135,7 @@ module _ (h : Held) (arm : ReducedCondition) (before : List ℕ) (first : h .fir
       more-held = λ _ o. absurd (omega arith);
     }
 
-    pub heeds-second : (after : List ℕ) → h .count ≡ 1 → MovedUp (h .first) before after → Heeds h arm before (heldOf (h .count + 1) (h .first) (capped (h .used + arm .size))) after
+    pub heeds-second : (after : List ℕ) → h .count ≡ 1 → MovedUp (h .first) before after → Heeds h arm before (keptOf (h .count + 1) (h .first) (capped (h .used + arm .size))) after
     heeds-second after z v = record {
       few = omega arith;
       first-most = first;
@@ -145,7 +146,7 @@ module _ (h : Held) (arm : ReducedCondition) (before : List ℕ) (first : h .fir
       more-held = λ _ o. absurd (omega arith);
     }
 
-    pub heeds-more : (h .count ≡ 0 → ⊥) → (h .count ≡ 1 → ⊥) → Heeds h arm before (heldOf (h .count + 1) (h .first) (capped (h .used + arm .size))) before
+    pub heeds-more : (h .count ≡ 0 → ⊥) → (h .count ≡ 1 → ⊥) → Heeds h arm before (keptOf (h .count + 1) (h .first) (capped (h .used + arm .size))) before
     heeds-more z o = record {
       few = omega arith;
       first-most = first;

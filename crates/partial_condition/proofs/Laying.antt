@@ -8,7 +8,8 @@ use native.Mathlib.Numerals.{add-one, sub-one}
 use native.Mathlib.Omega.{arith}
 use lib.ListN.{length, take, drop, getD, set, length-append, length-take, length-drop, length-set, take-append-drop, List·getD-append}
 use lib.Seq.{length-take-le, take-suc, take-take, take-add, take-at, drop-at, drop-cons, append-snoc, set-at, getD-take}
-use Rattle.sizes.specs.Laid.{mostWords, capped, Laid, take-both}
+use Rattle.sizes.specs.Laid.{mostWords, capped, Laid}
+use Rattle.sizes.specs.LaidLaws.{take-both}
 use Rattle.partial_condition.specs.Holding.{MovedUp}
 
 -- What comes back of an output whose tail was lent, from behind `used` words on.

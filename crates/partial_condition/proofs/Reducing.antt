@@ -20,9 +20,9 @@ use Rattle.policy_model.specs.Heads.{conditionHeads, conditionHead, conditionNo
 use Rattle.condition.specs.Listing.{Lent, lent, Recorded}
 use Rattle.condition.proofs.Listing.{consults-as, consults-none}
 use Rattle.decisive.proofs.Positions.{no-words, no-levels, by-head, Some, some-arms, has-word}
-use Rattle.sizes.specs.Laid.{laid-word, laid-lead, laid-then}
+use Rattle.sizes.specs.LaidLaws.{laid-word, laid-lead, laid-then}
 use Rattle.partial_condition.specs.declared.ReducedCondition.{ReducedCondition}
-use Rattle.partial_condition.specs.Reducing.{knownOf, leftOf, Left, ReducesC, ReducesHas, ReducesList, ReducesAll, ReducesAny}
+use Rattle.partial_condition.specs.Reducing.{knownOf, pendingOf, Left, ReducesC, ReducesHas, ReducesList, ReducesAll, ReducesAny}
 use Rattle.partial_condition.specs.Holding.{Negates}
 use Rattle.partial_condition.proofs.Laying.{Returned, laid-free}
 
@@ -72,11 +72,11 @@ module _ (P : Table) (f end : ℕ) (s t : Lent) (count : ℕ) (out : List ℕ) w
   }
 
 -- An Unknown fact is what is left, and isn't consulted.
-pub has-unknown : (P : Table) (f end : ℕ) (s : Lent) (count : ℕ) (before out : List ℕ) → P f ≡ unknown → out ≡ set before 0 (word 2 f) → ReducesHas P f end s (leftOf 1 end count) s out
+pub has-unknown : (P : Table) (f end : ℕ) (s : Lent) (count : ℕ) (before out : List ℕ) → P f ≡ unknown → out ≡ set before 0 (word 2 f) → ReducesHas P f end s (pendingOf 1 end count) s out
 has-unknown P f end s count before out e w = record {
   bound = omega arith;
   says = record {
-    left = subst (λ p. Left (reduceHas f p) (leftOf 1 end count) out) (sym e) (refl, rw w (laid-word (word 2 f) before));
+    left = subst (λ p. Left (reduceHas f p) (pendingOf 1 end count) out) (sym e) (refl, rw w (laid-word (word 2 f) before));
     next-is = refl;
     log = simp e consults-none;
   };

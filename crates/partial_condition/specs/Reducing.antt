@@ -21,8 +21,8 @@ use Rattle.partial_condition.specs.declared.ReducedCondition.{ReducedCon
 abbrev pub knownOf : Bool → ℕ → ℕ → ReducedCondition
 knownOf value next count = record { pending = false; satisfied = value; next = next; count = count; size = 0 }
 
-abbrev pub leftOf : ℕ → ℕ → ℕ → ReducedCondition
-leftOf size next count = record { pending = true; satisfied = false; next = next; count = count; size = size }
+abbrev pub pendingOf : ℕ → ℕ → ℕ → ReducedCondition
+pendingOf size next count = record { pending = true; satisfied = false; next = next; count = count; size = size }
 
 -- The answer to a reduction: its value, or what is left, laid at the front of the output.
 abbrev pub Left : model.ReducedCondition → ReducedCondition → List ℕ → Type 0
@@ -64,7 +64,7 @@ readOf false P cs l = walkAllC P cs l
 readOf true P cs l = walkAnyC P cs l
 
 abbrev pub ReducesList : Bool → Table → List ℕ → ℕ → ℕ → ℕ → Lent → ReducedCondition → Lent → List ℕ → Type 0
-ReducesList stop P = ReducesArms (λ cs. endOf stop (walkOf stop P cs)) (readOf stop P)
+ReducesList any P = ReducesArms (λ cs. endOf any (walkOf any P cs)) (readOf any P)
 
 abbrev pub ReducesAll : Table → List ℕ → ℕ → ℕ → ℕ → Lent → ReducedCondition → Lent → List ℕ → Type 0
 ReducesAll P = ReducesArms (λ cs. reduceCondition P (allC cs)) (λ cs. walkC P (allC cs))

@@ -4,14 +4,14 @@ use facts::Presence;
 use policy_model::ConditionHead;
 ghost use mathlib.Core.Path.{_≡_};
 ghost use mathlib.Core.Bool.{not, _&&_, Bool·beq};
-ghost use Prim.Native.Nat.{_+_, _≤_, _<_};
+ghost use Prim.Native.Nat.{_+_, _^_, _≤_, _<_};
 ghost use lib.ListN.{set};
 ghost use Rattle.model.specs.Facts.{factCount, tableOf};
-ghost use Rattle.model.specs.Writing.{word};
+ghost use Rattle.model.specs.Writing.{countBits, word};
 ghost use Rattle.condition.specs.Listing.{lent};
 ghost use Rattle.sizes.specs.Laid.{tooMany, capped};
-ghost use Rattle.partial_condition.specs.Reducing.{knownOf, leftOf, ReducesC, ReducesHas, ReducesList, ReducesAll, ReducesAny};
-ghost use Rattle.partial_condition.specs.Holding.{heldOf, listKind, MovedUp, Heeds, Negates, Ends};
+ghost use Rattle.partial_condition.specs.Reducing.{knownOf, pendingOf, ReducesC, ReducesHas, ReducesList, ReducesAll, ReducesAny};
+ghost use Rattle.partial_condition.specs.Holding.{keptOf, listKind, MovedUp, Heeds, Negates, Ends};
 
 // Whether a condition is pending, its value if it is not, the position after its words, how many entries are in use, and the size of what is left.
 pub struct ReducedCondition {
@@ -22,8 +22,8 @@ pub struct ReducedCondition {
     pub size: usize,
 }
 
-// The pending arms that a list rule holds: how many, the size of the first, and how many words they take, with the word that is free for a lead.
-struct Held {
+// The pending arms that a list rule keeps: how many, the size of the first, and how many words they take, with the word that is free for a lead.
+struct Kept {
     pub count: u32,
     pub first: usize,
     pub used: usize,
@@ -41,8 +41,8 @@ fn known(satisfied: bool, next: usize, count: usize) -> ReducedCondition
     }
 }
 
-fn left(size: usize, next: usize, count: usize) -> ReducedCondition
-    ensures { λ r. ⌜ r ≡ leftOf size next count ⌝ }
+fn pending(size: usize, next: usize, count: usize) -> ReducedCondition
+    ensures { λ r. ⌜ r ≡ pendingOf size next count ⌝ }
 {
     ReducedCondition {
         pending: true,
@@ -54,7 +54,7 @@ fn left(size: usize, next: usize, count: usize) -> ReducedCondition
 }
 
 // The first word of the output, if there is one.
-fn put_first(word: u32, out: &mut [u32])
+pub fn put_first(word: u32, out: &mut [u32])
     ensures { λ r. ⌜ now (out .exit) ≡ set (now (out .entry)) 0 word ⌝ }
 {
     if out.len() != 0 {
@@ -99,8 +99,8 @@ fn reduce_has(
             known(true, next, listed)
         }
         Presence::Unknown => {
-            put_first(536870912 + fact, out);
-            left(1, next, count)
+            put_first(policy_model::LEAD_HAS + fact, out);
+            pending(1, next, count)
         }
     }
 }
@@ -111,8 +111,8 @@ fn negated(inner: ReducedCondition, out: &mut [u32]) -> ReducedCondition
     ensures { λ r. ⌜ Negates inner (now (out .entry)) r (now (out .exit)) ⌝ }
 {
     if inner.pending {
-        put_first(805306368, out);
-        return left(sizes::plus(1, inner.size), inner.next, inner.count);
+        put_first(policy_model::LEAD_NOT, out);
+        return pending(sizes::plus(1, inner.size), inner.next, inner.count);
     }
     known(!inner.satisfied, inner.next, inner.count)
 }
@@ -185,98 +185,106 @@ fn reduce_arm(
     }
     let word = words[at];
     if word / policy_model::FACTS == policy_model::HAS {
-        return reduce_has(word % 1024, at + 1, facts, entries, seen, count, out);
+        return reduce_has(
+            word % policy_model::FACTS,
+            at + 1,
+            facts,
+            entries,
+            seen,
+            count,
+            out,
+        );
     }
     reduce_condition(words, at, depth, facts, entries, seen, count, out)
 }
 
-// A known arm of the value `stop` decides a list rule.
-fn decides(arm: ReducedCondition, stop: bool) -> bool
-    ensures { λ r. ⌜ r ≡ (not (arm .pending) && Bool·beq (arm .satisfied) stop) ⌝ }
+// A known arm decides a list rule: a false one an All, a true one an Any.
+fn decides(arm: ReducedCondition, any: bool) -> bool
+    ensures { λ r. ⌜ r ≡ (not (arm .pending) && Bool·beq (arm .satisfied) any) ⌝ }
 {
     if arm.pending {
         return false;
     }
-    arm.satisfied == stop
+    arm.satisfied == any
 }
 
 // One pending arm more, of this size.
-fn held_more(held: Held, size: usize) -> Held
-    requires { ⌜ (held .count < 4096) × (held .used ≤ tooMany) × (size ≤ tooMany) ⌝ }
-    ensures { λ r. ⌜ r ≡ heldOf (held .count + 1) (held .first) (capped (held .used + size)) ⌝ }
+fn kept_more(kept: Kept, size: usize) -> Kept
+    requires { ⌜ (kept .count < 2 ^ countBits) × (kept .used ≤ tooMany) × (size ≤ tooMany) ⌝ }
+    ensures { λ r. ⌜ r ≡ keptOf (kept .count + 1) (kept .first) (capped (kept .used + size)) ⌝ }
 {
-    Held {
-        count: held.count + 1,
-        first: held.first,
-        used: sizes::plus(held.used, size),
+    Kept {
+        count: kept.count + 1,
+        first: kept.first,
+        used: sizes::plus(kept.used, size),
     }
 }
 
-// Heeds an arm that does not decide. A pending one stands behind the words that are held; the first is moved up when it turns out not to be alone.
-fn heed(held: Held, arm: ReducedCondition, out: &mut [u32]) -> Held
-    requires { ⌜ (held .count < 4096) × (held .first ≤ tooMany) × (held .used ≤ tooMany) × (arm .size ≤ tooMany) ⌝ }
-    ensures { λ r. ⌜ Heeds held arm (now (out .entry)) r (now (out .exit)) ⌝ }
+// Heeds an arm that does not decide. A pending one stands behind the words that are kept; the first is moved up when it turns out not to be alone.
+fn heed(kept: Kept, arm: ReducedCondition, out: &mut [u32]) -> Kept
+    requires { ⌜ (kept .count < 2 ^ countBits) × (kept .first ≤ tooMany) × (kept .used ≤ tooMany) × (arm .size ≤ tooMany) ⌝ }
+    ensures { λ r. ⌜ Heeds kept arm (now (out .entry)) r (now (out .exit)) ⌝ }
 {
     if !arm.pending {
-        return held;
+        return kept;
     }
-    if held.count == 0 {
-        return Held {
+    if kept.count == 0 {
+        return Kept {
             count: 1,
             first: arm.size,
             used: sizes::plus(arm.size, 1),
         };
     }
-    if held.count == 1 {
-        move_up(held.first, out);
-        return held_more(held, arm.size);
+    if kept.count == 1 {
+        move_up(kept.first, out);
+        return kept_more(kept, arm.size);
     }
-    held_more(held, arm.size)
+    kept_more(kept, arm.size)
 }
 
-// The lead of a list, All or Any by the value that decides it.
-fn lead(stop: bool, count: u32) -> u32
-    requires { ⌜ count < 4096 ⌝ }
-    ensures { λ r. ⌜ r ≡ word (listKind stop) count ⌝ }
+// The lead of a list, an All or an Any.
+fn lead(any: bool, count: u32) -> u32
+    requires { ⌜ count < 2 ^ countBits ⌝ }
+    ensures { λ r. ⌜ r ≡ word (listKind any) count ⌝ }
 {
-    if stop {
-        return 1342177280 + count;
+    if any {
+        return policy_model::LEAD_CONDITION_ANY + count;
     }
-    1073741824 + count
+    policy_model::LEAD_CONDITION_ALL + count
 }
 
 // A list rule that no arm decided: known without pending arms, else the arm that is alone, or a list of them.
-fn ended(stop: bool, held: Held, next: usize, count: usize, out: &mut [u32]) -> ReducedCondition
-    requires { ⌜ (held .count < 4096) × (held .first ≤ tooMany) × (held .used ≤ tooMany) ⌝ }
-    ensures { λ r. ⌜ Ends stop held next count (now (out .entry)) r (now (out .exit)) ⌝ }
+fn ended(any: bool, kept: Kept, next: usize, count: usize, out: &mut [u32]) -> ReducedCondition
+    requires { ⌜ (kept .count < 2 ^ countBits) × (kept .first ≤ tooMany) × (kept .used ≤ tooMany) ⌝ }
+    ensures { λ r. ⌜ Ends any kept next count (now (out .entry)) r (now (out .exit)) ⌝ }
 {
-    if held.count == 0 {
-        return known(!stop, next, count);
+    if kept.count == 0 {
+        return known(!any, next, count);
     }
-    if held.count < 2 {
-        return left(held.first, next, count);
+    if kept.count < 2 {
+        return pending(kept.first, next, count);
     }
-    put_first(lead(stop, held.count), out);
-    left(held.used, next, count)
+    put_first(lead(any, kept.count), out);
+    pending(kept.used, next, count)
 }
 
-// The arms of a list rule, `arms` conditions from `at`: the first known one that has the value `stop` decides, and those after it aren't read.
+// The arms of a list rule, an All or an Any of `arms` conditions from `at`: those after the one that decides aren't read.
 fn reduce_arms(
     words: &[u32],
     at: usize,
     depth: usize,
     arms: u32,
-    stop: bool,
+    any: bool,
     facts: &[u8],
     entries: &mut [u16],
     seen: &mut [u64],
     count: usize,
     out: &mut [u32],
 ) -> ReducedCondition
-    requires { ⌜ arms < 4096 ⌝ }
-    ensures { λ r. ⌜ ReducesList stop (tableOf (now (facts .entry))) (now (words .entry)) at depth arms (lent count (now (entries .entry)) (now (seen .entry))) r (lent (r .count) (now (entries .exit)) (now (seen .exit))) (now (out .exit)) ⌝ }
+    requires { ⌜ arms < 2 ^ countBits ⌝ }
+    ensures { λ r. ⌜ ReducesList any (tableOf (now (facts .entry))) (now (words .entry)) at depth arms (lent count (now (entries .entry)) (now (seen .entry))) r (lent (r .count) (now (entries .exit)) (now (seen .exit))) (now (out .exit)) ⌝ }
 {
-    let mut held = Held {
+    let mut kept = Kept {
         count: 0,
         first: 0,
         used: 0,
@@ -285,7 +293,7 @@ fn reduce_arms(
     let mut listed = count;
     let mut left = arms;
     while left != 0 {
-        let from = sizes::tail_from(held.used, out.len());
+        let from = sizes::tail_from(kept.used, out.len());
         let arm = reduce_arm(
             words,
             next,
@@ -299,12 +307,16 @@ fn reduce_arms(
         next = arm.next;
         listed = arm.count;
         left -= 1;
-        if decides(arm, stop) {
-            return known(stop, condition::skip_conditions(words, next, left), listed);
+        if decides(arm, any) {
+            return known(
+                any,
+                policy_model::skip_conditions(words, next, left),
+                listed,
+            );
         }
-        held = heed(held, arm, out);
+        kept = heed(kept, arm, out);
     }
-    ended(stop, held, next, listed, out)
+    ended(any, kept, next, listed, out)
 }
 
 // All of `arms` conditions from `at`: false without arms, else a false arm decides.
@@ -319,7 +331,7 @@ fn reduce_condition_all(
     count: usize,
     out: &mut [u32],
 ) -> ReducedCondition
-    requires { ⌜ arms < 4096 ⌝ }
+    requires { ⌜ arms < 2 ^ countBits ⌝ }
     ensures { λ r. ⌜ ReducesAll (tableOf (now (facts .entry))) (now (words .entry)) at depth arms (lent count (now (entries .entry)) (now (seen .entry))) r (lent (r .count) (now (entries .exit)) (now (seen .exit))) (now (out .exit)) ⌝ }
 {
     if arms == 0 {
@@ -351,7 +363,7 @@ fn reduce_condition_any(
     count: usize,
     out: &mut [u32],
 ) -> ReducedCondition
-    requires { ⌜ arms < 4096 ⌝ }
+    requires { ⌜ arms < 2 ^ countBits ⌝ }
     ensures { λ r. ⌜ ReducesAny (tableOf (now (facts .entry))) (now (words .entry)) at depth arms (lent count (now (entries .entry)) (now (seen .entry))) r (lent (r .count) (now (entries .exit)) (now (seen .exit))) (now (out .exit)) ⌝ }
 {
     reduce_arms(

@@ -7,15 +7,17 @@ use native.Mathlib.Omega.{arith}
 use lib.ListN.{length, take, drop}
 use lib.Seq.{take-take}
 use Rattle.model.specs.Facts.{Table}
-use Rattle.model.specs.Outcome.{productSets}
 use Rattle.model.specs.Decision.{Decision as Decided}
+use Rattle.model.specs.Products.{Outcome}
 use Rattle.decision.specs.declared.Decision.{Decision}
-use Rattle.decision.specs.Meaning.{decisionOf, Sound}
+use Rattle.decision.specs.Meaning.{Sound}
 use Rattle.decision.proofs.Buffers.{same-decision, same-sound, lent-front, lent-back, lent-tail}
 use Rattle.evaluate.specs.Evaluating.{Folds, Met}
 use Rattle.evaluate.specs.Folding.{joinNext}
-use Rattle.sizes.specs.Laid.{tooMany, capped, Laid, laid-then}
+use Rattle.sizes.specs.Laid.{tooMany, capped}
+use Rattle.sizes.specs.LaidLaws.{laid-then}
 use Rattle.residual.specs.Answers.{NodeLaid}
+use Rattle.decision.specs.Room.{obligationRoom, Few}
 use Rattle.partial_policy.specs.declared.ReducedPolicy.{ReducedPolicy}
 use Rattle.partial_policy.specs.declared.Sofar.{Sofar}
 use Rattle.partial_policy.specs.Keeping.{armsWith, foldNext}
@@ -48,23 +50,23 @@ module _ {T : Table} {W : List ℕ} {d : Decision} {kept : ℕ} where
     bytes = λ _. refl;
   }
 
-  pub node-kept : (buf front bpart fpart : List ℕ) (from size r : ℕ) → kept ≤ tooMany → d .permit ≡ true → 64 ≤ length buf → d .count ≤ length bpart →
-      NodeLaid W T d (take (length buf - 64) (drop 64 buf)) bpart fpart size → from ≡ min kept (length front) → length fpart ≡ length front - from → r ≡ capped (kept + size) →
-      NodeKept T W d kept buf front (take 64 buf ++ (bpart ++ drop (length buf - 64) (drop 64 buf))) (take from front ++ (fpart ++ drop (length front - from) (drop from front))) r
+  pub node-kept : (buf front bpart fpart : List ℕ) (from size r : ℕ) → kept ≤ tooMany → d .permit ≡ true → obligationRoom ≤ length buf → d .united ≤ length bpart →
+      NodeLaid W T d (take (length buf - obligationRoom) (drop obligationRoom buf)) bpart fpart size → from ≡ min kept (length front) → length fpart ≡ length front - from → r ≡ capped (kept + size) →
+      NodeKept T W d kept buf front (take obligationRoom buf ++ (bpart ++ drop (length buf - obligationRoom) (drop obligationRoom buf))) (take from front ++ (fpart ++ drop (length front - from) (drop from front))) r
   node-kept buf front bpart fpart from size r most p room few l f long e =
-      let n : NodeLaid W T d (drop 64 buf) bpart fpart size = subst (λ us. NodeLaid W T d us bpart fpart size) (lent-tail buf) l in
+      let n : NodeLaid W T d (drop obligationRoom buf) bpart fpart size = subst (λ us. NodeLaid W T d us bpart fpart size) (lent-tail buf) l in
       record {
         bound = omega arith;
         more = omega arith;
         none = λ q. clash (d .permit) p q;
         node = λ _ m ws s k. laid-then k (n .laid s) f long e;
-        front-bytes = lent-front buf bpart (drop (length buf - 64) (drop 64 buf)) room 64 (omega arith);
-        bytes = λ s. lent-back buf bpart (drop (length buf - 64) (drop 64 buf)) room (d .count) few ∙ n .bytes s;
+        front-bytes = lent-front buf bpart (drop (length buf - obligationRoom) (drop obligationRoom buf)) room obligationRoom (omega arith);
+        bytes = λ s. lent-back buf bpart (drop (length buf - obligationRoom) (drop obligationRoom buf)) room (d .united) few ∙ n .bytes s;
       }
 
 -- ---- the decision
-pub folds-same : {fold : Decided ℕ → Decided ℕ → Decided ℕ} {W : List ℕ} {sofar incoming r : Decision} {before part after : List ℕ} (before′ part′ : List ℕ) →
-    take (sofar .count) before′ ≡ take (sofar .count) before → (Sound W part incoming → take (incoming .count) part′ ≡ take (incoming .count) part) →
+folds-same : {fold : Decided Outcome → Decided Outcome → Decided Outcome} {W : List ℕ} {sofar incoming r : Decision} {before part after : List ℕ} (before′ part′ : List ℕ) →
+    take (sofar .united) before′ ≡ take (sofar .united) before → (Sound W part incoming → take (incoming .united) part′ ≡ take (incoming .united) part) →
     Folds fold W sofar before′ incoming part′ r after → Folds fold W sofar before incoming part r after
 folds-same {fold} {W} {sofar} {incoming} {r} {before} {part} {after} before′ part′ e b f = record {
   few = f .few;
@@ -75,34 +77,34 @@ folds-same {fold} {W} {sofar} {incoming} {r} {before} {part} {after} before′ p
 }
 
 pub fold-met : {W : List ℕ} {sofar incoming r : Decision} {before after : List ℕ} (every begun : Bool) → every ≡ true → Met W sofar incoming before r after →
-    (every ≡ true → incoming .permit ≡ true) → Folds (foldNext every begun) W sofar before incoming (drop 64 before) r after
+    (every ≡ true → incoming .permit ≡ true) → Folds (foldNext every begun) W sofar before incoming (drop obligationRoom before) r after
 fold-met {W} {sofar} {incoming} {r} {before} {after} every begun e m q =
-    subst (λ b. Folds (foldNext b begun) W sofar before incoming (drop 64 before) r after) (sym e) (m .folds (q e))
+    subst (λ b. Folds (foldNext b begun) W sofar before incoming (drop obligationRoom before) r after) (sym e) (m .folds (q e))
 
-pub fold-joined : {W : List ℕ} {sofar incoming r : Decision} {before after : List ℕ} (every begun : Bool) → every ≡ false → Folds (joinNext begun) W sofar before incoming (drop 64 before) r after →
-    (every ≡ true → incoming .permit ≡ true) → Folds (foldNext every begun) W sofar before incoming (drop 64 before) r after
+pub fold-joined : {W : List ℕ} {sofar incoming r : Decision} {before after : List ℕ} (every begun : Bool) → every ≡ false → Folds (joinNext begun) W sofar before incoming (drop obligationRoom before) r after →
+    (every ≡ true → incoming .permit ≡ true) → Folds (foldNext every begun) W sofar before incoming (drop obligationRoom before) r after
 fold-joined {W} {sofar} {incoming} {r} {before} {after} every begun e f q =
-    subst (λ b. Folds (foldNext b begun) W sofar before incoming (drop 64 before) r after) (sym e) f
+    subst (λ b. Folds (foldNext b begun) W sofar before incoming (drop obligationRoom before) r after) (sym e) f
 
-pub decision-added : {every : Bool} {T : Table} {W : List ℕ} {v : Sofar} {d now : Decision} {buf front mid buf′ front′ : List ℕ} {kept : ℕ} →
-    Bounded v → NodeKept T W d (v .kept) buf front mid front′ kept → now .count ≤ 64 →
-    ((every ≡ true → d .permit ≡ true) → Folds (foldNext every (v .begun)) W (v .decision) mid d (drop 64 mid) now buf′) →
-    DecisionAdded every T W v d buf front buf′ front′ (sofarOf now true kept (v .size) (armsWith (d .permit) (v .arms)) (v .pending))
-decision-added {every} {T} {W} {v} {d} {now} {buf} {front} {mid} {buf′} {front′} {kept} b n few f = record {
+pub decision-added : {every : Bool} {T : Table} {W : List ℕ} {v : Sofar} {d now : Decision} {buf front mid buf′ front′ : List ℕ} {kept arms : ℕ} →
+    Bounded v → NodeKept T W d (v .kept) buf front mid front′ kept → Few now →
+    ((every ≡ true → d .permit ≡ true) → Folds (foldNext every (v .begun)) W (v .decision) mid d (drop obligationRoom mid) now buf′) → arms ≡ armsWith (d .permit) (v .arms) →
+    DecisionAdded every T W v d buf front buf′ front′ (sofarOf now true kept (v .size) arms (v .pending))
+decision-added {every} {T} {W} {v} {d} {now} {buf} {front} {mid} {buf′} {front′} {kept} {arms} b n few f a = record {
   bounds = record { few = few; kept-most = n .bound; size-most = b .size-most; size-some = b .size-some };
   size-is = refl;
   pending-is = refl;
   begun-is = refl;
   more = n .more;
-  arms-are = refl;
+  arms-are = a;
   none = n .none;
   node = n .node;
-  folds = λ q. folds-same mid (drop 64 mid)
-      (sym (take-take (v .decision .count) 64 mid (b .few)) ∙ ap (take (v .decision .count)) (n .front-bytes) ∙ take-take (v .decision .count) 64 buf (b .few)) (n .bytes) (f q);
+  folds = λ q. folds-same mid (drop obligationRoom mid)
+      (sym (take-take (v .decision .united) obligationRoom mid (b .few)) ∙ ap (take (v .decision .united)) (n .front-bytes) ∙ take-take (v .decision .united) obligationRoom buf (b .few)) (n .bytes) (f q);
 }
 
 -- ---- the arm
-pub arms-with-most : (permit : Bool) (n : ℕ) → armsWith permit n ≤ n + 1
+arms-with-most : (permit : Bool) (n : ℕ) → armsWith permit n ≤ n + 1
 arms-with-most true n = omega arith
 arms-with-most false n = omega arith
 

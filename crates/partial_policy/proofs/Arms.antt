@@ -3,21 +3,21 @@ use mathlib.Core.Path.{_≡_, refl, sym, _∙_, ap, ap₂, subst}
 use mathlib.Core.Bool.{Bool, true, false, not, _&&_}
 use mathlib.Core.Option.{none}
 use mathlib.Core.List.{List, [], _∷_, _++_, append-nil}
-use Prim.Native.Nat.{ℕ, suc, _+_, _-_, _≤_, _<_, min}
+use Prim.Native.Nat.{ℕ, _+_, _-_, _≤_, _<_, min}
 use native.Mathlib.Omega.{arith}
-use lib.ListN.{length, take, drop, getD, length-append, length-take, length-drop, drop-of-length-le, take-append-drop}
+use lib.ListN.{length, take, drop, getD, length-append, length-take, length-drop, drop-of-length-le}
 use lib.Seq.{drop-drop, drop-at, length-take-le}
 use Rattle.model.specs.Facts.{Table, asKnown}
-use Rattle.model.specs.Outcome.{productSets}
 use Rattle.model.specs.Decision.{permits, denies, genericDeny}
 use Rattle.model.specs.Decision.{Decision as Decided}
-use Rattle.model.specs.Policy.{Policy, all, any, orElse, Policies, pnil, pcons}
-use Rattle.model.specs.Partial.{resolved, pending, asResidual, AllWalk, stop, go, AnyWalk, parts, endAll, endAny, reduceOrElse, reducePolicy, reduceAll, reduceAny}
+use Rattle.model.specs.Policy.{Policy, orElse, Policies, pnil, pcons}
+use Rattle.model.specs.Partial.{resolved, pending, AllWalk, stop, go, AnyWalk, parts, reduceOrElse}
 use Rattle.model.specs.Partial as model
-use Rattle.model.specs.Consulted.{Consulted, unlessPermitted, walk}
-use Rattle.model.specs.Writing.{count, encodeD, encode, encodes}
-use Rattle.model.specs.Reading.{Parsed, refuse, got, next, many, readPolicy}
-use Rattle.laws.specs.FieldLaws.{Holds, fine, nothing, weaker, then-holds, both-hold}
+use Rattle.model.specs.Consulted.{Consulted, unlessPermitted}
+use Rattle.model.specs.Writing.{count}
+use Rattle.model.specs.Reading.{Parsed, got, next, many}
+use Rattle.model.specs.Products.{Outcome, endAll, endAny, reducePolicy, reduceAll, reduceAny, walk, encodeD, encode, readPolicy}
+use Rattle.laws.specs.FieldLaws.{Holds, fine, weaker, then-holds, both-hold}
 use Rattle.laws.specs.Size.{words, wordss}
 use Rattle.policy_model.specs.declared.PolicyHead.the-variants.{OrElse}
 use Rattle.policy_model.specs.Heads.{policyNode}
@@ -25,25 +25,27 @@ use Rattle.policy_model.specs.Span.{Skipped}
 use Rattle.policy_model.proofs.Policies.{policy-leaves}
 use Rattle.condition.specs.Listing.{Lent, lent}
 use Rattle.condition.proofs.Listing.{consults-none, consults-then, consults-as}
-use Rattle.decision.specs.declared.Decision.{Decision}
-use Rattle.decision.specs.Meaning.{deniedAt, decisionOf, past, Sound}
+use Rattle.decision.specs.Meaning.{deniedAt, decisionOf, past}
 use Rattle.decision.proofs.Standing.{denied-is, sound-denied}
 use Rattle.decision.proofs.Buffers.{same-decision, same-sound, deny-decision, deny-sound, lent-front, lent-back}
-use Rattle.evaluate.specs.Evaluating.{Folds}
 use Rattle.evaluate.proofs.Folds.{lent-folds}
 use Rattle.evaluate.proofs.Nodes.{node-holds}
 use Rattle.evaluate.proofs.Arms.{decides, decides-as, arms-more, skipped, one-passed}
-use Rattle.sizes.specs.Laid.{mostWords, tooMany, capped, Laid, laid-as, laid-none}
+use Rattle.sizes.specs.Laid.{tooMany, capped, Laid}
+use Rattle.sizes.specs.LaidLaws.{laid-as, laid-none}
 use Rattle.residual.specs.Weight.{weightD, weight, weights}
 use Rattle.partial_policy.specs.declared.ReducedPolicy.{ReducedPolicy}
 use Rattle.partial_policy.specs.declared.Sofar.{Sofar}
-use Rattle.partial_policy.specs.Keeping.{Walked, walked, append, withArm, stops, thenAll, thenAny, leftOf, readOf, listOf, left-more, read-more, left-stop, read-stop, asDecisions, sofarValue, isBegun, foldNext, value-more, begun-more, isOpen, open-more, armsWith, nodesOf, withNodes, endOf, left-none, end-none, end-some, weightsD, encodesD, nodes-more, node-words-more, node-count-more, pend-more, pend-words-more, pend-count-more}
-use Rattle.partial_policy.specs.Within.{LaidWithin, within, within-less, within-as, within-then, within-still, laid-still}
-use Rattle.partial_policy.specs.Reducing.{resolvedTo, leftTo, Result, ReducedTo, ReducesP, ReducesBy, sofarOf, listHead, Bounded, SofarIs, DecisionAdded, ArmAdded, ArmsLeft, ListEnds, OrElsePut}
+use Rattle.partial_policy.specs.Keeping.{Walked, walked, append, withArm, stops, thenAll, thenAny, leftOf, readOf, listOf, asDecisions, sofarValue, foldNext, isOpen, armsWith, endOf, weightsD, encodesD}
+use Rattle.partial_policy.specs.KeepingLaws.{left-more, read-more, left-stop, read-stop, value-more, begun-more, open-more, left-none, end-none, end-some, nodes-more, node-words-more, node-count-more, pend-more, pend-words-more, pend-count-more}
+use Rattle.partial_policy.specs.Within.{LaidWithin}
+use Rattle.partial_policy.specs.WithinLaws.{within, within-less, within-as, within-then, within-still, laid-still}
+use Rattle.partial_policy.specs.Reducing.{resolvedTo, leftTo, Result, ReducedTo, ReducesP, ReducesBy, sofarOf, listHead, Bounded, SofarIs, DecisionAdded, ArmAdded, ListEnds, OrElsePut}
 use Rattle.partial_policy.proofs.Adding.{clash}
+use Rattle.decision.specs.Room.{obligationRoom}
 
 -- ---- what comes back of a slice whose tail was lent
-abbrev pub back : ℕ → List ℕ → List ℕ → List ℕ
+abbrev back : ℕ → List ℕ → List ℕ → List ℕ
 back from mid part = take from mid ++ (part ++ drop (length mid - from) (drop from mid))
 
 back-long : (from : ℕ) (mid part : List ℕ) → from ≤ length mid → length part ≡ length mid - from → length (back from mid part) ≡ length mid
@@ -56,41 +58,35 @@ back-part from mid part h =
     let none-left : drop (length mid - from) (drop from mid) ≡ [] = drop-of-length-le (drop from mid) {i = length mid - from} (omega (arith, length-drop from mid)) in
     drop-at (take from mid) (part ++ drop (length mid - from) (drop from mid)) from (length-take-le from mid h) ∙ ap (λ us. part ++ us) none-left ∙ append-nil part
 
--- A tail that comes back as it was.
-pub back-same : (from : ℕ) (mid : List ℕ) → back from mid (drop from mid) ≡ mid
-back-same from mid =
-    let none-left : drop (length mid - from) (drop from mid) ≡ [] = drop-of-length-le (drop from mid) {i = length mid - from} (omega (arith, length-drop from mid)) in
-    ap (λ us. take from mid ++ us) (ap (λ us. drop from mid ++ us) none-left ∙ append-nil (drop from mid)) ∙ take-append-drop from mid
-
 -- ---- whether an arm stops the list
 module _ (T : Table) (W buf : List ℕ) (room : ℕ) (out : List ℕ) (a : ReducedPolicy) where
-  decided-as : (D : Decided ℕ) → Result (resolved D) T W buf room out a → a .decision .permit ≡ decides D
+  decided-as : (D : Decided Outcome) → Result (resolved D) T W buf room out a → a .decision .permit ≡ decides D
   decided-as D x = sym (decides-as W T buf (a .decision)) ∙ ap decides (x .decision-is)
 
-  settled-as : (x : model.ReducedPolicy ℕ) → Result x T W buf room out a → (every : Bool) → stops every x ≡ (every && (not (a .pending) && not (a .decision .permit)))
+  settled-as : (x : model.ReducedPolicy Outcome) → Result x T W buf room out a → (every : Bool) → stops every x ≡ (every && (not (a .pending) && not (a .decision .permit)))
   settled-as x h false = refl
   settled-as (resolved (permits p)) h true = rw (h .settled, decided-as (permits p) h)
   settled-as (resolved (denies d)) h true = rw (h .settled, decided-as (denies d) h)
   settled-as (pending q) h true = rw (h .unsettled)
 
 -- ---- one more arm
-value-open : (every : Bool) (k : Walked) (q : Policy ℕ) → sofarValue every k ≡ sofarValue every (withArm k (pending q))
+value-open : (every : Bool) (k : Walked) (q : Policy Outcome) → sofarValue every k ≡ sofarValue every (withArm k (pending q))
 value-open true k q = refl
 value-open false k q = refl
 
 module _ (every : Bool) (T : Table) (W : List ℕ) (v : Sofar) (a : ReducedPolicy) (buf part front fpart out opart buf′ front′ : List ℕ) (behind from room : ℕ) (v′ : Sofar)
     (f : behind ≡ min (v .kept) (length front)) (o : from ≡ min (v .size) (length out))
-    (added : ArmAdded every T W v a (back 64 buf part) (back behind front fpart) buf′ front′ v′) (flong : length front′ ≡ length front)
-    (bounds : Bounded v) (few : a .decision .count ≤ length part) (wide : 64 ≤ length buf)
+    (added : ArmAdded every T W v a (back obligationRoom buf part) (back behind front fpart) buf′ front′ v′) (flong : length front′ ≡ length front)
+    (bounds : Bounded v) (few : a .decision .united ≤ length part) (wide : obligationRoom ≤ length buf)
     (long : length fpart ≡ length front - behind) (rooms : room ≡ length front - behind) (olong : length opart ≡ length out - from) where
-  abbrev bytes : take (v .decision .count) (back 64 buf part) ≡ take (v .decision .count) buf
-  bytes = lent-front buf part (drop (length buf - 64) (drop 64 buf)) wide (v .decision .count) (bounds .few)
+  abbrev bytes : take (v .decision .united) (back obligationRoom buf part) ≡ take (v .decision .united) buf
+  bytes = lent-front buf part (drop (length buf - obligationRoom) (drop obligationRoom buf)) wide (v .decision .united) (bounds .few)
 
-  open-more-arm : (k : Walked) (q : Policy ℕ) → SofarIs every T W k v buf front out → Result (pending q) T W part room opart a →
-      SofarIs every T W (withArm k (pending q)) (sofarOf (v .decision) (v .begun) (v .kept) (capped (v .size + a .size)) (v .arms + 1) true) (back 64 buf part) (back behind front fpart) (back from out opart)
+  open-more-arm : (k : Walked) (q : Policy Outcome) → SofarIs every T W k v buf front out → Result (pending q) T W part room opart a →
+      SofarIs every T W (withArm k (pending q)) (sofarOf (v .decision) (v .begun) (v .kept) (capped (v .size + a .size)) (v .arms + 1) true) (back obligationRoom buf part) (back behind front fpart) (back from out opart)
   open-more-arm k q s x = record {
-    sound = same-sound W buf (back 64 buf part) (v .decision) bytes (s .sound);
-    decision-is = same-decision W buf (back 64 buf part) (v .decision) bytes T ∙ s .decision-is ∙ value-open every k q;
+    sound = same-sound W buf (back obligationRoom buf part) (v .decision) bytes (s .sound);
+    decision-is = same-decision W buf (back obligationRoom buf part) (v .decision) bytes T ∙ s .decision-is ∙ value-open every k q;
     begun-is = s .begun-is;
     nodes = laid-still fpart (s .nodes) f long;
     free = s .free;
@@ -101,14 +97,14 @@ module _ (every : Bool) (T : Table) (W : List ℕ) (v : Sofar) (a : ReducedPolic
     pending-is = sym (open-more (k .pend) q);
   }
 
-  known-more-arm : (k : Walked) (D : Decided ℕ) → SofarIs every T W k v buf front out → Result (resolved D) T W part room opart a → stops every (resolved D) ≡ false →
-      DecisionAdded every T W v (a .decision) (back 64 buf part) (back behind front fpart) buf′ front′ v′ →
+  known-more-arm : (k : Walked) (D : Decided Outcome) → SofarIs every T W k v buf front out → Result (resolved D) T W part room opart a → stops every (resolved D) ≡ false →
+      DecisionAdded every T W v (a .decision) (back obligationRoom buf part) (back behind front fpart) buf′ front′ v′ →
       Laid (weightsD (asDecisions (withArm k (resolved D) .permitted))) (encodesD (asDecisions (withArm k (resolved D) .permitted))) front′ (v′ .kept) →
       v′ .arms ≡ length (asDecisions (withArm k (resolved D) .permitted)) + count (k .pend) →
       (every ≡ true → a .decision .permit ≡ true) → withArm k (resolved D) .pend ≡ k .pend →
       SofarIs every T W (withArm k (resolved D)) v′ buf′ front′ (back from out opart)
   known-more-arm k D s x e d nodes arms q p =
-      let folds = lent-folds W buf part (drop (length buf - 64) (drop 64 buf)) buf′ (v .decision) (a .decision) (v′ .decision) wide (bounds .few) few (foldNext every (v .begun)) (d .folds q) in
+      let folds = lent-folds W buf part (drop (length buf - obligationRoom) (drop obligationRoom buf)) buf′ (v .decision) (a .decision) (v′ .decision) wide (bounds .few) few (foldNext every (v .begun)) (d .folds q) in
       record {
         sound = folds .sound (s .sound) (x .sound);
         decision-is =
@@ -120,19 +116,19 @@ module _ (every : Bool) (T : Table) (W : List ℕ) (v : Sofar) (a : ReducedPolic
         nodes = nodes;
         free = s .free;
         left = rw (p, d .size-is) (within-less (omega (arith, d .more)) (within-still opart (s .left) o olong));
-        arms-are = arms ∙ ap (λ (qs : Policies ℕ). length (asDecisions (withArm k (resolved D) .permitted)) + count qs) (sym p);
+        arms-are = arms ∙ ap (λ (qs : Policies Outcome). length (asDecisions (withArm k (resolved D) .permitted)) + count qs) (sym p);
         pending-is = d .pending-is ∙ s .pending-is ∙ ap isOpen (sym p);
       }
 
   permit-arm : (k : Walked) (p : _) → SofarIs every T W k v buf front out → Result (resolved (permits p)) T W part room opart a →
-      DecisionAdded every T W v (a .decision) (back 64 buf part) (back behind front fpart) buf′ front′ v′ → SofarIs every T W (withArm k (resolved (permits p))) v′ buf′ front′ (back from out opart)
+      DecisionAdded every T W v (a .decision) (back obligationRoom buf part) (back behind front fpart) buf′ front′ v′ → SofarIs every T W (withArm k (resolved (permits p))) v′ buf′ front′ (back from out opart)
   permit-arm k p s x d =
       let permit = decided-as T W part room opart a (permits p) x in
-      let tail = lent-back buf part (drop (length buf - 64) (drop 64 buf)) wide (a .decision .count) few in
-      let D : decisionOf W T (drop 64 (back 64 buf part)) (a .decision) ≡ permits p = same-decision W part (drop 64 (back 64 buf part)) (a .decision) tail T ∙ x .decision-is in
+      let tail = lent-back buf part (drop (length buf - obligationRoom) (drop obligationRoom buf)) wide (a .decision .united) few in
+      let D : decisionOf W T (drop obligationRoom (back obligationRoom buf part)) (a .decision) ≡ permits p = same-decision W part (drop obligationRoom (back obligationRoom buf part)) (a .decision) tail T ∙ x .decision-is in
       known-more-arm k (permits p) s x (no-stop every p) d
-      (laid-as (ap (λ y. weightsD (asDecisions (k .permitted)) + weightD y) D ∙ sym (nodes-more (k .permitted) p)) (ap (λ y. encodesD (asDecisions (k .permitted)) ++ encodeD (productSets .number) y) D ∙ sym (node-words-more (k .permitted) p))
-      (d .node permit (weightsD (asDecisions (k .permitted))) (encodesD (asDecisions (k .permitted))) (same-sound W part (drop 64 (back 64 buf part)) (a .decision) tail (x .sound)) (laid-still fpart (s .nodes) f long)))
+      (laid-as (ap (λ y. weightsD (asDecisions (k .permitted)) + weightD y) D ∙ sym (nodes-more (k .permitted) p)) (ap (λ y. encodesD (asDecisions (k .permitted)) ++ encodeD y) D ∙ sym (node-words-more (k .permitted) p))
+      (d .node permit (weightsD (asDecisions (k .permitted))) (encodesD (asDecisions (k .permitted))) (same-sound W part (drop obligationRoom (back obligationRoom buf part)) (a .decision) tail (x .sound)) (laid-still fpart (s .nodes) f long)))
       (omega (arith, d .arms-are, ap (λ b. armsWith b (v .arms)) permit, s .arms-are, node-count-more (k .permitted) p)) (λ _. permit) refl
     where
       no-stop : (b : Bool) (p : _) → stops b (resolved (permits p)) ≡ false
@@ -140,7 +136,7 @@ module _ (every : Bool) (T : Table) (W : List ℕ) (v : Sofar) (a : ReducedPolic
       no-stop false p = refl
 
   deny-arm : (k : Walked) (c : _) → SofarIs every T W k v buf front out → Result (resolved (denies c)) T W part room opart a → stops every (resolved (denies c)) ≡ false →
-      DecisionAdded every T W v (a .decision) (back 64 buf part) (back behind front fpart) buf′ front′ v′ → SofarIs every T W (withArm k (resolved (denies c))) v′ buf′ front′ (back from out opart)
+      DecisionAdded every T W v (a .decision) (back obligationRoom buf part) (back behind front fpart) buf′ front′ v′ → SofarIs every T W (withArm k (resolved (denies c))) v′ buf′ front′ (back from out opart)
   deny-arm k c s x e d =
       let denied = decided-as T W part room opart a (denies c) x in
       let none-more = d .none denied in
@@ -149,7 +145,7 @@ module _ (every : Bool) (T : Table) (W : List ℕ) (v : Sofar) (a : ReducedPolic
       (d .arms-are ∙ ap (λ b. armsWith b (v .arms)) denied ∙ s .arms-are) (λ t. clash true refl (sym (ap (λ b. stops b (resolved (denies c))) t) ∙ e)) refl
 
   -- What was kept so far, with one arm more.
-  pub sofar-more : (k : Walked) (x : model.ReducedPolicy ℕ) → SofarIs every T W k v buf front out → Result x T W part room opart a → stops every x ≡ false →
+  pub sofar-more : (k : Walked) (x : model.ReducedPolicy Outcome) → SofarIs every T W k v buf front out → Result x T W part room opart a → stops every x ≡ false →
       SofarIs every T W (withArm k x) v′ buf′ front′ (back from out opart)
   sofar-more k (resolved (permits p)) s x e = permit-arm k p s x (added .known-arm (x .settled))
   sofar-more k (resolved (denies c)) s x e = deny-arm k c s x e (added .known-arm (x .settled))
@@ -158,18 +154,25 @@ module _ (every : Bool) (T : Table) (W : List ℕ) (v : Sofar) (a : ReducedPolic
       rw (now .0, now .1, now .2) (open-more-arm k q s x)
 
 -- ---- arms
+-- The answer for the arms that are left, given what is kept so far. Of arms that don't read only the bounds are said.
+pub record ArmsLeft (every : Bool) (P : Table) (W : List ℕ) (v : Sofar) (buf front out : List ℕ) (at depth arms : ℕ) (s : Lent) (r : ReducedPolicy) (t : Lent) (buf′ out′ : List ℕ) : Type 0 where
+  pub few : r .decision .united ≤ obligationRoom
+  pub bound : r .size ≤ tooMany
+  pub says : (k : Walked) → SofarIs every P W k v buf front out →
+      Holds (λ ts rest. ReducedTo (leftOf every P k ts) (at + wordss ts) (readOf every P ts) P W s r t buf′ (length front) out′) (many pnil pcons (readPolicy true depth) arms (drop at W))
+
 module _ (every : Bool) (P : Table) (W : List ℕ) (depth : ℕ) (s m t : Lent) (a r : ReducedPolicy) (v : Sofar) (buf front out part opart : List ℕ) (room : ℕ) (buf′ out′ : List ℕ) (at arms : ℕ) (some : arms ≡ 0 → ⊥)
     (first : ReducesP P W at depth s a m part room opart) where
-  abbrev Whole : Walked → Policy ℕ → Policies ℕ → List ℕ → Type 0
+  abbrev Whole : Walked → Policy Outcome → Policies Outcome → List ℕ → Type 0
   Whole k p ts rest = ReducedTo (leftOf every P k (pcons p ts)) (at + wordss (pcons p ts)) (readOf every P (pcons p ts)) P W s r t buf′ (length front) out′
 
   -- By the answer a to the first arm.
-  arm-first : r .decision .count ≤ 64 → r .size ≤ tooMany →
-      ((k : Walked) (p : Policy ℕ) → SofarIs every P W k v buf front out → ReducedTo (reducePolicy productSets P p) (at + words p) (walk productSets P p) P W s a m part room opart →
-      Holds (Whole k p) (many pnil pcons (readPolicy (productSets .value) true depth) (arms - 1) (drop (a .next) W))) →
+  arm-first : r .decision .united ≤ obligationRoom → r .size ≤ tooMany →
+      ((k : Walked) (p : Policy Outcome) → SofarIs every P W k v buf front out → ReducedTo (reducePolicy P p) (at + words p) (walk P p) P W s a m part room opart →
+      Holds (Whole k p) (many pnil pcons (readPolicy true depth) (arms - 1) (drop (a .next) W))) →
       ArmsLeft every P W v buf front out at depth arms s r t buf′ out′
   arm-first few bound f =
-      let one = readPolicy (productSets .value) true depth in
+      let one = readPolicy true depth in
       record {
         few = few;
         bound = bound;
@@ -183,14 +186,14 @@ module _ (every : Bool) (P : Table) (W : List ℕ) (depth : ℕ) (s m t : Lent) 
 
   -- An arm that does not stop the list: the others go on from what is kept with it.
   pub arm-goes : (v′ : Sofar) (mid front′ omid : List ℕ) → length front′ ≡ length front →
-      ((k : Walked) (x : model.ReducedPolicy ℕ) → SofarIs every P W k v buf front out → Result x P W part room opart a → stops every x ≡ false → SofarIs every P W (withArm k x) v′ mid front′ omid) →
+      ((k : Walked) (x : model.ReducedPolicy Outcome) → SofarIs every P W k v buf front out → Result x P W part room opart a → stops every x ≡ false → SofarIs every P W (withArm k x) v′ mid front′ omid) →
       false ≡ (every && (not (a .pending) && not (a .decision .permit))) →
       ArmsLeft every P W v′ mid front′ omid (a .next) depth (arms - 1) m r t buf′ out′ → ArmsLeft every P W v buf front out at depth arms s r t buf′ out′
   arm-goes v′ mid front′ omid long more e rest =
       arm-first (rest .few) (rest .bound) (λ k p z h.
-      let x = reducePolicy productSets P p in
+      let x = reducePolicy P p in
       let on : stops every x ≡ false = settled-as P W part room opart a x (h .result) every ∙ sym e in
-      weaker (many pnil pcons (readPolicy (productSets .value) true depth) (arms - 1) (drop (a .next) W)) (λ ts us g. record {
+      weaker (many pnil pcons (readPolicy true depth) (arms - 1) (drop (a .next) W)) (λ ts us g. record {
         result = subst (λ n. Result (leftOf every P k (pcons p ts)) P W buf′ n out′ r) long
             (subst (λ y. Result y P W buf′ (length front′) out′ r) (sym (left-more every P k p ts on)) (g .result));
         next-is = omega (arith, h .next-is, g .next-is);
@@ -199,7 +202,7 @@ module _ (every : Bool) (P : Table) (W : List ℕ) (depth : ℕ) (s m t : Lent) 
       (rest .says (withArm k x) (more k x z (h .result) on)))
 
 -- An arm that stops the list is its answer; the others are passed over.
-stopped-by : (every : Bool) (P : Table) (W part mid : List ℕ) (room : ℕ) (opart out′ : List ℕ) (a : ReducedPolicy) (n next count : ℕ) (x : model.ReducedPolicy ℕ) → stops every x ≡ true → Result x P W part room opart a →
+stopped-by : (every : Bool) (P : Table) (W part mid : List ℕ) (room : ℕ) (opart out′ : List ℕ) (a : ReducedPolicy) (n next count : ℕ) (x : model.ReducedPolicy Outcome) → stops every x ≡ true → Result x P W part room opart a →
     Result x P W mid n out′ (resolvedTo (a .decision) next count)
 stopped-by false P W part mid room opart out′ a n next count x e h = clash true refl (sym e)
 stopped-by true P W part mid room opart out′ a n next count (resolved (permits p)) e h = clash true refl (sym e)
@@ -214,19 +217,19 @@ stopped-by true P W part mid room opart out′ a n next count (pending q) e h = 
 
 pub arm-stops : (every : Bool) (P : Table) (W : List ℕ) (depth : ℕ) (s m : Lent) (a : ReducedPolicy) (v : Sofar) (buf front out part opart : List ℕ) (room : ℕ) (mid out′ : List ℕ) (at arms end : ℕ) → (arms ≡ 0 → ⊥) →
     ReducesP P W at depth s a m part room opart → true ≡ (every && (not (a .pending) && not (a .decision .permit))) →
-    ((depth : ℕ) (res : Bool) → Skipped wordss (a .next) (many pnil pcons (readPolicy (productSets .value) res depth) (arms - 1) (drop (a .next) W)) end) →
+    ((depth : ℕ) (res : Bool) → Skipped wordss (a .next) (many pnil pcons (readPolicy res depth) (arms - 1) (drop (a .next) W)) end) →
     ArmsLeft every P W v buf front out at depth arms s (resolvedTo (a .decision) end (a .count)) m mid out′
 arm-stops every P W depth s m a v buf front out part opart room mid out′ at arms end some first e k =
     arm-first every P W depth s m m a (resolvedTo (a .decision) end (a .count)) v buf front out part opart room mid out′ at arms some first (first .few) (omega arith) (λ w p z h.
-    let x = reducePolicy productSets P p in
+    let x = reducePolicy P p in
     let stop-here : stops every x ≡ true = settled-as P W part room opart a x (h .result) every ∙ sym e in
-    weaker (many pnil pcons (readPolicy (productSets .value) true depth) (arms - 1) (drop (a .next) W)) (λ ts us g. record {
+    weaker (many pnil pcons (readPolicy true depth) (arms - 1) (drop (a .next) W)) (λ ts us g. record {
       result = subst (λ y. Result y P W mid (length front) out′ (resolvedTo (a .decision) end (a .count))) (sym (left-stop every P w p ts stop-here))
           (stopped-by every P W part mid room opart out′ a (length front) end (a .count) x stop-here (h .result));
       next-is = omega (arith, h .next-is, g);
       log = consults-as (λ l. read-stop every P p ts l stop-here) (h .log);
     })
-    (skipped wordss (a .next) end (many pnil pcons (readPolicy (productSets .value) true depth) (arms - 1) (drop (a .next) W)) (k depth true)))
+    (skipped wordss (a .next) end (many pnil pcons (readPolicy true depth) (arms - 1) (drop (a .next) W)) (k depth true)))
 
 -- No arm is left.
 read-none : (every : Bool) (P : Table) (l : Consulted) → readOf every P pnil l ≡ l
@@ -261,22 +264,22 @@ first-word : {room : ℕ} (out : List ℕ) → LaidWithin room 1 (getD out 0 0 �
 first-word [] = within (record { size-is = refl; front = λ few fits. absurd (omega arith) })
 first-word (x ∷ out) = within (record { size-is = refl; front = λ few fits. refl })
 
-start-all : (w : AllWalk ℕ) → thenAll [] pnil w ≡ w
+start-all : (w : AllWalk Outcome) → thenAll [] pnil w ≡ w
 start-all (stop d) = refl
 start-all (go ps qs) = refl
 
-start-any : (w : AnyWalk ℕ) → thenAny [] none pnil w ≡ w
+start-any : (w : AnyWalk Outcome) → thenAny [] none pnil w ≡ w
 start-any (parts ps first qs) = refl
 
-start-left : (every : Bool) (P : Table) (ts : Policies ℕ) → leftOf every P (walked [] none pnil) ts ≡ reducePolicy productSets P (listOf every ts)
-start-left true P ts = ap (endAll productSets (asKnown P)) (start-all (reduceAll productSets P ts))
-start-left false P ts = ap (endAny productSets (asKnown P)) (start-any (reduceAny productSets P ts))
+start-left : (every : Bool) (P : Table) (ts : Policies Outcome) → leftOf every P (walked [] none pnil) ts ≡ reducePolicy P (listOf every ts)
+start-left true P ts = ap (endAll (asKnown P)) (start-all (reduceAll P ts))
+start-left false P ts = ap (endAny (asKnown P)) (start-any (reduceAny P ts))
 
-start-read : (every : Bool) (P : Table) (ts : Policies ℕ) (l : Consulted) → walk productSets P (listOf every ts) l ≡ readOf every P ts l
+start-read : (every : Bool) (P : Table) (ts : Policies Outcome) (l : Consulted) → walk P (listOf every ts) l ≡ readOf every P ts l
 start-read true P ts l = refl
 start-read false P ts l = refl
 
-start-words : (every : Bool) (ts : Policies ℕ) → words (listOf every ts) ≡ 1 + wordss ts
+start-words : (every : Bool) (ts : Policies Outcome) → words (listOf every ts) ≡ 1 + wordss ts
 start-words true ts = refl
 start-words false ts = refl
 
@@ -284,7 +287,7 @@ start-value : (every : Bool) → sofarValue every (walked [] none pnil) ≡ deni
 start-value true = refl
 start-value false = refl
 
-list-reads : (every : Bool) (pc : _) (p : List ℕ → Parsed (Policy ℕ)) (n : ℕ) (ws : List ℕ) → policyNode pc p (listHead every n) ws ≡ next (many pnil pcons p n ws) (λ ts vs. got (listOf every ts) vs)
+list-reads : (every : Bool) (pc : _) (p : List ℕ → Parsed (Policy Outcome)) (n : ℕ) (ws : List ℕ) → policyNode pc p (listHead every n) ws ≡ next (many pnil pcons p n ws) (λ ts vs. got (listOf every ts) vs)
 unfolding policyNode
 list-reads true pc p n ws = refl
 list-reads false pc p n ws = refl
@@ -310,8 +313,8 @@ module _ (every : Bool) (P : Table) (W : List ℕ) (at depth n : ℕ) (s : Lent)
   list-node a = record {
     few = a .few;
     bound = a .bound;
-    says = λ e. node-holds W at depth (listHead every n) lt e (rw (list-reads every _ (readPolicy (productSets .value) true depth) n (drop (at + 1) W))
-        (then-holds (many pnil pcons (readPolicy (productSets .value) true depth) n (drop (at + 1) W)) (λ ts vs. got (listOf every ts) vs) (a .says (walked [] none pnil) none-kept) (λ ts rest h. fine (record {
+    says = λ e. node-holds W at depth (listHead every n) lt e (rw (list-reads every _ (readPolicy true depth) n (drop (at + 1) W))
+        (then-holds (many pnil pcons (readPolicy true depth) n (drop (at + 1) W)) (λ ts vs. got (listOf every ts) vs) (a .says (walked [] none pnil) none-kept) (λ ts rest h. fine (record {
           result = subst (λ x. Result x P W buf′ (length front) out′ r) (start-left every P ts) (h .result);
           next-is = omega (arith, h .next-is, start-words every ts);
           log = consults-as (start-read every P ts) (h .log);
@@ -332,13 +335,13 @@ pub record Going (Left Whole : ReducedPolicy → Lent → List ℕ → List ℕ 
 
 -- ---- OrElse
 module _ (P : Table) (W : List ℕ) (at depth : ℕ) (s m : Lent) (a : ReducedPolicy) (mid : List ℕ) (room : ℕ) (opart : List ℕ) (lt : at < length W) (first : ReducesP P W (at + 1) depth s a m mid room opart) where
-  abbrev one : List ℕ → Parsed (Policy ℕ)
-  one = readPolicy (productSets .value) true depth
+  abbrev one : List ℕ → Parsed (Policy Outcome)
+  one = readPolicy true depth
 
   -- By the answer a to the primary.
-  or-first : (r : ReducedPolicy) (t : Lent) (buf : List ℕ) (n : ℕ) (out : List ℕ) → r .decision .count ≤ 64 → r .size ≤ tooMany →
-      ((x : Policy ℕ) → ReducedTo (reducePolicy productSets P x) (at + 1 + words x) (walk productSets P x) P W s a m mid room opart →
-      Holds (λ y rest. ReducedTo (reducePolicy productSets P (orElse x y)) (at + words (orElse x y)) (walk productSets P (orElse x y)) P W s r t buf n out) (one (drop (a .next) W))) →
+  or-first : (r : ReducedPolicy) (t : Lent) (buf : List ℕ) (n : ℕ) (out : List ℕ) → r .decision .united ≤ obligationRoom → r .size ≤ tooMany →
+      ((x : Policy Outcome) → ReducedTo (reducePolicy P x) (at + 1 + words x) (walk P x) P W s a m mid room opart →
+      Holds (λ y rest. ReducedTo (reducePolicy P (orElse x y)) (at + words (orElse x y)) (walk P (orElse x y)) P W s r t buf n out) (one (drop (a .next) W))) →
       ReducesBy OrElse P W at depth s r t buf n out
   unfolding policyNode
   or-first r t buf n out few bound f = record {
@@ -349,41 +352,41 @@ module _ (P : Table) (W : List ℕ) (at depth : ℕ) (s m : Lent) (a : ReducedPo
         (both-hold (one (drop (at + 1) W)) (first .says true) (policy-leaves true depth (drop (at + 1) W))) (λ x vs h.
         let after : drop (a .next) W ≡ vs = ap (λ i. drop i W) (h .0 .next-is) ∙ sym (drop-drop (words x) (at + 1) W) ∙ h .1 in
         then-holds (one vs) (λ y us. got (orElse x y) us)
-        (subst (λ ws. Holds (λ y rest. ReducedTo (reducePolicy productSets P (orElse x y)) (at + words (orElse x y)) (walk productSets P (orElse x y)) P W s r t buf n out) (one ws)) after (f x (h .0))) (λ y us g. fine g)));
+        (subst (λ ws. Holds (λ y rest. ReducedTo (reducePolicy P (orElse x y)) (at + words (orElse x y)) (walk P (orElse x y)) P W s r t buf n out) (one ws)) after (f x (h .0))) (λ y us g. fine g)));
   }
 
   -- A resolved permit is the answer, and the fallback is passed over.
-  permits-first : (x y : model.ReducedPolicy ℕ) (n : ℕ) (out : List ℕ) (end : ℕ) → Result x P W mid room opart a → a .pending ≡ false → a .decision .permit ≡ true →
+  permits-first : (x y : model.ReducedPolicy Outcome) (n : ℕ) (out : List ℕ) (end : ℕ) → Result x P W mid room opart a → a .pending ≡ false → a .decision .permit ≡ true →
       Result (reduceOrElse x y) P W mid n out (resolvedTo (a .decision) end (a .count))
   permits-first (resolved (permits p)) y n out end h e q = record { settled = refl; decision-is = h .decision-is; sound = h .sound }
   permits-first (resolved (denies d)) y n out end h e q = clash (a .decision .permit) q (decided-as P W mid room opart a (denies d) h)
   permits-first (pending z) y n out end h e q = clash (a .pending) (h .unsettled) e
 
-  permits-read : (x : model.ReducedPolicy ℕ) (here on : Consulted) → Result x P W mid room opart a → a .pending ≡ false → a .decision .permit ≡ true → unlessPermitted x here on ≡ here
+  permits-read : (x : model.ReducedPolicy Outcome) (here on : Consulted) → Result x P W mid room opart a → a .pending ≡ false → a .decision .permit ≡ true → unlessPermitted x here on ≡ here
   permits-read (resolved (permits p)) here on h e q = refl
   permits-read (resolved (denies d)) here on h e q = clash (a .decision .permit) q (decided-as P W mid room opart a (denies d) h)
   permits-read (pending z) here on h e q = clash (a .pending) (h .unsettled) e
 
   pub or-permits : (end n : ℕ) (out : List ℕ) → a .pending ≡ false → a .decision .permit ≡ true →
-      ((depth : ℕ) (res : Bool) → Skipped wordss (a .next) (many pnil pcons (readPolicy (productSets .value) res depth) 1 (drop (a .next) W)) end) →
+      ((depth : ℕ) (res : Bool) → Skipped wordss (a .next) (many pnil pcons (readPolicy res depth) 1 (drop (a .next) W)) end) →
       ReducesBy OrElse P W at depth s (resolvedTo (a .decision) end (a .count)) m mid n out
   or-permits end n out e q k =
       or-first (resolvedTo (a .decision) end (a .count)) m mid n out (first .few) (omega arith) (λ x h.
       weaker (one (drop (a .next) W)) (λ y rest g. record {
-        result = permits-first (reducePolicy productSets P x) (reducePolicy productSets P y) n out end (h .result) e q;
+        result = permits-first (reducePolicy P x) (reducePolicy P y) n out end (h .result) e q;
         next-is = omega (arith, h .next-is, g);
-        log = consults-as (λ l. permits-read (reducePolicy productSets P x) (walk productSets P x l) (walk productSets P y (walk productSets P x l)) (h .result) e q) (h .log);
+        log = consults-as (λ l. permits-read (reducePolicy P x) (walk P x l) (walk P y (walk P x l)) (h .result) e q) (h .log);
       })
       (one-passed (a .next) end (one (drop (a .next) W)) (skipped wordss (a .next) end (many pnil pcons one 1 (drop (a .next) W)) (k depth true))))
 
   module _ (t : Lent) (b : ReducedPolicy) (buf : List ℕ) where
     -- After a resolved deny the fallback is the answer.
-    denies-first : (x y : model.ReducedPolicy ℕ) (n : ℕ) (out : List ℕ) → Result x P W mid room opart a → a .pending ≡ false → a .decision .permit ≡ false → Result y P W buf n out b → Result (reduceOrElse x y) P W buf n out b
+    denies-first : (x y : model.ReducedPolicy Outcome) (n : ℕ) (out : List ℕ) → Result x P W mid room opart a → a .pending ≡ false → a .decision .permit ≡ false → Result y P W buf n out b → Result (reduceOrElse x y) P W buf n out b
     denies-first (resolved (permits p)) y n out h e q g = clash (a .decision .permit) (decided-as P W mid room opart a (permits p) h) q
     denies-first (resolved (denies d)) y n out h e q g = g
     denies-first (pending z) y n out h e q g = clash (a .pending) (h .unsettled) e
 
-    on-read : (x : model.ReducedPolicy ℕ) (here on : Consulted) → Result x P W mid room opart a → (a .pending ≡ false → a .decision .permit ≡ false) → unlessPermitted x here on ≡ on
+    on-read : (x : model.ReducedPolicy Outcome) (here on : Consulted) → Result x P W mid room opart a → (a .pending ≡ false → a .decision .permit ≡ false) → unlessPermitted x here on ≡ on
     on-read (resolved (permits p)) here on h q = clash (a .decision .permit) (decided-as P W mid room opart a (permits p) h) (q (h .settled))
     on-read (resolved (denies d)) here on h q = refl
     on-read (pending z) here on h q = refl
@@ -393,25 +396,25 @@ module _ (P : Table) (W : List ℕ) (at depth : ℕ) (s m : Lent) (a : ReducedPo
         let second : ReducesP P W (a .next) depth m b t buf n out = subst (λ i. ReducesP P W (a .next) depth m b t buf i out) z second₀ in
         or-first b t buf n out (second .few) (second .bound) (λ x h.
         weaker (one (drop (a .next) W)) (λ y rest g. record {
-          result = denies-first (reducePolicy productSets P x) (reducePolicy productSets P y) n out (h .result) e q (g .result);
+          result = denies-first (reducePolicy P x) (reducePolicy P y) n out (h .result) e q (g .result);
           next-is = omega (arith, h .next-is, g .next-is);
-          log = consults-as (λ l. on-read (reducePolicy productSets P x) (walk productSets P x l) (walk productSets P y (walk productSets P x l)) (h .result) (λ _. q)) (consults-then (h .log) (g .log));
+          log = consults-as (λ l. on-read (reducePolicy P x) (walk P x l) (walk P y (walk P x l)) (h .result) (λ _. q)) (consults-then (h .log) (g .log));
         })
         (second .says true))
 
     -- With a pending primary both are kept.
-    open-first : (x y : model.ReducedPolicy ℕ) (out opart₂ buf′ out′ : List ℕ) (from behind used size end after listed : ℕ) → a .pending ≡ true → from ≡ min 1 (length out) → length opart ≡ length out - from → used ≡ capped (1 + a .size) →
+    open-first : (x y : model.ReducedPolicy Outcome) (out opart₂ buf′ out′ : List ℕ) (from behind used size end after listed : ℕ) → a .pending ≡ true → from ≡ min 1 (length out) → length opart ≡ length out - from → used ≡ capped (1 + a .size) →
         behind ≡ min used (length (back from out opart)) → length opart₂ ≡ length (back from out opart) - behind → OrElsePut P W used b buf (back behind (back from out opart) opart₂) out′ size →
         Result x P W mid room opart a → Result y P W buf room opart₂ b → Result (reduceOrElse x y) P W buf′ room out′ (leftTo size end after listed)
     open-first (resolved D) y out opart₂ buf′ out′ from behind used size end after listed p f long u g long₂ k h i = clash (a .pending) p (h .settled)
     open-first (pending q) y out opart₂ buf′ out′ from behind used size end after listed p f long u g long₂ k h i =
         let out₁ = back from out opart in
         let one-word : LaidWithin room 1 (getD out 0 0 ∷ []) out 1 = first-word out in
-        let two : LaidWithin room (1 + weight q) (getD out 0 0 ∷ encode (productSets .number) q) out₁ used = within-then one-word (h .left) f long u in
-        let stays : LaidWithin room (1 + weight q) (getD out 0 0 ∷ encode (productSets .number) q) (back behind out₁ opart₂) used = within-still opart₂ two g long₂ in
+        let two : LaidWithin room (1 + weight q) (getD out 0 0 ∷ encode q) out₁ used = within-then one-word (h .left) f long u in
+        let stays : LaidWithin room (1 + weight q) (getD out 0 0 ∷ encode q) (back behind out₁ opart₂) used = within-still opart₂ two g long₂ in
         let there : opart₂ ≡ drop (min used (length (back behind out₁ opart₂))) (back behind out₁ opart₂) =
         sym (ap (λ i. drop i (back behind out₁ opart₂)) (ap (min used) (back-long behind out₁ opart₂ (omega arith) long₂) ∙ sym g) ∙ back-part behind out₁ opart₂ (omega arith)) in
-        record { unsettled = refl; left = k .put (weight q) (getD out 0 0) room (encode (productSets .number) q) y stays (subst (λ us. Result y P W buf room us b) there i) }
+        record { unsettled = refl; left = k .put (weight q) (getD out 0 0) room (encode q) y stays (subst (λ us. Result y P W buf room us b) there i) }
 
     pub or-open : (out opart₂ buf′ out′ : List ℕ) (from behind used size end : ℕ) → a .pending ≡ true → from ≡ min 1 (length out) → length opart ≡ length out - from → used ≡ capped (1 + a .size) →
         behind ≡ min used (length (back from out opart)) → length opart₂ ≡ length (back from out opart) - behind → (room′ : ℕ) → ReducesP P W (a .next) depth m b t buf room′ opart₂ → room′ ≡ room →
@@ -420,8 +423,8 @@ module _ (P : Table) (W : List ℕ) (at depth : ℕ) (s m : Lent) (a : ReducedPo
         let second : ReducesP P W (a .next) depth m b t buf room opart₂ = subst (λ i. ReducesP P W (a .next) depth m b t buf i opart₂) z second₀ in
         or-first (leftTo size end (b .next) (b .count)) t buf′ room out′ (omega arith) (k .bound) (λ x h.
         weaker (one (drop (a .next) W)) (λ y rest i. record {
-          result = open-first (reducePolicy productSets P x) (reducePolicy productSets P y) out opart₂ buf′ out′ from behind used size end (b .next) (b .count) p f long u g long₂ k (h .result) (i .result);
+          result = open-first (reducePolicy P x) (reducePolicy P y) out opart₂ buf′ out′ from behind used size end (b .next) (b .count) p f long u g long₂ k (h .result) (i .result);
           next-is = omega (arith, h .next-is, i .next-is);
-          log = consults-as (λ l. on-read (reducePolicy productSets P x) (walk productSets P x l) (walk productSets P y (walk productSets P x l)) (h .result) (λ q. clash (a .pending) p q)) (consults-then (h .log) (i .log));
+          log = consults-as (λ l. on-read (reducePolicy P x) (walk P x l) (walk P y (walk P x l)) (h .result) (λ q. clash (a .pending) p q)) (consults-then (h .log) (i .log));
         })
         (second .says true))

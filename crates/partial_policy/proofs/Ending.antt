@@ -5,47 +5,49 @@ use mathlib.Core.Option.{Option, none, some}
 use mathlib.Core.List.{List, [], _∷_, _++_, append-nil}
 use Prim.Native.Nat.{ℕ, zero, suc, _+_, _-_, _≤_, _<_, min}
 use native.Mathlib.Omega.{arith}
-use native.Mathlib.Numerals.{sub-one}
 use lib.ListN.{length, take, drop, set, length-drop}
 use lib.Seq.{take-all}
 use Rattle.model.specs.Facts.{Table}
-use Rattle.model.specs.Outcome.{productSets}
-use Rattle.model.specs.Decision.{Permit, Denial, permits, denies, joinPermit}
+use Rattle.model.specs.Decision.{Permit, Denial, permits}
 use Rattle.model.specs.Decision.{Decision as Decided}
 use Rattle.model.specs.Partial.{resolved, pending, asResidual}
 use Rattle.model.specs.Partial as model
-use Rattle.model.specs.Writing.{word, count, encodeD, encodes, encode}
+use Rattle.model.specs.Writing.{word, count}
+use Rattle.model.specs.Products.{Outcome, joinPermit, encodeD, encodes, encode}
 use Rattle.packing.specs.Written as packing
-use Rattle.packing.specs.Written.{written-front}
+use Rattle.packing.specs.WrittenLaws.{written-front}
 use Rattle.decision.specs.Meaning.{decisionOf}
 use Rattle.evaluate.specs.Folding.{anyOf}
 use Rattle.evaluate.proofs.Arms.{decides, decides-as}
-use Rattle.sizes.specs.Laid.{mostWords, tooMany, capped, Laid, laid-as, laid-lead}
+use Rattle.sizes.specs.Laid.{mostWords, tooMany, capped, Laid}
+use Rattle.sizes.specs.LaidLaws.{laid-as, laid-lead}
 use Rattle.residual.specs.Weight.{weightD, weight, weights}
 use Rattle.residual.specs.Answers.{NodeLaid, ListPut}
 use Rattle.partial_policy.specs.declared.ReducedPolicy.{ReducedPolicy}
 use Rattle.partial_policy.specs.declared.Sofar.{Sofar}
-use Rattle.partial_policy.specs.Keeping.{Walked, asDecisions, anyValue, sofarValue, isBegun, keptOf, nodesOf, listOf, listKind, list-weight, list-words, withNodes, weightsD, encodesD}
-use Rattle.partial_policy.specs.Within.{LaidWithin, within, within-as, within-then}
-use Rattle.partial_policy.specs.Reducing.{resolvedTo, leftTo, sofarOf, Result, Bounded, SofarIs, NodesAre, NodesEnd, ListEnds, ResidualLaid, OrElsePut}
+use Rattle.partial_policy.specs.Keeping.{Walked, asDecisions, anyValue, sofarValue, isBegun, keptOf, nodesOf, listKind, weightsD, encodesD}
+use Rattle.partial_policy.specs.KeepingLaws.{list-weight, list-words}
+use Rattle.partial_policy.specs.Within.{LaidWithin}
+use Rattle.partial_policy.specs.WithinLaws.{within, within-as, within-then}
+use Rattle.partial_policy.specs.Reducing.{resolvedTo, leftTo, sofarOf, Result, Bounded, SofarIs, NodesEnd, ListEnds, ResidualLaid, OrElsePut}
 use Rattle.partial_policy.proofs.Adding.{clash}
 
 -- ---- which nodes are kept
-some-permit : (p : Permit ℕ) (ps : List (Permit ℕ)) → decides (anyOf true (permits p) (asDecisions ps)) ≡ true
+some-permit : (p : Permit Outcome) (ps : List (Permit Outcome)) → decides (anyOf true (permits p) (asDecisions ps)) ≡ true
 some-permit p [] = refl
-some-permit p (q ∷ ps) = some-permit (joinPermit productSets p q) ps
+some-permit p (q ∷ ps) = some-permit (joinPermit p q) ps
 
-kept-none : (ps : List (Permit ℕ)) (first : Option (Denial ℕ)) → isBegun ps first ≡ false → keptOf ps first ≡ asDecisions ps
+kept-none : (ps : List (Permit Outcome)) (first : Option (Denial Outcome)) → isBegun ps first ≡ false → keptOf ps first ≡ asDecisions ps
 kept-none [] none e = refl
 kept-none [] (some d) e = cc
 kept-none (p ∷ ps) first e = cc
 
-kept-permits : (ps : List (Permit ℕ)) (first : Option (Denial ℕ)) → decides (anyValue ps first) ≡ true → keptOf ps first ≡ asDecisions ps
+kept-permits : (ps : List (Permit Outcome)) (first : Option (Denial Outcome)) → decides (anyValue ps first) ≡ true → keptOf ps first ≡ asDecisions ps
 kept-permits [] none e = refl
 kept-permits [] (some d) e = cc
 kept-permits (p ∷ ps) first e = refl
 
-kept-deny : (ps : List (Permit ℕ)) (first : Option (Denial ℕ)) → isBegun ps first ≡ true → decides (anyValue ps first) ≡ false → (keptOf ps first ≡ anyValue ps first ∷ []) × (asDecisions ps ≡ [])
+kept-deny : (ps : List (Permit Outcome)) (first : Option (Denial Outcome)) → isBegun ps first ≡ true → decides (anyValue ps first) ≡ false → (keptOf ps first ≡ anyValue ps first ∷ []) × (asDecisions ps ≡ [])
 kept-deny [] none b e = clash false b refl
 kept-deny [] (some d) b e = (refl, refl)
 kept-deny (p ∷ ps) first b e = clash (decides (anyOf true (permits p) (asDecisions ps))) (some-permit p ps) e
@@ -58,7 +60,7 @@ module _ {every : Bool} {T : Table} {W : List ℕ} {v : Sofar} {buf : List ℕ} 
     arms-most = omega arith;
     nodes = λ k out s. record {
       laid = laid-as (ap weightsD (f k out s)) (ap encodesD (f k out s)) (s .nodes);
-      arms-are = s .arms-are ∙ ap (λ (ds : List (Decided ℕ)). length ds + count (k .pend)) (f k out s);
+      arms-are = s .arms-are ∙ ap (λ (ds : List (Decided Outcome)). length ds + count (k .pend)) (f k out s);
       more = omega arith;
     };
   }
@@ -86,8 +88,8 @@ module _ {every : Bool} {T : Table} {W : List ℕ} {v : Sofar} {buf : List ℕ} 
         let one : decisionOf W T buf (v .decision) ∷ [] ≡ nodesOf every k = ap (λ D. D ∷ []) (s .decision-is ∙ ap (λ x. sofarValue x k) e) ∙ sym (both .0) ∙ ap (λ x. nodesOf x k) (sym e) in
         let D = decisionOf W T buf (v .decision) in
         record {
-          laid = laid-as (let z : weightD D ≡ weightsD (D ∷ []) = omega arith in z ∙ ap weightsD one) (sym (append-nil (encodeD (productSets .number) D)) ∙ ap encodesD one) (l .laid (s .sound));
-          arms-are = omega (arith, s .arms-are, ap (λ (ds : List (Decided ℕ)). length ds) (both .1), ap (λ (ds : List (Decided ℕ)). length ds) one);
+          laid = laid-as (let z : weightD D ≡ weightsD (D ∷ []) = omega arith in z ∙ ap weightsD one) (sym (append-nil (encodeD D)) ∙ ap encodesD one) (l .laid (s .sound));
+          arms-are = omega (arith, s .arms-are, ap (λ (ds : List (Decided Outcome)). length ds) (both .1), ap (λ (ds : List (Decided Outcome)). length ds) one);
           more = omega (arith, s .nodes .size-is, ap weightsD (both .1));
         };
   }
@@ -115,7 +117,7 @@ module _ {every : Bool} {T : Table} {W : List ℕ} {v : Sofar} {buf front front�
     (n : NodesEnd every T W v buf front front′ whole) (is : first ≡ word (listKind every) (whole .arms)) (l : ListPut first front′ (whole .kept) (whole .size) out out′ size)
     (front-long : length front′ ≡ length front) (out-long : length out′ ≡ length out) where
   list-laid : (k : Walked) → SofarIs every T W k v buf front out → LaidWithin (length front) (weightsD (nodesOf every k) + (1 + weights (k .pend)))
-      (word (listKind every) (whole .arms) ∷ (encodesD (nodesOf every k) ++ encodes (productSets .number) (k .pend))) out′ size
+      (word (listKind every) (whole .arms) ∷ (encodesD (nodesOf every k) ++ encodes (k .pend))) out′ size
   list-laid k s =
       let m = n .nodes k out s in
       let e : size ≡ capped (weightsD (nodesOf every k) + (1 + weights (k .pend))) = omega (arith, l .size-is, n .size-is, m .laid .size-is, s .left .size-is) in
@@ -128,7 +130,7 @@ module _ {every : Bool} {T : Table} {W : List ℕ} {v : Sofar} {buf front front�
               l .put few (omega arith) (omega arith)
               ∙ ap₂ (λ w us. w ∷ (us ++ take (whole .size - 1) (drop 1 out))) is (m .laid .front (omega arith) (omega arith))
               ∙ ap (λ us. word (listKind every) (whole .arms) ∷ (encodesD (nodesOf every k) ++ us))
-              (after-free out (encodes (productSets .number) (k .pend)) (s .free) (whole .size)
+              (after-free out (encodes (k .pend)) (s .free) (whole .size)
               (ap (λ i. take i out) (n .size-is) ∙ s .left .laid (omega (arith, n .size-is, m .more)) .front (omega (arith, n .size-is)) (omega (arith, n .size-is))));
         };
       }
@@ -147,8 +149,8 @@ module _ {every : Bool} {T : Table} {W : List ℕ} {v : Sofar} {buf front front�
   })
 
 -- ---- OrElse
-open-at : (T : Table) (W : List ℕ) (b : ReducedPolicy) (buf out : List ℕ) → b .pending ≡ true → (y : model.ReducedPolicy ℕ) (room : ℕ) → Result y T W buf room out b →
-    LaidWithin room (weight (asResidual y)) (encode (productSets .number) (asResidual y)) out (b .size)
+open-at : (T : Table) (W : List ℕ) (b : ReducedPolicy) (buf out : List ℕ) → b .pending ≡ true → (y : model.ReducedPolicy Outcome) (room : ℕ) → Result y T W buf room out b →
+    LaidWithin room (weight (asResidual y)) (encode (asResidual y)) out (b .size)
 open-at T W b buf out p (resolved D) room x = clash (b .pending) p (x .settled)
 open-at T W b buf out p (pending q) room x = x .left
 
@@ -156,8 +158,8 @@ pub residual-open : {T : Table} {W : List ℕ} {b : ReducedPolicy} (buf out : Li
 residual-open {T} {W} {b} buf out most p = record { bound = most; laid = open-at T W b buf out p }
 
 node-at : (T : Table) (W : List ℕ) (b : ReducedPolicy) (buf out : List ℕ) {buf′ out′ : List ℕ} {r : ℕ} → b .pending ≡ false → NodeLaid W T (b .decision) buf buf′ out′ r →
-    (y : model.ReducedPolicy ℕ) (room : ℕ) → Result y T W buf room out b → LaidWithin room (weight (asResidual y)) (encode (productSets .number) (asResidual y)) out′ r
-node-at T W b buf out p l (resolved D) room x = within (laid-as (ap weightD (x .decision-is)) (ap (encodeD (productSets .number)) (x .decision-is)) (l .laid (x .sound)))
+    (y : model.ReducedPolicy Outcome) (room : ℕ) → Result y T W buf room out b → LaidWithin room (weight (asResidual y)) (encode (asResidual y)) out′ r
+node-at T W b buf out p l (resolved D) room x = within (laid-as (ap weightD (x .decision-is)) (ap encodeD (x .decision-is)) (l .laid (x .sound)))
 node-at T W b buf out p l (pending q) room x = clash (b .pending) (x .unsettled) p
 
 pub residual-node : {T : Table} {W : List ℕ} {b : ReducedPolicy} {buf buf′ : List ℕ} (out : List ℕ) {out′ : List ℕ} {r : ℕ} → b .pending ≡ false → NodeLaid W T (b .decision) buf buf′ out′ r →

@@ -2,4 +2,3 @@ pub mod Adding
 pub mod Ending
 pub mod Nodes
 pub mod Arms
-pub mod Running

@@ -1,4 +1,6 @@
 pub mod Settled
 pub mod Keeping
+pub mod KeepingLaws
 pub mod Within
+pub mod WithinLaws
 pub mod Reducing

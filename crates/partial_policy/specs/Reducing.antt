@@ -1,35 +1,35 @@
 -- What the reduction of policies answers, and what it leaves in the lists and outputs that it is lent. Document 01, "Reducing".
 use mathlib.Core.Path.{_≡_}
-use mathlib.Core.Bool.{Bool, true, false, not, _&&_}
-use mathlib.Core.List.{List, [], _∷_, _++_}
-use Prim.Native.Nat.{ℕ, suc, _+_, _-_, _/_, _%_, _≤_, min}
+use mathlib.Core.Bool.{Bool, true, false}
+use mathlib.Core.List.{List, _∷_, _++_}
+use Prim.Native.Nat.{ℕ, suc, _+_, _-_, _%_, _≤_, _<_, min}
 use lib.ListN.{length, take, drop, getD}
 use Rattle.model.specs.Facts.{Table}
-use Rattle.model.specs.Outcome.{productSets}
 use Rattle.model.specs.Decision.{Decision as Decided}
-use Rattle.model.specs.Policy.{Policy, orElse, Policies, pnil, pcons, stored}
-use Rattle.model.specs.Partial.{resolved, pending, asResidual, reducePolicy}
+use Rattle.model.specs.Policy.{Policy}
+use Rattle.model.specs.Partial.{resolved, pending, asResidual}
 use Rattle.model.specs.Partial as model
-use Rattle.model.specs.Consulted.{Consulted, walk}
-use Rattle.model.specs.Writing.{word, count, encodeD, encode, encodes}
-use Rattle.model.specs.Reading.{many, readPolicy}
+use Rattle.model.specs.Consulted.{Consulted}
+use Rattle.model.specs.Writing.{word, count}
+use Rattle.model.specs.Products.{Outcome, reducePolicy, walk, encodeD, encode, encodes, readPolicy, policyAt}
 use Rattle.laws.specs.FieldLaws.{Holds}
-use Rattle.laws.specs.Size.{words, wordss}
+use Rattle.laws.specs.Size.{words}
 use Rattle.facts.specs.Answers.{isSettled}
 use Rattle.policy_model.specs.declared.PolicyHead.{PolicyHead}
 use Rattle.policy_model.specs.declared.PolicyHead.the-variants as policy
 use Rattle.policy_model.specs.Heads.{policyHead}
+use Rattle.policy_model.specs.Plain.{plainGrant}
 use Rattle.condition.specs.Listing.{Lent, Consults}
 use Rattle.decision.specs.declared.Decision.{Decision}
 use Rattle.decision.specs.Meaning.{deniedAt, decisionOf, Sound}
 use Rattle.evaluate.specs.declared.PolicyEval.{PolicyEval}
-use Rattle.evaluate.specs.Evaluating.{EvaluatesP, Folds, Short}
+use Rattle.evaluate.specs.Evaluating.{EvaluatesP, Folds}
 use Rattle.sizes.specs.Laid.{tooMany, capped, Laid}
 use Rattle.residual.specs.Weight.{weight, weights, weightD}
+use Rattle.decision.specs.Room.{obligationRoom, Few}
 use Rattle.partial_policy.specs.declared.ReducedPolicy.{ReducedPolicy}
 use Rattle.partial_policy.specs.declared.Sofar.{Sofar}
-use Rattle.partial_policy.specs.declared.Run.{Run}
-use Rattle.partial_policy.specs.Keeping.{Walked, leftOf, readOf, asDecisions, sofarValue, isBegun, isOpen, armsWith, foldNext, nodesOf, weightsD, encodesD, listKind, listOf, withNodes}
+use Rattle.partial_policy.specs.Keeping.{Walked, asDecisions, sofarValue, isBegun, isOpen, armsWith, foldNext, nodesOf, weightsD, encodesD, listOf, withNodes}
 use Rattle.partial_policy.specs.Within.{LaidWithin}
 
 -- The answers: a decision, or what is left, of this size.
@@ -40,44 +40,50 @@ abbrev pub leftTo : ℕ → ℕ → ℕ → ℕ → ReducedPolicy
 leftTo size none next count = record { pending = true; decision = deniedAt none none; next = next; count = count; size = size }
 
 -- Resolved: the decision. Pending: what is left, laid at the front of the output. `room` is the length of the scratch for nodes.
-pub record Resolves (T : Table) (W : List ℕ) (D : Decided ℕ) (buf : List ℕ) (r : ReducedPolicy) : Type 0 where
+pub record Resolves (T : Table) (W : List ℕ) (D : Decided Outcome) (buf : List ℕ) (r : ReducedPolicy) : Type 0 where
   pub settled : r .pending ≡ false
   pub decision-is : decisionOf W T buf (r .decision) ≡ D
   pub sound : Sound W buf (r .decision)
 
-pub record Pends (q : Policy ℕ) (room : ℕ) (out : List ℕ) (r : ReducedPolicy) : Type 0 where
+pub record Pends (q : Policy Outcome) (room : ℕ) (out : List ℕ) (r : ReducedPolicy) : Type 0 where
   pub unsettled : r .pending ≡ true
-  pub left : LaidWithin room (weight q) (encode (productSets .number) q) out (r .size)
+  pub left : LaidWithin room (weight q) (encode q) out (r .size)
 
-abbrev pub Result : model.ReducedPolicy ℕ → Table → List ℕ → List ℕ → ℕ → List ℕ → ReducedPolicy → Type 0
+abbrev pub Result : model.ReducedPolicy Outcome → Table → List ℕ → List ℕ → ℕ → List ℕ → ReducedPolicy → Type 0
 Result (resolved D) T W buf room out r = Resolves T W D buf r
 Result (pending q) T W buf room out r = Pends q room out r
 
 -- The answer to what reduces to x, takes the words up to `end` and consults as `reads` does. `buf` and `out` are as they stand afterwards.
-pub record ReducedTo (x : model.ReducedPolicy ℕ) (end : ℕ) (reads : Consulted → Consulted) (T : Table) (W : List ℕ) (s : Lent) (r : ReducedPolicy) (t : Lent) (buf : List ℕ) (room : ℕ) (out : List ℕ) : Type 0 where
+pub record ReducedTo (x : model.ReducedPolicy Outcome) (end : ℕ) (reads : Consulted → Consulted) (T : Table) (W : List ℕ) (s : Lent) (r : ReducedPolicy) (t : Lent) (buf : List ℕ) (room : ℕ) (out : List ℕ) : Type 0 where
   pub result : Result x T W buf room out r
   pub next-is : r .next ≡ end
   pub log : Consults reads s t
 
 -- The answer to a policy at `at`, of at most `depth` levels, in a sheet or a residual. Of words that don't read only the bounds are said.
 pub record ReducesP (P : Table) (W : List ℕ) (at depth : ℕ) (s : Lent) (r : ReducedPolicy) (t : Lent) (buf : List ℕ) (room : ℕ) (out : List ℕ) : Type 0 where
-  pub few : r .decision .count ≤ 64
+  pub few : Few (r .decision)
   pub bound : r .size ≤ tooMany
   pub says : (res : Bool) →
-      Holds (λ p rest. ReducedTo (reducePolicy productSets P p) (at + words p) (walk productSets P p) P W s r t buf room out) (readPolicy (productSets .value) res depth (drop at W))
+      Holds (λ p rest. ReducedTo (reducePolicy P p) (at + words p) (walk P p) P W s r t buf room out) (readPolicy res depth (drop at W))
 
 -- The same where its first word has this head and `depth` levels are left for what stands below.
 pub record ReducesBy (h : PolicyHead) (P : Table) (W : List ℕ) (at depth : ℕ) (s : Lent) (r : ReducedPolicy) (t : Lent) (buf : List ℕ) (room : ℕ) (out : List ℕ) : Type 0 where
-  pub few : r .decision .count ≤ 64
+  pub few : Few (r .decision)
   pub bound : r .size ≤ tooMany
   pub says : h ≡ policyHead (getD W at 0) true →
-      Holds (λ p rest. ReducedTo (reducePolicy productSets P p) (at + words p) (walk productSets P p) P W s r t buf room out) (readPolicy (productSets .value) true (suc depth) (drop at W))
+      Holds (λ p rest. ReducedTo (reducePolicy P p) (at + words p) (walk P p) P W s r t buf room out) (policyAt W at (suc depth))
 
 -- The same of what is evaluated.
 pub record ReducesConstant (P : Table) (W : List ℕ) (at depth : ℕ) (s : Lent) (r : ReducedPolicy) (t : Lent) (buf : List ℕ) : Type 0 where
   pub eval : PolicyEval
   pub is : r ≡ resolvedTo (eval .decision) (eval .next) (eval .count)
   pub evaluates : EvaluatesP P W at depth s eval t buf
+
+-- A grant on one fact, told by its three words, whose fact is settled.
+pub record SettledGrant (P : Table) (W : List ℕ) (at : ℕ) : Type 0 where
+  pub inside : at + 2 < length W
+  pub plain : plainGrant (drop at W) ≡ true
+  pub known : isSettled (P (getD W (at + 2) 0 % 1024)) ≡ true
 
 -- ---- lists
 abbrev pub listHead : Bool → ℕ → PolicyHead
@@ -87,12 +93,9 @@ listHead false n = policy.Any n
 abbrev pub sofarOf : Decision → Bool → ℕ → ℕ → ℕ → Bool → Sofar
 sofarOf decision begun kept size arms some = record { decision = decision; begun = begun; kept = kept; size = size; arms = arms; pending = some }
 
-abbrev pub runOf : Sofar → ℕ → ℕ → ℕ → Run
-runOf sofar next left count = record { sofar = sofar; next = next; left = left; count = count }
-
 -- The bounds of what a list keeps so far.
 pub record Bounded (v : Sofar) : Type 0 where
-  pub few : v .decision .count ≤ 64
+  pub few : Few (v .decision)
   pub kept-most : v .kept ≤ tooMany
   pub size-most : v .size ≤ tooMany
   pub size-some : 1 ≤ v .size
@@ -105,19 +108,19 @@ pub record SofarIs (every : Bool) (T : Table) (W : List ℕ) (k : Walked) (v : S
   pub begun-is : v .begun ≡ isBegun (k .permitted) (k .denied)
   pub nodes : Laid (weightsD (asDecisions (k .permitted))) (encodesD (asDecisions (k .permitted))) front (v .kept)
   pub free : ℕ
-  pub left : LaidWithin (length front - v .kept) (1 + weights (k .pend)) (free ∷ encodes (productSets .number) (k .pend)) out (v .size)
+  pub left : LaidWithin (length front - v .kept) (1 + weights (k .pend)) (free ∷ encodes (k .pend)) out (v .size)
   pub arms-are : v .arms ≡ length (asDecisions (k .permitted)) + count (k .pend)
   pub pending-is : v .pending ≡ isOpen (k .pend)
 
--- One more arm that was resolved. Its buffer starts at 64. Its node is laid behind those that are kept, where it permits.
+-- One more arm that was resolved. Its buffer starts at the second room. Its node is laid behind those that are kept, where it permits.
 pub record NodeKept (T : Table) (W : List ℕ) (d : Decision) (kept : ℕ) (buf front buf′ front′ : List ℕ) (r : ℕ) : Type 0 where
   pub bound : r ≤ tooMany
   pub more : kept ≤ r
   pub none : d .permit ≡ false → (r ≡ kept) × (front′ ≡ front)
-  pub node : d .permit ≡ true → (n : ℕ) (ws : List ℕ) → Sound W (drop 64 buf) d → Laid n ws front kept →
-      Laid (n + weightD (decisionOf W T (drop 64 buf) d)) (ws ++ encodeD (productSets .number) (decisionOf W T (drop 64 buf) d)) front′ r
-  pub front-bytes : take 64 buf′ ≡ take 64 buf
-  pub bytes : Sound W (drop 64 buf) d → take (d .count) (drop 64 buf′) ≡ take (d .count) (drop 64 buf)
+  pub node : d .permit ≡ true → (n : ℕ) (ws : List ℕ) → Sound W (drop obligationRoom buf) d → Laid n ws front kept →
+      Laid (n + weightD (decisionOf W T (drop obligationRoom buf) d)) (ws ++ encodeD (decisionOf W T (drop obligationRoom buf) d)) front′ r
+  pub front-bytes : take obligationRoom buf′ ≡ take obligationRoom buf
+  pub bytes : Sound W (drop obligationRoom buf) d → take (d .united) (drop obligationRoom buf′) ≡ take (d .united) (drop obligationRoom buf)
 
 pub record DecisionAdded (every : Bool) (T : Table) (W : List ℕ) (v : Sofar) (d : Decision) (buf front buf′ front′ : List ℕ) (r : Sofar) : Type 0 where
   pub bounds : Bounded r
@@ -127,9 +130,9 @@ pub record DecisionAdded (every : Bool) (T : Table) (W : List ℕ) (v : Sofar) (
   pub more : v .kept ≤ r .kept
   pub arms-are : r .arms ≡ armsWith (d .permit) (v .arms)
   pub none : d .permit ≡ false → (r .kept ≡ v .kept) × (front′ ≡ front)
-  pub node : d .permit ≡ true → (n : ℕ) (ws : List ℕ) → Sound W (drop 64 buf) d → Laid n ws front (v .kept) →
-      Laid (n + weightD (decisionOf W T (drop 64 buf) d)) (ws ++ encodeD (productSets .number) (decisionOf W T (drop 64 buf) d)) front′ (r .kept)
-  pub folds : (every ≡ true → d .permit ≡ true) → Folds (foldNext every (v .begun)) W (v .decision) buf d (drop 64 buf) (r .decision) buf′
+  pub node : d .permit ≡ true → (n : ℕ) (ws : List ℕ) → Sound W (drop obligationRoom buf) d → Laid n ws front (v .kept) →
+      Laid (n + weightD (decisionOf W T (drop obligationRoom buf) d)) (ws ++ encodeD (decisionOf W T (drop obligationRoom buf) d)) front′ (r .kept)
+  pub folds : (every ≡ true → d .permit ≡ true) → Folds (foldNext every (v .begun)) W (v .decision) buf d (drop obligationRoom buf) (r .decision) buf′
 
 -- One more arm. A pending one was laid behind those before it.
 pub record ArmAdded (every : Bool) (T : Table) (W : List ℕ) (v : Sofar) (a : ReducedPolicy) (buf front buf′ front′ : List ℕ) (r : Sofar) : Type 0 where
@@ -137,27 +140,6 @@ pub record ArmAdded (every : Bool) (T : Table) (W : List ℕ) (v : Sofar) (a : R
   pub arms-most : r .arms ≤ v .arms + 1
   pub open-arm : a .pending ≡ true → (r ≡ sofarOf (v .decision) (v .begun) (v .kept) (capped (v .size + a .size)) (v .arms + 1) true) × (buf′ ≡ buf) × (front′ ≡ front)
   pub known-arm : a .pending ≡ false → DecisionAdded every T W v (a .decision) buf front buf′ front′ r
-
--- The answer for the arms that are left, given what is kept so far. Of arms that don't read only the bounds are said.
-pub record ArmsLeft (every : Bool) (P : Table) (W : List ℕ) (v : Sofar) (buf front out : List ℕ) (at depth arms : ℕ) (s : Lent) (r : ReducedPolicy) (t : Lent) (buf′ out′ : List ℕ) : Type 0 where
-  pub few : r .decision .count ≤ 64
-  pub bound : r .size ≤ tooMany
-  pub says : (k : Walked) → SofarIs every P W k v buf front out →
-      Holds (λ ts rest. ReducedTo (leftOf every P k ts) (at + wordss ts) (readOf every P ts) P W s r t buf′ (length front) out′) (many pnil pcons (readPolicy (productSets .value) true depth) arms (drop at W))
-
--- An arm that a run passes over: a Permit, or under Any a grant on one fact that is settled.
-pub record Settled (every : Bool) (P : Table) (W : List ℕ) (at : ℕ) : Type 0 where
-  pub short : Short W at
-  pub known : (getD W at 0 / 65536 ≡ 24576 → ⊥) → (every ≡ false) × (isSettled (P (getD W (at + 2) 0 % 1024)) ≡ true)
-
--- A run over arms: what answers for those that are left answers for all. The last arm is left, if there was one.
-pub record Ran (every : Bool) (P : Table) (W : List ℕ) (a : Run) (s : Lent) (buf front : List ℕ) (r : Run) (t : Lent) (buf′ front′ : List ℕ) : Type 0 where
-  pub bounds : Bounded (r .sofar)
-  pub arms-left : r .sofar .arms + r .left ≤ a .sofar .arms + a .left
-  pub some-left : 1 ≤ a .left → 1 ≤ r .left
-  pub fewer : r .left ≤ a .left
-  pub goes : (depth : ℕ) (out : List ℕ) (x : ReducedPolicy) (u : Lent) (buf₁ out₁ : List ℕ) →
-      ArmsLeft every P W (r .sofar) buf′ front′ out (r .next) depth (r .left) t x u buf₁ out₁ → ArmsLeft every P W (a .sofar) buf front out (a .next) depth (a .left) s x u buf₁ out₁
 
 -- The nodes that a list with pending arms keeps, those that were kept so far or the first deny.
 pub record NodesAre (every : Bool) (k : Walked) (v : Sofar) (front : List ℕ) (r : Sofar) : Type 0 where
@@ -173,7 +155,7 @@ pub record NodesEnd (every : Bool) (T : Table) (W : List ℕ) (v : Sofar) (buf f
 
 -- A list whose arms are all read.
 pub record ListEnds (every : Bool) (T : Table) (W : List ℕ) (v : Sofar) (next count : ℕ) (buf front out buf′ out′ : List ℕ) (r : ReducedPolicy) : Type 0 where
-  pub few : r .decision .count ≤ 64
+  pub few : Few (r .decision)
   pub bound : r .size ≤ tooMany
   pub next-is : r .next ≡ next
   pub count-is : r .count ≡ count
@@ -184,10 +166,10 @@ pub record ListEnds (every : Bool) (T : Table) (W : List ℕ) (v : Sofar) (next 
 -- What stands for a part in a residual was laid: what is left of it, which stood there, or its node.
 pub record ResidualLaid (T : Table) (W : List ℕ) (b : ReducedPolicy) (buf out out′ : List ℕ) (r : ℕ) : Type 0 where
   pub bound : r ≤ tooMany
-  pub laid : (y : model.ReducedPolicy ℕ) (room : ℕ) → Result y T W buf room out b → LaidWithin room (weight (asResidual y)) (encode (productSets .number) (asResidual y)) out′ r
+  pub laid : (y : model.ReducedPolicy Outcome) (room : ℕ) → Result y T W buf room out b → LaidWithin room (weight (asResidual y)) (encode (asResidual y)) out′ r
 
 -- The fallback was laid behind the primary, and the lead before both. What is left of the fallback stood behind the primary.
 pub record OrElsePut (T : Table) (W : List ℕ) (used : ℕ) (b : ReducedPolicy) (buf out out′ : List ℕ) (r : ℕ) : Type 0 where
   pub bound : r ≤ tooMany
-  pub put : (n free room : ℕ) (ws : List ℕ) (y : model.ReducedPolicy ℕ) → LaidWithin room (1 + n) (free ∷ ws) out used → Result y T W buf room (drop (min used (length out)) out) b →
-      LaidWithin room (1 + n + weight (asResidual y)) (word 11 0 ∷ (ws ++ encode (productSets .number) (asResidual y))) out′ r
+  pub put : (n free room : ℕ) (ws : List ℕ) (y : model.ReducedPolicy Outcome) → LaidWithin room (1 + n) (free ∷ ws) out used → Result y T W buf room (drop (min used (length out)) out) b →
+      LaidWithin room (1 + n + weight (asResidual y)) (word 11 0 ∷ (ws ++ encode (asResidual y))) out′ r

@@ -3,20 +3,24 @@
 // Lent down the walk, besides: the consulted list and `buf`, as in `evaluate`; `named`, for the facts of one clause; and `front`, where a list rule
 // keeps the nodes of its resolved permits until it knows that an arm is pending, and of which it lends the tail to its arms.
 use decision::Decision;
+use decision::OBLIGATION_ROOM;
 use policy_model::PolicyHead;
 ghost use mathlib.Core.Path.{_≡_};
 ghost use mathlib.Core.Bool.{Bool, true, false, not, _&&_};
 ghost use mathlib.Core.List.{List};
-ghost use Prim.Native.Nat.{ℕ, _+_, _*_, _≤_, _<_, min};
+ghost use Prim.Native.Nat.{ℕ, _+_, _^_, _≤_, _<_};
 ghost use lib.ListN.{length, take, drop, set};
 ghost use Rattle.model.specs.Facts.{tableOf};
-ghost use Rattle.model.specs.Writing.{mostListed, word};
+ghost use Rattle.model.specs.Writing.{countBits, word};
+ghost use Rattle.model.specs.Reading.{levels, recordWords};
 ghost use Rattle.policy_model.specs.declared.PolicyHead.the-variants.{Grant, OrElse};
 ghost use Rattle.condition.specs.Listing.{lent};
-ghost use Rattle.evaluate.specs.Evaluating.{Folds};
+ghost use Rattle.evaluate.specs.Evaluating.{Folds, grantedAt};
 ghost use Rattle.sizes.specs.Laid.{tooMany, Laid};
+ghost use Rattle.decision.specs.Room.{obligationRoom, RoomToUnite, Few};
+ghost use Rattle.clause.specs.Room.{RoomToName};
 ghost use Rattle.partial_policy.specs.Keeping.{listKind, armsWith, foldNext};
-ghost use Rattle.partial_policy.specs.Reducing.{resolvedTo, leftTo, sofarOf, listHead, ReducesP, ReducesBy, ReducesConstant, Bounded, NodeKept, DecisionAdded, ArmAdded, Settled, Ran, NodesEnd, ListEnds, ResidualLaid, OrElsePut};
+ghost use Rattle.partial_policy.specs.Reducing.{resolvedTo, leftTo, listHead, ReducesP, ReducesBy, ReducesConstant, SettledGrant, Bounded, NodeKept, DecisionAdded, ArmAdded, NodesEnd, ListEnds, ResidualLaid, OrElsePut};
 
 // Whether a policy is pending, its decision if it is not, the position after its words, how many entries are in use, and the size of what is left.
 pub struct ReducedPolicy {
@@ -41,20 +45,6 @@ struct Sofar {
     pub pending: bool,
 }
 
-// A list under way: what its arms came to so far, the position of the next one, how many are left, and how many entries are in use.
-struct Run {
-    sofar: Sofar,
-    next: usize,
-    left: u32,
-    count: usize,
-}
-
-// A list rule keeps so many bytes at the front of the buffer.
-const OBLIGATIONS: usize = 64;
-
-// With so few arms left, setting out on a run costs more than it saves.
-const FEW_ARMS: u32 = 7;
-
 fn resolved(decision: Decision, next: usize, count: usize) -> ReducedPolicy
     ensures { λ r. ⌜ r ≡ resolvedTo decision next count ⌝ }
 {
@@ -67,7 +57,7 @@ fn resolved(decision: Decision, next: usize, count: usize) -> ReducedPolicy
     }
 }
 
-fn left(size: usize, none: usize, next: usize, count: usize) -> ReducedPolicy
+fn pending(size: usize, none: usize, next: usize, count: usize) -> ReducedPolicy
     ensures { λ r. ⌜ r ≡ leftTo size none next count ⌝ }
 {
     ReducedPolicy {
@@ -81,7 +71,7 @@ fn left(size: usize, none: usize, next: usize, count: usize) -> ReducedPolicy
 
 // Lays `n` words from `at` on, as they stand.
 fn lay_words(words: &[u32], at: usize, n: usize, out: &mut [u32])
-    requires { ⌜ (at + n ≤ length (now words)) × (n ≤ 16384) ⌝ }
+    requires { ⌜ (at + n ≤ length (now words)) × (n ≤ recordWords) ⌝ }
     ensures { λ r. ⌜ Laid n (take n (drop at (now (words .entry)))) (now (out .exit)) n ⌝ }
 {
     if n <= out.len() {
@@ -89,24 +79,39 @@ fn lay_words(words: &[u32], at: usize, n: usize, out: &mut [u32])
     }
 }
 
+// The grant at `at` on the outcome, whose condition is known: permits where that is satisfied, else denies.
+fn granted(
+    at: usize,
+    outcome: u16,
+    none: usize,
+    satisfied: bool,
+    next: usize,
+    count: usize,
+) -> ReducedPolicy
+    ensures { λ r. ⌜ r ≡ resolvedTo (grantedAt satisfied outcome at none) next count ⌝ }
+{
+    if satisfied {
+        return resolved(decision::permitted_by(outcome, at), next, count);
+    }
+    resolved(decision::denied_by(at, none), next, count)
+}
+
 // A grant at `at`. A known one is decided by its condition's value; of a pending one its own words are kept, and what is left of its condition.
 fn reduce_grant(
     words: &[u32],
     at: usize,
     depth: usize,
-    obligations: u32,
-    outcome: u16,
     facts: &[u8],
     entries: &mut [u16],
     seen: &mut [u64],
     count: usize,
     out: &mut [u32],
 ) -> ReducedPolicy
-    requires { ⌜ (at < length (now words)) × (depth < 32) × (length (now words) ≤ 16384) ⌝ }
-    ensures { λ r. ⌜ ((hidden : Bool) (buf : List ℕ) (room : ℕ) → ReducesBy (Grant hidden obligations outcome) (tableOf (now (facts .entry))) (now (words .entry)) at depth (lent count (now (entries .entry)) (now (seen .entry))) r (lent (r .count) (now (entries .exit)) (now (seen .exit))) buf room (now (out .exit))) ⌝ }
+    requires { ⌜ (at < length (now words)) × (depth < levels) × (length (now words) ≤ recordWords) ⌝ }
+    ensures { λ r. ⌜ ((hidden : Bool) (obligations outcome : ℕ) (buf : List ℕ) (room : ℕ) → ReducesBy (Grant hidden obligations outcome) (tableOf (now (facts .entry))) (now (words .entry)) at depth (lent count (now (entries .entry)) (now (seen .entry))) r (lent (r .count) (now (entries .exit)) (now (seen .exit))) buf room (now (out .exit))) ⌝ }
 {
     let none = words.len();
-    let own = 2 + (obligations as usize + 3) / 4;
+    let own = grant::before_condition_in(words, at) as usize;
     if none - at < own {
         return resolved(decision::denied(none), at, count);
     }
@@ -125,12 +130,41 @@ fn reduce_grant(
     let next = condition.next;
     let listed = condition.count;
     if condition.pending {
-        return left(sizes::plus(own, condition.size), none, next, listed);
+        return pending(sizes::plus(own, condition.size), none, next, listed);
     }
-    if condition.satisfied {
-        return resolved(decision::permitted_by(outcome, at), next, listed);
+    let outcome = grant::outcome_in(words, at) as u16;
+    granted(at, outcome, none, condition.satisfied, next, listed)
+}
+
+// Whether a grant on one fact that is settled stands at `at`, told by its three words.
+fn settled_grant(words: &[u32], at: usize, facts: &[u8]) -> bool
+    requires { ⌜ at < length (now words) ⌝ }
+    ensures { λ r. ⌜ (r ≡ true → SettledGrant (tableOf (now (facts .entry))) (now (words .entry)) at) ⌝ }
+{
+    if !policy_model::plain_grant(words, at) {
+        return false;
     }
-    resolved(decision::denied_by(at, none), next, listed)
+    facts::settled(facts, words[at + 2] % policy_model::FACTS)
+}
+
+// That grant: nothing of it is open, so its condition is evaluated.
+fn reduce_on_fact(
+    words: &[u32],
+    at: usize,
+    facts: &[u8],
+    entries: &mut [u16],
+    seen: &mut [u64],
+    count: usize,
+) -> ReducedPolicy
+    requires { ⌜ SettledGrant (tableOf (now facts)) (now words) at ⌝ }
+    ensures { λ r. ⌜ ((depth : ℕ) (buf : List ℕ) (room : ℕ) (out : List ℕ) → ReducesP (tableOf (now (facts .entry))) (now (words .entry)) at depth (lent count (now (entries .entry)) (now (seen .entry))) r (lent (r .count) (now (entries .exit)) (now (seen .exit))) buf room out) ⌝ }
+{
+    let outcome = (words[at] % policy_model::HALF) as u16;
+    let fact = words[at + 2] % policy_model::FACTS;
+    let condition = condition::eval_has(fact, at + 3, facts, entries, seen, count);
+    let next = condition.next;
+    let listed = condition.count;
+    granted(at, outcome, words.len(), condition.satisfied, next, listed)
 }
 
 // A Permit, a Deny or a stored decision at `at`, and words that don't read: nothing is open, so it is evaluated.
@@ -144,7 +178,7 @@ fn reduce_constant(
     count: usize,
     buf: &mut [u8],
 ) -> ReducedPolicy
-    requires { ⌜ (depth ≤ 32) × (64 * (depth + 1) ≤ length (now buf)) × (length (now words) ≤ 16384) ⌝ }
+    requires { ⌜ (depth ≤ levels) × RoomToUnite (depth + 1) (now buf) × (length (now words) ≤ recordWords) ⌝ }
     ensures { λ r. ⌜ ReducesConstant (tableOf (now (facts .entry))) (now (words .entry)) at depth (lent count (now (entries .entry)) (now (seen .entry))) r (lent (r .count) (now (entries .exit)) (now (seen .exit))) (now (buf .exit)) ⌝ }
 {
     let eval = evaluate::eval_policy(words, at, depth, facts, entries, seen, count, buf);
@@ -166,7 +200,7 @@ fn stops(every: bool, arm: ReducedPolicy) -> bool
     !permit
 }
 
-// Lays the node of a resolved arm behind those that are kept, if it permits, and returns the size of all. The arm's buffer starts at 64.
+// Lays the node of a resolved arm behind those that are kept, if it permits, and returns the size of all. The arm's buffer starts at the second room.
 fn keep_node(
     words: &[u32],
     facts: &[u8],
@@ -176,7 +210,7 @@ fn keep_node(
     named: &mut [u16],
     front: &mut [u32],
 ) -> usize
-    requires { ⌜ (incoming .count ≤ 64) × (kept ≤ tooMany) × (128 ≤ length (now buf)) × (length (now words) ≤ length (now named)) × (min (2 * length (now words)) mostListed ≤ length (now named)) ⌝ }
+    requires { ⌜ Few incoming × (kept ≤ tooMany) × RoomToUnite 2 (now buf) × RoomToName (now words) (now named) ⌝ }
     ensures { λ r. ⌜ NodeKept (tableOf (now (facts .entry))) (now (words .entry)) incoming kept (now (buf .entry)) (now (front .entry)) (now (buf .exit)) (now (front .exit)) r ⌝ }
 {
     if !incoming.permit {
@@ -187,7 +221,7 @@ fn keep_node(
         words,
         incoming,
         facts,
-        &mut buf[OBLIGATIONS..],
+        &mut buf[OBLIGATION_ROOM..],
         named,
         &mut front[from..],
     );
@@ -203,9 +237,9 @@ fn fold_next(
     incoming: Decision,
     buf: &mut [u8],
 ) -> Decision
-    requires { ⌜ (sofar .count ≤ 64) × (incoming .count ≤ 64) × (128 ≤ length (now buf)) ⌝ }
-    ensures few { λ r. ⌜ r .count ≤ 64 ⌝ }
-    ensures folds { λ r. ⌜ ((every ≡ true → incoming .permit ≡ true) → Folds (foldNext every begun) (now (words .entry)) sofar (now (buf .entry)) incoming (drop 64 (now (buf .entry))) r (now (buf .exit))) ⌝ }
+    requires { ⌜ Few sofar × Few incoming × RoomToUnite 2 (now buf) ⌝ }
+    ensures few { λ r. ⌜ Few r ⌝ }
+    ensures folds { λ r. ⌜ ((every ≡ true → incoming .permit ≡ true) → Folds (foldNext every begun) (now (words .entry)) sofar (now (buf .entry)) incoming (drop obligationRoom (now (buf .entry))) r (now (buf .exit))) ⌝ }
 {
     if every {
         return evaluate::met(words, sofar, incoming, buf);
@@ -215,26 +249,10 @@ fn fold_next(
 
 // How many arms are kept with one more that was resolved: only a permit is.
 fn arms_with(arms: u32, permit: bool) -> u32
-    requires { ⌜ arms < 4096 ⌝ }
+    requires { ⌜ arms < 2 ^ countBits ⌝ }
     ensures { λ r. ⌜ r ≡ armsWith permit arms ⌝ }
 {
     if permit { arms + 1 } else { arms }
-}
-
-// What the arms came to with one more that was resolved, by their decision with it and the nodes that are kept then.
-fn with_resolved(sofar: Sofar, decision: Decision, kept: usize, permit: bool) -> Sofar
-    requires { ⌜ sofar .arms < 4096 ⌝ }
-    ensures { λ r. ⌜ r ≡ sofarOf decision true kept (sofar .size) (armsWith permit (sofar .arms)) (sofar .pending) ⌝ }
-{
-    let arms = arms_with(sofar.arms, permit);
-    Sofar {
-        decision,
-        begun: true,
-        kept,
-        size: sofar.size,
-        arms,
-        pending: sofar.pending,
-    }
 }
 
 // One more arm that was resolved.
@@ -248,12 +266,20 @@ fn with_decision(
     named: &mut [u16],
     front: &mut [u32],
 ) -> Sofar
-    requires { ⌜ Bounded sofar × (sofar .arms < 4096) × (incoming .count ≤ 64) × (128 ≤ length (now buf)) × (length (now words) ≤ length (now named)) × (min (2 * length (now words)) mostListed ≤ length (now named)) ⌝ }
+    requires { ⌜ Bounded sofar × (sofar .arms < 2 ^ countBits) × Few incoming × RoomToUnite 2 (now buf) × RoomToName (now words) (now named) ⌝ }
     ensures { λ r. ⌜ DecisionAdded every (tableOf (now (facts .entry))) (now (words .entry)) sofar incoming (now (buf .entry)) (now (front .entry)) (now (buf .exit)) (now (front .exit)) r ⌝ }
 {
     let kept = keep_node(words, facts, incoming, sofar.kept, buf, named, front);
     let decision = fold_next(words, every, sofar.decision, sofar.begun, incoming, buf);
-    with_resolved(sofar, decision, kept, incoming.permit)
+    let arms = arms_with(sofar.arms, incoming.permit);
+    Sofar {
+        decision,
+        begun: true,
+        kept,
+        size: sofar.size,
+        arms,
+        pending: sofar.pending,
+    }
 }
 
 // One more arm, whose words were laid behind those before it, if it is pending.
@@ -267,7 +293,7 @@ fn with_arm(
     named: &mut [u16],
     front: &mut [u32],
 ) -> Sofar
-    requires { ⌜ Bounded sofar × (sofar .arms < 4096) × (arm .decision .count ≤ 64) × (arm .size ≤ tooMany) × (128 ≤ length (now buf)) × (length (now words) ≤ length (now named)) × (min (2 * length (now words)) mostListed ≤ length (now named)) ⌝ }
+    requires { ⌜ Bounded sofar × (sofar .arms < 2 ^ countBits) × Few (arm .decision) × (arm .size ≤ tooMany) × RoomToUnite 2 (now buf) × RoomToName (now words) (now named) ⌝ }
     ensures { λ r. ⌜ ArmAdded every (tableOf (now (facts .entry))) (now (words .entry)) sofar arm (now (buf .entry)) (now (front .entry)) (now (buf .exit)) (now (front .exit)) r ⌝ }
 {
     if arm.pending {
@@ -286,13 +312,13 @@ fn with_arm(
 
 // The lead of a list.
 fn lead(every: bool, arms: u32) -> u32
-    requires { ⌜ arms ≤ 4096 ⌝ }
+    requires { ⌜ arms ≤ 2 ^ countBits ⌝ }
     ensures { λ r. ⌜ r ≡ word (listKind every) arms ⌝ }
 {
     if every {
-        return 2415919104 + arms;
+        return policy_model::LEAD_POLICY_ALL + arms;
     }
-    2684354560 + arms
+    policy_model::LEAD_POLICY_ANY + arms
 }
 
 // The nodes that a list with pending arms keeps: an Any without permits holds its first deny first.
@@ -305,7 +331,7 @@ fn with_first_deny(
     named: &mut [u16],
     front: &mut [u32],
 ) -> Sofar
-    requires { ⌜ Bounded sofar × (sofar .arms < 4096) × (64 ≤ length (now buf)) × (length (now words) ≤ length (now named)) × (min (2 * length (now words)) mostListed ≤ length (now named)) ⌝ }
+    requires { ⌜ Bounded sofar × (sofar .arms < 2 ^ countBits) × RoomToUnite 1 (now buf) × RoomToName (now words) (now named) ⌝ }
     ensures { λ r. ⌜ NodesEnd every (tableOf (now (facts .entry))) (now (words .entry)) sofar (now (buf .entry)) (now (front .entry)) (now (front .exit)) r ⌝ }
 {
     if every {
@@ -342,7 +368,7 @@ fn end_list(
     front: &mut [u32],
     out: &mut [u32],
 ) -> ReducedPolicy
-    requires { ⌜ Bounded sofar × (sofar .arms < 4096) × (64 ≤ length (now buf)) × (length (now words) ≤ length (now named)) × (min (2 * length (now words)) mostListed ≤ length (now named)) ⌝ }
+    requires { ⌜ Bounded sofar × (sofar .arms < 2 ^ countBits) × RoomToUnite 1 (now buf) × RoomToName (now words) (now named) ⌝ }
     ensures { λ r. ⌜ ListEnds every (tableOf (now (facts .entry))) (now (words .entry)) sofar next count (now (buf .entry)) (now (front .entry)) (now (out .entry)) (now (buf .exit)) (now (out .exit)) r ⌝ }
 {
     if !sofar.pending {
@@ -351,7 +377,7 @@ fn end_list(
     let whole = with_first_deny(words, facts, every, sofar, buf, named, front);
     let first = lead(every, whole.arms);
     let size = residual::put_list(first, front, whole.kept, out, whole.size);
-    left(size, words.len(), next, count)
+    pending(size, words.len(), next, count)
 }
 
 // Lays what stands for a part in a residual: what is left of it stands there already, and a resolved part is laid as its node.
@@ -363,7 +389,7 @@ fn as_residual(
     named: &mut [u16],
     out: &mut [u32],
 ) -> usize
-    requires { ⌜ (part .decision .count ≤ 64) × (part .size ≤ tooMany) × (64 ≤ length (now buf)) × (length (now words) ≤ length (now named)) × (min (2 * length (now words)) mostListed ≤ length (now named)) ⌝ }
+    requires { ⌜ Few (part .decision) × (part .size ≤ tooMany) × RoomToUnite 1 (now buf) × RoomToName (now words) (now named) ⌝ }
     ensures { λ r. ⌜ ResidualLaid (tableOf (now (facts .entry))) (now (words .entry)) part (now (buf .entry)) (now (out .entry)) (now (out .exit)) r ⌝ }
 {
     if part.pending {
@@ -391,73 +417,13 @@ fn end_or_else(
     named: &mut [u16],
     out: &mut [u32],
 ) -> usize
-    requires { ⌜ (used ≤ tooMany) × (1 ≤ used) × (fallback .decision .count ≤ 64) × (fallback .size ≤ tooMany) × (64 ≤ length (now buf)) × (length (now words) ≤ length (now named)) × (min (2 * length (now words)) mostListed ≤ length (now named)) ⌝ }
+    requires { ⌜ (used ≤ tooMany) × (1 ≤ used) × Few (fallback .decision) × (fallback .size ≤ tooMany) × RoomToUnite 1 (now buf) × RoomToName (now words) (now named) ⌝ }
     ensures { λ r. ⌜ OrElsePut (tableOf (now (facts .entry))) (now (words .entry)) used fallback (now (buf .entry)) (now (out .entry)) (now (out .exit)) r ⌝ }
 {
     let from = sizes::tail_from(used, out.len());
     let size = as_residual(words, facts, fallback, buf, named, &mut out[from..]);
-    put_first(2952790016, out);
+    put_first(policy_model::LEAD_OR_ELSE, out);
     sizes::plus(used, size)
-}
-
-// Whether a run goes on with the arm at `at`: with a Permit, and under Any with a grant on one fact that is settled. So no arm of a run is pending, and
-// under All none denies. The last arm of a list is left to the list rule.
-fn goes_on(words: &[u32], at: usize, left: u32, every: bool, facts: &[u8]) -> bool
-    ensures { λ r. ⌜ (r ≡ true → Settled every (tableOf (now (facts .entry))) (now (words .entry)) at × (1 < left)) ⌝ }
-{
-    if left < 2 {
-        return false;
-    }
-    if words.len() <= at {
-        return false;
-    }
-    if words[at] / policy_model::HALF == policy_model::PERMIT {
-        return true;
-    }
-    if every {
-        return false;
-    }
-    if !policy_model::plain_grant(words, at) {
-        return false;
-    }
-    facts::settled(facts, words[at + 2] % policy_model::FACTS)
-}
-
-// Reduces the next arms as long as the run goes on, with no call of the cycle for any of them: nothing of them is open, so each is evaluated.
-fn reduce_settled(
-    words: &[u32],
-    every: bool,
-    run: Run,
-    facts: &[u8],
-    entries: &mut [u16],
-    seen: &mut [u64],
-    buf: &mut [u8],
-    named: &mut [u16],
-    front: &mut [u32],
-) -> Run
-    requires { ⌜ Bounded (run .sofar) × (run .sofar .arms + run .left < 4096) × (128 ≤ length (now buf)) × (length (now words) ≤ length (now named)) × (min (2 * length (now words)) mostListed ≤ length (now named)) ⌝ }
-    ensures { λ r. ⌜ Ran every (tableOf (now (facts .entry))) (now (words .entry)) run (lent (run .count) (now (entries .entry)) (now (seen .entry))) (now (buf .entry)) (now (front .entry)) r (lent (r .count) (now (entries .exit)) (now (seen .exit))) (now (buf .exit)) (now (front .exit)) ⌝ }
-{
-    let mut sofar = run.sofar;
-    let mut next = run.next;
-    let mut left = run.left;
-    let mut listed = run.count;
-    while goes_on(words, next, left, every, facts) {
-        let arm = evaluate::eval_short(words, next, facts, entries, seen, listed);
-        let incoming = arm.decision;
-        let kept = keep_node(words, facts, incoming, sofar.kept, buf, named, front);
-        let decision = fold_next(words, every, sofar.decision, sofar.begun, incoming, buf);
-        sofar = with_resolved(sofar, decision, kept, incoming.permit);
-        next = arm.next;
-        left -= 1;
-        listed = arm.count;
-    }
-    Run {
-        sofar,
-        next,
-        left,
-        count: listed,
-    }
 }
 
 // The policy at `at`, of at most `depth` levels.
@@ -474,7 +440,7 @@ pub fn reduce_policy(
     front: &mut [u32],
     out: &mut [u32],
 ) -> ReducedPolicy
-    requires { ⌜ (depth ≤ 32) × (64 * (depth + 1) ≤ length (now buf)) × (length (now words) ≤ 16384) × (length (now words) ≤ length (now named)) × (min (2 * length (now words)) mostListed ≤ length (now named)) ⌝ }
+    requires { ⌜ (depth ≤ levels) × RoomToUnite (depth + 1) (now buf) × (length (now words) ≤ recordWords) × RoomToName (now words) (now named) ⌝ }
     ensures { λ r. ⌜ ReducesP (tableOf (now (facts .entry))) (now (words .entry)) at depth (lent count (now (entries .entry)) (now (seen .entry))) r (lent (r .count) (now (entries .exit)) (now (seen .exit))) (now (buf .exit)) (length (now (front .entry))) (now (out .exit)) ⌝ }
 {
     let none = words.len();
@@ -488,22 +454,9 @@ pub fn reduce_policy(
     match policy_model::policy_head(words[at], true) {
         PolicyHead::Grant {
             hidden: _,
-            obligations: held,
-            outcome,
-        } => {
-            reduce_grant(
-                words,
-                at,
-                below,
-                held,
-                outcome,
-                facts,
-                entries,
-                seen,
-                count,
-                out,
-            )
-        }
+            obligations: _,
+            outcome: _,
+        } => { reduce_grant(words, at, below, facts, entries, seen, count, out) }
         PolicyHead::All(arms) => {
             reduce_list(
                 words,
@@ -557,8 +510,52 @@ pub fn reduce_policy(
     }
 }
 
+// The same of an arm of a list rule. A Permit and a grant on one fact that is settled, the commonest arms of a wide list, are answered here.
+fn reduce_arm(
+    words: &[u32],
+    at: usize,
+    depth: usize,
+    facts: &[u8],
+    entries: &mut [u16],
+    seen: &mut [u64],
+    count: usize,
+    buf: &mut [u8],
+    named: &mut [u16],
+    front: &mut [u32],
+    out: &mut [u32],
+) -> ReducedPolicy
+    requires { ⌜ (depth ≤ levels) × RoomToUnite (depth + 1) (now buf) × (length (now words) ≤ recordWords) × RoomToName (now words) (now named) ⌝ }
+    ensures { λ r. ⌜ ReducesP (tableOf (now (facts .entry))) (now (words .entry)) at depth (lent count (now (entries .entry)) (now (seen .entry))) r (lent (r .count) (now (entries .exit)) (now (seen .exit))) (now (buf .exit)) (length (now (front .entry))) (now (out .exit)) ⌝ }
+{
+    let none = words.len();
+    if none <= at {
+        return resolved(decision::denied(none), at, count);
+    }
+    let word = words[at];
+    if word / policy_model::HALF == policy_model::PERMIT {
+        let outcome = (word % policy_model::HALF) as u16;
+        return resolved(decision::permitted(outcome, none), at + 1, count);
+    }
+    if settled_grant(words, at, facts) {
+        return reduce_on_fact(words, at, facts, entries, seen, count);
+    }
+    reduce_policy(
+        words,
+        at,
+        depth,
+        facts,
+        entries,
+        seen,
+        count,
+        buf,
+        named,
+        front,
+        out,
+    )
+}
+
 // The All or Any at `at`, whose `arms` have at most `depth` levels. All stops at a resolved deny, which is its answer, and arms after that one aren't
-// read; Any reads every arm. While many arms are left, a turn begins with a run.
+// read; Any reads every arm.
 fn reduce_list(
     words: &[u32],
     at: usize,
@@ -574,7 +571,7 @@ fn reduce_list(
     front: &mut [u32],
     out: &mut [u32],
 ) -> ReducedPolicy
-    requires { ⌜ (at < length (now words)) × (depth < 32) × (arms < 4096) × (64 * (depth + 2) ≤ length (now buf)) × (length (now words) ≤ 16384) × (length (now words) ≤ length (now named)) × (min (2 * length (now words)) mostListed ≤ length (now named)) ⌝ }
+    requires { ⌜ (at < length (now words)) × (depth < levels) × (arms < 2 ^ countBits) × RoomToUnite (depth + 2) (now buf) × (length (now words) ≤ recordWords) × RoomToName (now words) (now named) ⌝ }
     ensures { λ r. ⌜ ReducesBy (listHead every arms) (tableOf (now (facts .entry))) (now (words .entry)) at depth (lent count (now (entries .entry)) (now (seen .entry))) r (lent (r .count) (now (entries .exit)) (now (seen .exit))) (now (buf .exit)) (length (now (front .entry))) (now (out .exit)) ⌝ }
 {
     let mut sofar = Sofar {
@@ -589,31 +586,9 @@ fn reduce_list(
     let mut listed = count;
     let mut left = arms;
     while left != 0 {
-        if left > FEW_ARMS {
-            let run = reduce_settled(
-                words,
-                every,
-                Run {
-                    sofar,
-                    next,
-                    left,
-                    count: listed,
-                },
-                facts,
-                entries,
-                seen,
-                buf,
-                named,
-                front,
-            );
-            sofar = run.sofar;
-            next = run.next;
-            left = run.left;
-            listed = run.count;
-        }
         let behind = sizes::tail_from(sofar.kept, front.len());
         let from = sizes::tail_from(sofar.size, out.len());
-        let arm = reduce_policy(
+        let arm = reduce_arm(
             words,
             next,
             depth,
@@ -621,7 +596,7 @@ fn reduce_list(
             entries,
             seen,
             listed,
-            &mut buf[OBLIGATIONS..],
+            &mut buf[OBLIGATION_ROOM..],
             named,
             &mut front[behind..],
             &mut out[from..],
@@ -667,7 +642,7 @@ fn reduce_or_else(
     front: &mut [u32],
     out: &mut [u32],
 ) -> ReducedPolicy
-    requires { ⌜ (at < length (now words)) × (depth < 32) × (64 * (depth + 1) ≤ length (now buf)) × (length (now words) ≤ 16384) × (length (now words) ≤ length (now named)) × (min (2 * length (now words)) mostListed ≤ length (now named)) ⌝ }
+    requires { ⌜ (at < length (now words)) × (depth < levels) × RoomToUnite (depth + 1) (now buf) × (length (now words) ≤ recordWords) × RoomToName (now words) (now named) ⌝ }
     ensures { λ r. ⌜ ReducesBy OrElse (tableOf (now (facts .entry))) (now (words .entry)) at depth (lent count (now (entries .entry)) (now (seen .entry))) r (lent (r .count) (now (entries .exit)) (now (seen .exit))) (now (buf .exit)) (length (now (front .entry))) (now (out .exit)) ⌝ }
 {
     let from = sizes::tail_from(1, out.len());
@@ -703,7 +678,7 @@ fn reduce_or_else(
             &mut out[behind..],
         );
         let size = end_or_else(words, facts, used, fallback, buf, named, out);
-        return left(size, words.len(), fallback.next, fallback.count);
+        return pending(size, words.len(), fallback.next, fallback.count);
     }
     let decision = primary.decision;
     let permitted = decision.permit;

@@ -2,23 +2,19 @@
 use mathlib.Core.Path.{_≡_, refl, sym, _∙_, ap, subst}
 use mathlib.Core.Bool.{Bool, true, false, cond}
 use mathlib.Core.List.{List, [], _∷_, _++_, map}
-use Prim.Native.Nat.{ℕ, zero, suc, _+_, _-_, _*_, _/_, _%_, _^_}
+use Prim.Native.Nat.{ℕ, zero, suc, _+_, _-_}
 use native.Mathlib.Omega.{arith}
 use lib.Dec.{eqb}
 use lib.ListN.{length, drop, length-map}
 use lib.Seq.{drop-at}
-use Rattle.model.specs.Fields.{split, wordsFor, perWord, pack}
-use Rattle.model.specs.Reading.{Parsed, refuse, got, Fields, bad, ok, put, takeField, takeFields, readWords, readList}
-use Rattle.laws.specs.FieldLaws.{Holds, weaker, same-list}
+use Rattle.model.specs.Fields.{wordsFor, perWord, pack}
+use Rattle.model.specs.Reading.{Parsed, refuse, got, Fields, bad, ok, put, takeFields, readList}
+use Rattle.laws.specs.FieldLaws.{bad-fields, Holds, weaker, same-list}
 use Rattle.laws.specs.Lengths.{length-pack}
 use Rattle.policy_model.specs.declared.Checked.{Checked}
 use Rattle.policy_model.specs.declared.Checked.the-variants.{Next, Refused}
 use Rattle.policy_model.specs.Answers.{checked}
 use Rattle.policy_model.proofs.Checking.{Leaves}
-
-pub length-split : (width n w : ℕ) → length (split width n w) ≡ n
-length-split width zero w = refl
-length-split width (suc n) w = ap suc (length-split width n (w % 2 ^ (width * n)))
 
 -- A list that was read ends at `end`.
 abbrev pub upTo : {A : Type 0} → ℕ → Parsed A → Checked
@@ -26,14 +22,6 @@ upTo end (refuse n) = Refused n
 upTo end (got a ws) = Next end
 
 module _ {A : Type 0} (chk : List A → ℕ → Parsed A) where
-  pub bad-words : (width n : ℕ) (vs : List ℕ) (e : ℕ) → readWords chk width n vs (bad e) ≡ refuse e
-  bad-words width n [] e = refl
-  bad-words width n (v ∷ vs) e = refl
-
-  bad-fields : (bs : List ℕ) (e : ℕ) → takeFields chk (bad e) bs ≡ bad e
-  bad-fields [] e = refl
-  bad-fields (b ∷ bs) e = bad-fields bs e
-
   abbrev pub LeftAt : ℕ → Fields A → Type 0
   LeftAt m (bad e) = Unit {0}
   LeftAt m (ok xs k) = k ≡ m
@@ -46,7 +34,7 @@ module _ {A : Type 0} (chk : List A → ℕ → Parsed A) where
   left-same m n t e h = subst (λ x. Left x t) e h
 
   left-bad : (m e : ℕ) (bs : List ℕ) → Left m (takeFields chk (bad e) bs)
-  left-bad m e bs = subst (Left m) (sym (bad-fields bs e)) (record { it = tt })
+  left-bad m e bs = subst (Left m) (sym (bad-fields chk bs e)) (record { it = tt })
 
   left-zero : (bs : List ℕ) (xs : List A) (t : Bool) → Left (0 - length bs) (takeFields chk (ok xs zero) bs) → Left (0 - suc (length bs)) (takeFields chk (cond t (ok xs zero) (bad 8)) bs)
   left-zero bs xs true h = left-same (0 - length bs) (0 - suc (length bs)) (takeFields chk (ok xs zero) bs) (omega arith) h

@@ -13,9 +13,9 @@ use lib.Bits.{bitOr, or-shr, or-mod}
 use Rattle.model.specs.Fields.{split, wordsFor}
 use Rattle.model.specs.Decision.{held}
 use Rattle.model.specs.Writing.{obligationBits}
-use Rattle.model.specs.Reading.{Parsed, refuse, got, unless, Fields, bad, ok, put, takeField, takeFields, readWords, readList, obligation}
+use Rattle.model.specs.Reading.{Parsed, refuse, got, unless, Fields, bad, ok, put, takeField, takeFields, readWords, readList, obligation, obligationCount}
 use Rattle.laws.specs.Size.{quads}
-use Rattle.laws.specs.FieldLaws.{wordsFor-none, wordsFor-more}
+use Rattle.laws.specs.FieldLaws.{bad-words, wordsFor-none, wordsFor-more}
 use Rattle.laws.specs.ReadForm.{same-obligation}
 use Rattle.policy_model.specs.declared.Checked.{Checked}
 use Rattle.policy_model.specs.declared.Checked.the-variants.{Next}
@@ -26,7 +26,7 @@ use Rattle.policy_model.specs.Answers.{checked}
 use Rattle.policy_model.specs.Heads.{bitOf}
 use Rattle.policy_model.specs.Lists.{seenOne, seenAll}
 use Rattle.policy_model.proofs.Checking.{word-at, no-word, Leaves}
-use Rattle.policy_model.proofs.Fields.{upTo, bad-words, Left, left, list-ends, list-leaves}
+use Rattle.policy_model.proofs.Fields.{upTo, Left, left, list-ends, list-leaves}
 
 -- ---- bits
 abbrev bitAt : ℕ → ℕ → ℕ
@@ -96,9 +96,9 @@ unfolding seenOne
 seen-one (bad n) b = refl
 seen-one (ok xs zero) b = last-zero xs (eqb b 0)
 seen-one (ok xs (suc k)) b =
-    rw (eqb·suc-zero k, sub-one, mask-of b xs) (one-seen xs k b (ltb b 64) (held b xs))
+    rw (eqb·suc-zero k, sub-one, mask-of b xs) (one-seen xs k b (ltb b obligationCount) (held b xs))
 
-pub seen-all : (bs : List ℕ) (t : Fields ℕ) → seenAll (stateOf t) bs ≡ stateOf (takeFields obligation t bs)
+seen-all : (bs : List ℕ) (t : Fields ℕ) → seenAll (stateOf t) bs ≡ stateOf (takeFields obligation t bs)
 unfolding seenAll
 seen-all [] t = refl
 seen-all (b ∷ bs) t = ap (λ s. seenAll s bs) (seen-one t b) ∙ seen-all bs (takeField obligation t b)

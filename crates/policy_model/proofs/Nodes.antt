@@ -8,12 +8,12 @@ use native.Mathlib.Omega.{arith}
 use borrow.Author.Tests.{ltb-true, ltb-false, lt-ltb, le-ltb, le-leb, lt-leb}
 use lib.Dec.{eqb, ltb, leb}
 use lib.ListN.{length, drop, getD}
-use Rattle.model.specs.Outcome.{productSets}
 use Rattle.model.specs.Condition.{Condition}
 use Rattle.model.specs.Decision.{Decision, permits, denies}
 use Rattle.model.specs.Policy.{Policy, grant}
 use Rattle.model.specs.Writing.{obligationBits, entryBits}
-use Rattle.model.specs.Reading.{Parsed, refuse, got, next, unless, another, readList, obligation, listed, mark, shapeOf, readCondition, grantMore, more12, more13}
+use Rattle.model.specs.Reading.{Parsed, refuse, got, next, unless, another, readList, obligation, listed, mark, shapeOf, readCondition}
+use Rattle.model.specs.Products.{Outcome, grantMore, more12, more13}
 use Rattle.laws.specs.Size.{quads, pairs, wordsC, wordsD, words}
 use Rattle.policy_model.specs.declared.Checked.{Checked}
 use Rattle.policy_model.specs.declared.Checked.the-variants.{Next, Refused}
@@ -51,17 +51,17 @@ module _ {C : Type 0} (size : C → ℕ) (at : ℕ) (r : Checked) where
   judged-fails false (got a ws) k j e h = absurd (j .it)
   judged-fails false (refuse n) k j e h = h ∙ ap Refused (sym (j .it))
 
-  pub test-passes : (t : Bool) (n : ℕ) (q : Parsed C) → t ≡ true → r ≡ checked size at q → r ≡ checked size at (unless t n q)
+  test-passes : (t : Bool) (n : ℕ) (q : Parsed C) → t ≡ true → r ≡ checked size at q → r ≡ checked size at (unless t n q)
   test-passes t n q e h = h ∙ ap (λ b. checked size at (unless b n q)) (sym e)
 
-  pub test-fails : (t : Bool) (n : ℕ) (q : Parsed C) → t ≡ false → r ≡ Refused n → r ≡ checked size at (unless t n q)
+  test-fails : (t : Bool) (n : ℕ) (q : Parsed C) → t ≡ false → r ≡ Refused n → r ≡ checked size at (unless t n q)
   unfolding checked
   test-fails t n q e h = h ∙ ap (λ b. checked size at (unless b n q)) (sym e)
 
-  pub mark-passes : (h : ℕ) (k : Option ℕ → List ℕ → Parsed C) → h < 65536 → markFits h ≡ true → ((l : Option ℕ) (ws : List ℕ) → r ≡ checked size at (k l ws)) → r ≡ checked size at (next (mark h) k)
+  mark-passes : (h : ℕ) (k : Option ℕ → List ℕ → Parsed C) → h < 65536 → markFits h ≡ true → ((l : Option ℕ) (ws : List ℕ) → r ≡ checked size at (k l ws)) → r ≡ checked size at (next (mark h) k)
   mark-passes h k lt e f = judged-passes (markFits h) (mark h) k (judge-mark h lt) e f
 
-  pub mark-fails : (h : ℕ) (k : Option ℕ → List ℕ → Parsed C) → h < 65536 → markFits h ≡ false → r ≡ Refused 8 → r ≡ checked size at (next (mark h) k)
+  mark-fails : (h : ℕ) (k : Option ℕ → List ℕ → Parsed C) → h < 65536 → markFits h ≡ false → r ≡ Refused 8 → r ≡ checked size at (next (mark h) k)
   mark-fails h k lt e f = judged-fails (markFits h) (mark h) k (judge-mark h lt) e f
 
   both-true : (t u : Bool) → cond t u false ≡ true → (t ≡ true) × (u ≡ true)
@@ -69,7 +69,7 @@ module _ {C : Type 0} (size : C → ℕ) (at : ℕ) (r : Checked) where
   both-true false u e = (e, cc)
 
   -- A label and a reason in one word.
-  pub marks-pass : (w : ℕ) (k : Option ℕ → Option ℕ → Parsed C) → w < 4294967296 → marksFit w ≡ true → ((l m : Option ℕ) → r ≡ checked size at (k l m)) →
+  marks-pass : (w : ℕ) (k : Option ℕ → Option ℕ → Parsed C) → w < 4294967296 → marksFit w ≡ true → ((l m : Option ℕ) → r ≡ checked size at (k l m)) →
       r ≡ checked size at (next (mark (w / 65536)) (λ l _. next (mark (w % 65536)) (λ m _. k l m)))
   unfolding marksFit
   marks-pass w k lt e f =
@@ -84,7 +84,7 @@ module _ {C : Type 0} (size : C → ℕ) (at : ℕ) (r : Checked) where
       mark-fails (w % 65536) (λ m _. k l m) (omega arith) e h)
   marks-at w k lt false g e h = mark-fails (w / 65536) (λ l _. next (mark (w % 65536)) (λ m _. k l m)) (omega arith) g h
 
-  pub marks-fail : (w : ℕ) (k : Option ℕ → Option ℕ → Parsed C) → w < 4294967296 → marksFit w ≡ false → r ≡ Refused 8 →
+  marks-fail : (w : ℕ) (k : Option ℕ → Option ℕ → Parsed C) → w < 4294967296 → marksFit w ≡ false → r ≡ Refused 8 →
       r ≡ checked size at (next (mark (w / 65536)) (λ l _. next (mark (w % 65536)) (λ m _. k l m)))
   unfolding marksFit
   marks-fail w k lt e h = marks-at w k lt (markFits (w / 65536)) refl e h
@@ -94,7 +94,7 @@ module _ {C : Type 0} (size : C → ℕ) (at : ℕ) (r : Checked) where
       r ≡ checked size at (another (drop from words) k)
   word-there words from k lt h = h ∙ ap (λ us. checked size at (another us k)) (sym (word-at words from lt))
 
-  pub word-missing : (words : List ℕ) (from : ℕ) (k : ℕ → List ℕ → Parsed C) → length words ≤ from → r ≡ Refused 6 → r ≡ checked size at (another (drop from words) k)
+  word-missing : (words : List ℕ) (from : ℕ) (k : ℕ → List ℕ → Parsed C) → length words ≤ from → r ≡ Refused 6 → r ≡ checked size at (another (drop from words) k)
   unfolding checked
   word-missing words from k lt h = h ∙ ap (λ us. checked size at (another us k)) (sym (no-word words from lt))
 
@@ -105,10 +105,10 @@ module _ (ws : List ℕ) (at depth n : ℕ) (hidden : Bool) (o : ℕ) where
 
   pub grant-short : length ws ≤ at + 1 → Refused 6 ≡ GrantAt
   unfolding grantNode
-  grant-short lt = word-missing words at (Refused 6) ws (at + 1) (λ w vs. grantMore (productSets .value) (readCondition depth) (bitOf hidden) n o (w / 65536) (w % 65536) vs) lt refl
+  grant-short lt = word-missing words at (Refused 6) ws (at + 1) (λ w vs. grantMore (readCondition depth) (bitOf hidden) n o (w / 65536) (w % 65536) vs) lt refl
 
   module _ (lt : at + 1 < length ws) (fits : getD ws (at + 1) 0 < 4294967296) where
-    abbrev more : Option ℕ → Option ℕ → Parsed (Policy ℕ)
+    abbrev more : Option ℕ → Option ℕ → Parsed (Policy Outcome)
     more l m =
         next (readList obligation obligationBits n (drop (at + 1 + 1) ws)) (λ os vs.
         next (readCondition depth vs) (λ c us. got (grant (record { outcome = o; obligations = os; label = l; reason = m; shape = shapeOf (bitOf hidden) }) c) us))
@@ -116,13 +116,13 @@ module _ (ws : List ℕ) (at depth n : ℕ) (hidden : Bool) (o : ℕ) where
     pub grant-marks : marksFit (getD ws (at + 1) 0) ≡ false → Refused 8 ≡ GrantAt
     unfolding grantNode
     grant-marks e =
-        word-there words at (Refused 8) ws (at + 1) (λ w vs. grantMore (productSets .value) (readCondition depth) (bitOf hidden) n o (w / 65536) (w % 65536) vs) lt
+        word-there words at (Refused 8) ws (at + 1) (λ w vs. grantMore (readCondition depth) (bitOf hidden) n o (w / 65536) (w % 65536) vs) lt
         (marks-fail words at (Refused 8) (getD ws (at + 1) 0) more fits e refl)
 
     then-list : (r : Checked) → marksFit (getD ws (at + 1) 0) ≡ true → ((l m : Option ℕ) → r ≡ checked words at (more l m)) → r ≡ GrantAt
     unfolding grantNode
     then-list r e f =
-        word-there words at r ws (at + 1) (λ w vs. grantMore (productSets .value) (readCondition depth) (bitOf hidden) n o (w / 65536) (w % 65536) vs) lt
+        word-there words at r ws (at + 1) (λ w vs. grantMore (readCondition depth) (bitOf hidden) n o (w / 65536) (w % 65536) vs) lt
         (marks-pass words at r (getD ws (at + 1) 0) more fits e f)
 
     pub grant-refused : (number : ℕ) → marksFit (getD ws (at + 1) 0) ≡ true → Refused number ≡ checked quads (at + 1 + 1) (readList obligation obligationBits n (drop (at + 1 + 1) ws)) → Refused number ≡ GrantAt
@@ -144,27 +144,27 @@ module _ (ws : List ℕ) (at n o : ℕ) where
   abbrev w₂ : ℕ
   w₂ = getD ws (at + 1) 0
 
-  abbrev permit-list : Option ℕ → List ℕ → List ℕ → Parsed (Decision ℕ)
+  abbrev permit-list : Option ℕ → List ℕ → List ℕ → Parsed (Decision Outcome)
   permit-list l os vs = next (readList listed entryBits (w₂ % 65536) vs) (λ fs us. got (permits (record { outcome = o; obligations = os; label = l; facts = fs })) us)
 
-  abbrev permit-more : Option ℕ → Parsed (Decision ℕ)
+  abbrev permit-more : Option ℕ → Parsed (Decision Outcome)
   permit-more l = next (readList obligation obligationBits n (drop (at + 1 + 1) ws)) (permit-list l)
 
   pub permit-short : length ws ≤ at + 1 → Refused 6 ≡ PermitAt
   unfolding permitTraceNode
-  permit-short lt = word-missing wordsD at (Refused 6) ws (at + 1) (λ w vs. more12 (productSets .value) n o (w / 65536) (w % 65536) vs) lt refl
+  permit-short lt = word-missing wordsD at (Refused 6) ws (at + 1) (λ w vs. more12 n o (w / 65536) (w % 65536) vs) lt refl
 
   module _ (lt : at + 1 < length ws) (fits : w₂ < 4294967296) where
     pub permit-mark : markFits (w₂ / 65536) ≡ false → Refused 8 ≡ PermitAt
     unfolding permitTraceNode
     permit-mark e =
-        word-there wordsD at (Refused 8) ws (at + 1) (λ w vs. more12 (productSets .value) n o (w / 65536) (w % 65536) vs) lt
+        word-there wordsD at (Refused 8) ws (at + 1) (λ w vs. more12 n o (w / 65536) (w % 65536) vs) lt
         (mark-fails wordsD at (Refused 8) (w₂ / 65536) (λ l _. unless (ltb (w₂ % 65536) 4096) 8 (permit-more l)) (omega arith) e refl)
 
     permit-marked : (r : Checked) → markFits (w₂ / 65536) ≡ true → ((l : Option ℕ) → r ≡ checked wordsD at (unless (ltb (w₂ % 65536) 4096) 8 (permit-more l))) → r ≡ PermitAt
     unfolding permitTraceNode
     permit-marked r e f =
-        word-there wordsD at r ws (at + 1) (λ w vs. more12 (productSets .value) n o (w / 65536) (w % 65536) vs) lt
+        word-there wordsD at r ws (at + 1) (λ w vs. more12 n o (w / 65536) (w % 65536) vs) lt
         (mark-passes wordsD at r (w₂ / 65536) (λ l _. unless (ltb (w₂ % 65536) 4096) 8 (permit-more l)) (omega arith) e (λ l _. f l))
 
     pub permit-count : markFits (w₂ / 65536) ≡ true → 4096 ≤ w₂ % 65536 → Refused 8 ≡ PermitAt
@@ -191,13 +191,13 @@ module _ (ws : List ℕ) (at : ℕ) (hidden denied : Bool) (o : ℕ) where
   abbrev pub DenyAt : Checked
   DenyAt = checked wordsD at (denyTraceNode hidden denied o (drop (at + 1) ws))
 
-  abbrev denial : Option ℕ → Option ℕ → List ℕ → Decision ℕ
+  abbrev denial : Option ℕ → Option ℕ → List ℕ → Decision Outcome
   denial l m fs = denies (record { denied = deniedBy denied o; facts = fs; label = l; reason = m; shape = shapeOf (bitOf hidden) })
 
-  abbrev deny-list : Option ℕ → Option ℕ → ℕ → List ℕ → Parsed (Decision ℕ)
+  abbrev deny-list : Option ℕ → Option ℕ → ℕ → List ℕ → Parsed (Decision Outcome)
   deny-list l m n vs = unless (ltb n 4096) 8 (next (readList listed entryBits n vs) (λ fs us. got (denial l m fs) us))
 
-  abbrev deny-more : Option ℕ → Option ℕ → Parsed (Decision ℕ)
+  abbrev deny-more : Option ℕ → Option ℕ → Parsed (Decision Outcome)
   deny-more l m = another (drop (at + 1 + 1) ws) (deny-list l m)
 
   abbrev u₂ : ℕ
@@ -208,19 +208,19 @@ module _ (ws : List ℕ) (at : ℕ) (hidden denied : Bool) (o : ℕ) where
 
   pub deny-short : length ws ≤ at + 1 → Refused 6 ≡ DenyAt
   unfolding denyTraceNode
-  deny-short lt = word-missing wordsD at (Refused 6) ws (at + 1) (λ w vs. more13 (productSets .value) (bitOf hidden) (deniedBy denied o) (w / 65536) (w % 65536) vs) lt refl
+  deny-short lt = word-missing wordsD at (Refused 6) ws (at + 1) (λ w vs. more13 (bitOf hidden) (deniedBy denied o) (w / 65536) (w % 65536) vs) lt refl
 
   module _ (lt : at + 1 < length ws) (fits : u₂ < 4294967296) where
     pub deny-marks : marksFit u₂ ≡ false → Refused 8 ≡ DenyAt
     unfolding denyTraceNode
     deny-marks e =
-        word-there wordsD at (Refused 8) ws (at + 1) (λ w vs. more13 (productSets .value) (bitOf hidden) (deniedBy denied o) (w / 65536) (w % 65536) vs) lt
+        word-there wordsD at (Refused 8) ws (at + 1) (λ w vs. more13 (bitOf hidden) (deniedBy denied o) (w / 65536) (w % 65536) vs) lt
         (marks-fail wordsD at (Refused 8) u₂ deny-more fits e refl)
 
     deny-marked : (r : Checked) → marksFit u₂ ≡ true → ((l m : Option ℕ) → r ≡ checked wordsD at (deny-more l m)) → r ≡ DenyAt
     unfolding denyTraceNode
     deny-marked r e f =
-        word-there wordsD at r ws (at + 1) (λ w vs. more13 (productSets .value) (bitOf hidden) (deniedBy denied o) (w / 65536) (w % 65536) vs) lt
+        word-there wordsD at r ws (at + 1) (λ w vs. more13 (bitOf hidden) (deniedBy denied o) (w / 65536) (w % 65536) vs) lt
         (marks-pass wordsD at r u₂ deny-more fits e f)
 
     pub deny-short-third : marksFit u₂ ≡ true → length ws ≤ at + 1 + 1 → Refused 6 ≡ DenyAt

@@ -2,7 +2,7 @@
 use mathlib.Core.Path.{_≡_, refl, sym, _∙_, ap, subst}
 use mathlib.Core.Bool.{Bool, true, false, cond}
 use mathlib.Core.List.{List, [], _∷_, _++_}
-use Prim.Native.Nat.{ℕ, zero, suc, _+_, _-_, _*_, _/_, _%_, _≤_, _<_}
+use Prim.Native.Nat.{ℕ, zero, suc, _+_, _-_, _/_, _%_, _≤_, _<_}
 use native.Mathlib.Nat.{div-one}
 use native.Mathlib.Numerals.{sub-one}
 use native.Mathlib.Omega.{arith}
@@ -14,14 +14,14 @@ use Rattle.model.specs.Consulted.{Entry, Consulted}
 use Rattle.model.specs.Writing.{entryBits, entryField}
 use Rattle.model.specs.Reading.{Parsed, refuse, got, unless, Fields, bad, ok, put, takeField, takeFields, readWords, readList, listed, entry, consulted}
 use Rattle.laws.specs.Size.{pairs}
-use Rattle.laws.specs.FieldLaws.{Holds, fine, nothing, if-holds, weaker, same-list, wordsFor-none, wordsFor-more}
-use Rattle.laws.specs.ReadForm.{same-listed}
+use Rattle.laws.specs.FieldLaws.{bad-words, Holds, weaker, same-list, wordsFor-none, wordsFor-more}
+use Rattle.laws.specs.ReadForm.{same-listed, same-consulted}
 use Rattle.policy_model.specs.declared.Checked.{Checked}
 use Rattle.policy_model.specs.declared.Checked.the-variants.{Next, Refused}
 use Rattle.policy_model.specs.Answers.{checked}
 use Rattle.policy_model.specs.Lists.{entryFits, pairFits, checkedPairs}
 use Rattle.policy_model.proofs.Checking.{word-at, no-word, Leaves}
-use Rattle.policy_model.proofs.Fields.{upTo, bad-words, list-ends, list-leaves}
+use Rattle.policy_model.proofs.Fields.{upTo, list-ends, list-leaves}
 
 -- A test decides whether a field is accepted; what isn't gives 8.
 abbrev JudgedAt : {A : Type 0} → Bool → Parsed A → Type 0
@@ -122,23 +122,11 @@ judge-consulted : (es : Consulted) (b : ℕ) → Judged (entryFits 3 b) (consult
 unfolding entryFits
 judge-consulted es b = judge-entry (b / 16384) (b % 16384) (ltb (b % 16384) 1024)
 
-same-entry : (k f b : ℕ) → k * 16384 + f ≡ b → Holds (λ a _. entryField a ≡ b) (entry k f)
-same-entry zero f b h = fine h
-same-entry (suc zero) f b h = fine h
-same-entry (suc (suc zero)) f b h = fine h
-same-entry (suc (suc (suc k))) f b h = nothing
-
-same-consulted : (es : Consulted) (b : ℕ) → Holds (λ a _. entryField a ≡ b) (consulted es b)
-same-consulted es b = if-holds (ltb (b % 16384) 1024) 8 (entry (b / 16384) (b % 16384)) (λ _. same-entry (b / 16384) (b % 16384) b (omega arith))
-
 pub facts-checked : (at k : ℕ) (us : List ℕ) → checkedPairs 1 at us k ≡ checked pairs at (readList listed entryBits k us)
 facts-checked at k us = pairs-are 1 listed judge-listed us at k [] ∙ sym (list-ends (λ f. f) listed same-listed entryBits 1 refl at k us)
 
 pub entries-checked : (at k : ℕ) (us : List ℕ) → checkedPairs 3 at us k ≡ checked pairs at (readList consulted entryBits k us)
 entries-checked at k us = pairs-are 3 consulted judge-consulted us at k [] ∙ sym (list-ends entryField consulted same-consulted entryBits 1 refl at k us)
-
-pub facts-leave : (k : ℕ) (us : List ℕ) → Leaves pairs us (readList listed entryBits k us)
-facts-leave k us = list-leaves (λ f. f) listed same-listed entryBits 1 refl k us
 
 pub entries-leave : (k : ℕ) (us : List ℕ) → Leaves pairs us (readList consulted entryBits k us)
 entries-leave k us = list-leaves entryField consulted same-consulted entryBits 1 refl k us

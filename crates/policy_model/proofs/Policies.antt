@@ -12,8 +12,8 @@ use Rattle.model.specs.Outcome.{productSets}
 use Rattle.model.specs.Condition.{Condition}
 use Rattle.model.specs.Decision.{permits, denies}
 use Rattle.model.specs.Policy.{Policy, permit, deny, grant, all, any, orElse, stored, pnil, pcons}
-use Rattle.model.specs.Writing.{encode}
-use Rattle.model.specs.Reading.{Parsed, refuse, got, next, many, readCondition, readPolicy}
+use Rattle.model.specs.Reading.{Parsed, refuse, got, next, many, readCondition}
+use Rattle.model.specs.Products.{Outcome, encode, readPolicy}
 use Rattle.laws.specs.Size.{wordsD, words, wordss}
 use Rattle.laws.specs.Form.{IfThere}
 use Rattle.laws.specs.Lengths.{length-encode}
@@ -26,7 +26,8 @@ use Rattle.policy_model.specs.declared.Step.{Step}
 use Rattle.policy_model.specs.Answers.{checked, Stepped, stepOf}
 use Rattle.policy_model.specs.Heads.{policyHead, policyNode, permitTraceNode, denyTraceNode, deepPolicy}
 use Rattle.policy_model.specs.HeadLaws.{policy-node, policy-deep}
-use Rattle.policy_model.specs.Plain.{plainGrant, plain-reads}
+use Rattle.policy_model.specs.Plain.{plainGrant}
+use Rattle.policy_model.specs.PlainLaws.{plain-reads}
 use Rattle.policy_model.proofs.Checking.{word-at, no-word, clash, Leaves, leaves-of, end-with, many-first, many-none}
 use Rattle.policy_model.proofs.Levels.{Lists}
 
@@ -35,44 +36,44 @@ only-at : (v : ℕ) (t : Bool) → IfThere (λ o. o ≡ v) (cond t (some v) none
 only-at v true = refl
 only-at v false = tt
 
-pub policy-leaves : (res : Bool) (d : ℕ) (us : List ℕ) → Leaves words us (readPolicy (productSets .value) res d us)
+pub policy-leaves : (res : Bool) (d : ℕ) (us : List ℕ) → Leaves words us (readPolicy res d us)
 policy-leaves res d us =
-    leaves-of (encode (productSets .number)) words (length-encode (productSets .number)) us (readPolicy (productSets .value) res d us)
+    leaves-of encode words (length-encode (productSets .number)) us (readPolicy res d us)
     (same-T (productSets .number) (productSets .value) (λ v. only-at v (ltb v 65536)) res d us)
 
-nothing-there : (res : Bool) (depth : ℕ) → readPolicy (productSets .value) res depth [] ≡ refuse 6
+nothing-there : (res : Bool) (depth : ℕ) → readPolicy res depth [] ≡ refuse 6
 nothing-there res zero = refl
 nothing-there res (suc depth) = refl
 
 -- A policy's parts, at the levels that are left below it.
-abbrev pub nodeOf : Bool → ℕ → PolicyHead → List ℕ → Parsed (Policy ℕ)
-nodeOf res d h ws = policyNode (readCondition d) (readPolicy (productSets .value) res d) h ws
+abbrev pub nodeOf : Bool → ℕ → PolicyHead → List ℕ → Parsed (Policy Outcome)
+nodeOf res d h ws = policyNode (readCondition d) (readPolicy res d) h ws
 
-node-there : (res : Bool) (depth w : ℕ) (ws : List ℕ) → (depth ≡ 0 → ⊥) → nodeOf res (depth - 1) (policyHead w res) ws ≡ readPolicy (productSets .value) res depth (w ∷ ws)
+node-there : (res : Bool) (depth w : ℕ) (ws : List ℕ) → (depth ≡ 0 → ⊥) → nodeOf res (depth - 1) (policyHead w res) ws ≡ readPolicy res depth (w ∷ ws)
 node-there res zero w ws f = absurd (f refl)
 node-there res (suc depth) w ws f = rw sub-one (sym (policy-node res depth w ws))
 
 module _ (ws : List ℕ) (at depth : ℕ) (res : Bool) where
   abbrev pub Asked : Checked
-  Asked = checked words at (readPolicy (productSets .value) res depth (drop at ws))
+  Asked = checked words at (readPolicy res depth (drop at ws))
 
   pub no-policy : length ws ≤ at → Refused 6 ≡ Asked
   unfolding checked
-  no-policy h = sym (ap (checked words at) (ap (readPolicy (productSets .value) res depth) (no-word ws at h) ∙ nothing-there res depth))
+  no-policy h = sym (ap (checked words at) (ap (readPolicy res depth) (no-word ws at h) ∙ nothing-there res depth))
 
   pub too-deep : (n : ℕ) (h : PolicyHead) → at < length ws → depth ≡ 0 → h ≡ policyHead (getD ws at 0) res → n ≡ deepPolicy h → Refused n ≡ Asked
   unfolding checked
   too-deep n h lt z e f =
-      sym (ap (checked words at) (ap (λ d. readPolicy (productSets .value) res d (drop at ws)) z ∙ ap (readPolicy (productSets .value) res 0) (word-at ws at lt)
+      sym (ap (checked words at) (ap (λ d. readPolicy res d (drop at ws)) z ∙ ap (readPolicy res 0) (word-at ws at lt)
       ∙ policy-deep res (getD ws at 0) (drop (at + 1) ws) ∙ ap refuse (ap deepPolicy (sym e) ∙ sym f)))
 
   pub by-head : (h : PolicyHead) → at < length ws → (depth ≡ 0 → ⊥) → h ≡ policyHead (getD ws at 0) res → checked words at (nodeOf res (depth - 1) h (drop (at + 1) ws)) ≡ Asked
   by-head h lt f e =
       ap (checked words at) (ap (λ x. nodeOf res (depth - 1) x (drop (at + 1) ws)) e ∙ node-there res depth (getD ws at 0) (drop (at + 1) ws) f
-      ∙ ap (readPolicy (productSets .value) res depth) (sym (word-at ws at lt)))
+      ∙ ap (readPolicy res depth) (sym (word-at ws at lt)))
 
 -- What follows the first word.
-module _ (pc : List ℕ → Parsed Condition) (p : List ℕ → Parsed (Policy ℕ)) (at : ℕ) (us : List ℕ) where
+module _ (pc : List ℕ → Parsed Condition) (p : List ℕ → Parsed (Policy Outcome)) (at : ℕ) (us : List ℕ) where
   pub after-all : (n : ℕ) → checked wordss (at + 1) (many pnil pcons p n us) ≡ checked words at (policyNode pc p (All n) us)
   unfolding policyNode
   after-all n = end-with wordss words (at + 1) at all (many pnil pcons p n us) (λ ts. omega arith)
@@ -82,13 +83,13 @@ module _ (pc : List ℕ → Parsed Condition) (p : List ℕ → Parsed (Policy �
   after-any n = end-with wordss words (at + 1) at any (many pnil pcons p n us) (λ ts. omega arith)
 
   -- The two arms of an OrElse are read as a list of two.
-  second-arm : (a : Policy ℕ) (q : Parsed (Policy ℕ)) →
+  second-arm : (a : Policy Outcome) (q : Parsed (Policy Outcome)) →
       checked wordss (at + 1) (next (next q (λ b ts. got (pcons b pnil) ts)) (λ xs ts. got (pcons a xs) ts)) ≡ checked words at (next q (λ b ts. got (orElse a b) ts))
   unfolding checked
   second-arm a (refuse n) = refl
   second-arm a (got b ts) = ap Next (omega arith)
 
-  two-arms : (q : Parsed (Policy ℕ)) →
+  two-arms : (q : Parsed (Policy Outcome)) →
       checked wordss (at + 1) (next q (λ a vs. next (next (p vs) (λ b ts. got (pcons b pnil) ts)) (λ xs ts. got (pcons a xs) ts)))
       ≡ checked words at (next q (λ a vs. next (p vs) (λ b ts. got (orElse a b) ts)))
   unfolding checked
@@ -110,17 +111,17 @@ module _ (pc : List ℕ → Parsed Condition) (p : List ℕ → Parsed (Policy �
 -- The list rule.
 module _ (ws : List ℕ) (depth : ℕ) (res : Bool) where
   abbrev pub AskedAll : ℕ → ℕ → Checked
-  AskedAll at count = checked wordss at (many pnil pcons (readPolicy (productSets .value) res depth) count (drop at ws))
+  AskedAll at count = checked wordss at (many pnil pcons (readPolicy res depth) count (drop at ws))
 
 pub policy-lists : (ws : List ℕ) (res : Bool) → Lists (λ d at. Asked ws at d res) (λ d. AskedAll ws d res)
 policy-lists ws res =
     record {
-      first = λ d. many-first words wordss pnil pcons (readPolicy (productSets .value) res d) refl (λ a b. refl) (policy-leaves res d) ws;
-      none = λ d. many-none words wordss pnil pcons (readPolicy (productSets .value) res d) refl (λ a b. refl) (policy-leaves res d) ws;
+      first = λ d. many-first words wordss pnil pcons (readPolicy res d) refl (λ a b. refl) (policy-leaves res d) ws;
+      none = λ d. many-none words wordss pnil pcons (readPolicy res d) refl (λ a b. refl) (policy-leaves res d) ws;
     }
 
 -- Every policy takes a word, so a node that is passed ends later than it begins.
-some-words : (t : Policy ℕ) → 0 < words t
+some-words : (t : Policy Outcome) → 0 < words t
 some-words (permit o) = omega arith
 some-words deny = omega arith
 some-words (grant g c) = omega arith
@@ -130,7 +131,7 @@ some-words (orElse a b) = omega arith
 some-words (stored (permits p)) = omega arith
 some-words (stored (denies d)) = omega arith
 
-ends-later : (at after : ℕ) (q : Parsed (Policy ℕ)) → Next after ≡ checked words at q → at < after
+ends-later : (at after : ℕ) (q : Parsed (Policy Outcome)) → Next after ≡ checked words at q → at < after
 unfolding checked
 ends-later at after (refuse n) e = clash after n e
 ends-later at after (got t vs) e =
@@ -141,7 +142,7 @@ ends-later at after (got t vs) e =
 -- The check of a whole node is a step.
 pub whole-node : (ws : List ℕ) (at depth : ℕ) (res : Bool) (c : Checked) (r : Step) → at < length ws → c ≡ Asked ws at depth res → r ≡ stepOf c →
     Stepped ws at depth (Asked ws at depth res) (AskedAll ws (depth - 1) res (at + 1)) r
-whole-node ws at depth res (Next after) r lt e f = rw f (e, lt, ends-later at after (readPolicy (productSets .value) res depth (drop at ws)) e)
+whole-node ws at depth res (Next after) r lt e f = rw f (e, lt, ends-later at after (readPolicy res depth (drop at ws)) e)
 whole-node ws at depth res (Refused n) r lt e f = rw f e
 
 -- A plain grant is passed, with a level below it for its condition.

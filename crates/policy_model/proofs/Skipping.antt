@@ -7,15 +7,15 @@ use Prim.Native.Nat.{ℕ, zero, suc, _+_, _-_, _/_, _%_, _≤_, _<_}
 use native.Mathlib.Omega.{arith}
 use borrow.Author.Tests.{ltb-true, leb-true}
 use lib.Dec.{eqb, ltb, leb}
-use lib.ListN.{length, drop, getD, length-map, length-drop, List·getD-eq-default}
+use lib.ListN.{length, drop, getD, length-map, length-drop}
 use lib.Seq.{drop-drop, getD-drop}
 use Rattle.model.specs.Fields.{wordsFor, perWord, pack}
-use Rattle.model.specs.Outcome.{productSets}
 use Rattle.model.specs.Condition.{Condition, notC, allC, anyC, Conditions, cnil, ccons}
 use Rattle.model.specs.Decision.{Decision, permits, denies}
 use Rattle.model.specs.Policy.{Policy, grant, all, any, orElse, stored, Policies, pnil, pcons}
 use Rattle.model.specs.Writing.{obligationBits, entryBits}
-use Rattle.model.specs.Reading.{Parsed, refuse, got, next, unless, another, many, readList, obligation, listed, mark, shapeOf, readCondition, readPolicy}
+use Rattle.model.specs.Reading.{Parsed, refuse, got, next, unless, another, many, readList, obligation, listed, mark, shapeOf, readCondition, mostObligations}
+use Rattle.model.specs.Products.{Outcome, readPolicy}
 use Rattle.laws.specs.Size.{quads, pairs, wordsC, wordsCs, wordsD, words, wordss}
 use Rattle.laws.specs.FieldLaws.{Holds, fine, nothing, if-holds, weaker, then-holds, same-list}
 use Rattle.laws.specs.Lengths.{length-pack}
@@ -28,14 +28,14 @@ use Rattle.policy_model.specs.declared.PolicyHead.the-variants.{Permit, 
 use Rattle.policy_model.specs.declared.PolicyHead.the-variants as policy
 use Rattle.policy_model.specs.Heads.{conditionHeads, conditionHead, conditionNode, permitHead, grantHead, permitTraceHead, denyTraceHead, policyHeads, policyHead, bitOf, deniedBy, permitTraceNode, denyTraceNode, grantNode, policyNode}
 use Rattle.policy_model.specs.HeadLaws.{condition-node, condition-deep, policy-node, policy-deep}
-use Rattle.policy_model.specs.Span.{armsBy, armsOf, ownBy, ownOf, span, Skipped}
+use Rattle.policy_model.specs.Span.{armsBy, armsOf, ownBy, ownOf, span, Skipped, SkippedConditions}
 use Rattle.policy_model.proofs.Checking.{word-at, no-word}
 
 -- ---- what a first word opens
 -- Its arms, and its own words after it.
 pub record Opens (w arms : ℕ) (own : List ℕ → ℕ) : Type 0 where
   pub arms-are : armsOf w ≡ arms
-  pub own-are : (ws : List ℕ) → ownOf w ws ≡ own ws
+  own-are : (ws : List ℕ) → ownOf w ws ≡ own ws
 
 opens-at : (w k : ℕ) → w / 268435456 ≡ k → Opens w (getD (armsBy (w % 4096)) k 0) (λ ws. getD (ownBy (w / 1048576 % 128) ws) k 0)
 unfolding armsOf ownOf
@@ -44,11 +44,11 @@ opens-at w k e = record { arms-are = ap (λ n. getD (armsBy (w % 4096)) n 0) e; 
 opens-as : (w a b : ℕ) (own : List ℕ → ℕ) → a ≡ b → Opens w a own → Opens w b own
 opens-as w a b own e o = record { arms-are = o .arms-are ∙ e; own-are = o .own-are }
 
-abbrev none-own : List ℕ → ℕ
+abbrev pub none-own : List ℕ → ℕ
 none-own ws = 0
 
 -- By the head of a condition.
-abbrev OpensC : ℕ → ConditionHead → Type 0
+abbrev pub OpensC : ℕ → ConditionHead → Type 0
 OpensC w Always = Opens w 0 none-own
 OpensC w Never = Opens w 0 none-own
 OpensC w (Has f) = Opens w 0 none-own
@@ -78,15 +78,18 @@ opens-C : (w : ℕ) → OpensC w (conditionHead w)
 unfolding conditionHead
 opens-C w = opens-kind-C w (w / 268435456) refl
 
--- By the head of a policy.
+-- By the head of a policy. A grant's and a stored permit's obligation count and outcome are those of the word.
+abbrev Says : ℕ → ℕ → ℕ → Type 0
+Says w n o = (n ≡ w / 1048576 % 128) × (o ≡ w % 65536)
+
 abbrev OpensP : ℕ → PolicyHead → Type 0
 OpensP w (Permit o) = Opens w 0 none-own
 OpensP w Deny = Opens w 0 none-own
-OpensP w (Grant hidden n o) = Opens w 1 (λ ws. suc (wordsFor 4 n))
+OpensP w (Grant hidden n o) = Opens w 1 (λ ws. suc (wordsFor 4 n)) × Says w n o
 OpensP w (policy.All n) = Opens w n none-own
 OpensP w (policy.Any n) = Opens w n none-own
 OpensP w OrElse = Opens w 2 none-own
-OpensP w (PermitWithTrace n o) = Opens w 0 (λ ws. suc (wordsFor 4 n + wordsFor 2 (getD ws 0 0 % 4096)))
+OpensP w (PermitWithTrace n o) = Opens w 0 (λ ws. suc (wordsFor 4 n + wordsFor 2 (getD ws 0 0 % 4096))) × Says w n o
 OpensP w (DenyWithTrace hidden denied o) = Opens w 0 (λ ws. suc (suc (wordsFor 2 (getD ws 1 0 % 4096))))
 OpensP w policy.BadKind = Unit {0}
 OpensP w policy.BadField = Unit {0}
@@ -117,8 +120,8 @@ opens-grant w e =
     let r = w % 268435456 in
     let n = r / 1048576 % 128 in
     let h = Grant (eqb (r / 134217728) 1) n (r % 65536) in
-    when-P w (leb n 64) (cond (eqb (r / 65536 % 16) 0) h policy.BadField) (λ _. when-P w (eqb (r / 65536 % 16) 0) h (λ _.
-    subst (λ m. Opens w 1 (λ ws. suc (wordsFor 4 m))) (count-of w) (opens-at w 8 e)))
+    when-P w (leb n mostObligations) (cond (eqb (r / 65536 % 16) 0) h policy.BadField) (λ _. when-P w (eqb (r / 65536 % 16) 0) h (λ _.
+    (subst (λ m. Opens w 1 (λ ws. suc (wordsFor 4 m))) (count-of w) (opens-at w 8 e), (sym (count-of w), omega arith))))
 
 opens-permit-trace : (w : ℕ) → w / 268435456 ≡ 12 → OpensP w (permitTraceHead (w % 268435456))
 unfolding permitTraceHead
@@ -126,9 +129,9 @@ opens-permit-trace w e =
     let r = w % 268435456 in
     let n = r / 1048576 % 128 in
     let h = PermitWithTrace n (r % 65536) in
-    when-P w (eqb (r / 134217728) 0) (cond (leb n 64) (cond (eqb (r / 65536 % 16) 0) h policy.BadField) policy.BadField) (λ _.
-    when-P w (leb n 64) (cond (eqb (r / 65536 % 16) 0) h policy.BadField) (λ _. when-P w (eqb (r / 65536 % 16) 0) h (λ _.
-    subst (λ m. Opens w 0 (λ ws. suc (wordsFor 4 m + wordsFor 2 (getD ws 0 0 % 4096)))) (count-of w) (opens-at w 12 e))))
+    when-P w (eqb (r / 134217728) 0) (cond (leb n mostObligations) (cond (eqb (r / 65536 % 16) 0) h policy.BadField) policy.BadField) (λ _.
+    when-P w (leb n mostObligations) (cond (eqb (r / 65536 % 16) 0) h policy.BadField) (λ _. when-P w (eqb (r / 65536 % 16) 0) h (λ _.
+    (subst (λ m. Opens w 0 (λ ws. suc (wordsFor 4 m + wordsFor 2 (getD ws 0 0 % 4096)))) (count-of w) (opens-at w 12 e), (sym (count-of w), omega arith)))))
 
 opens-deny-trace : (w : ℕ) → w / 268435456 ≡ 13 → OpensP w (denyTraceHead (w % 268435456))
 unfolding denyTraceHead
@@ -157,6 +160,12 @@ opens-P-at res w false e = tt
 opens-P : (res : Bool) (w : ℕ) → OpensP w (policyHead w res)
 unfolding policyHead
 opens-P res w = opens-P-at res w (leb 6 (w / 268435456)) refl
+
+pub grant-says : (res : Bool) (w : ℕ) (hidden : Bool) (n o : ℕ) → Grant hidden n o ≡ policyHead w res → Says w n o
+grant-says res w hidden n o e = subst (OpensP w) (sym e) (opens-P res w) .1
+
+pub permit-says : (res : Bool) (w n o : ℕ) → PermitWithTrace n o ≡ policyHead w res → Says w n o
+permit-says res w n o e = subst (OpensP w) (sym e) (opens-P res w) .1
 
 -- ---- the span
 span-word : (w : ℕ) (ws : List ℕ) (nodes a : ℕ) (own : List ℕ → ℕ) → Opens w a own → span (w ∷ ws) 0 (suc nodes) ≡ suc (span ws (own ws) (a + nodes))
@@ -193,7 +202,7 @@ SpanC us c vs = (nodes : ℕ) → span us 0 (suc nodes) ≡ wordsC c + span vs 0
 module _ {A B : Type 0} (sizeA : A → ℕ) (sizeB : B → ℕ) (nil : B) (cons : A → B → B) (p : List ℕ → Parsed A)
     (size-nil : sizeB nil ≡ 0) (size-cons : (a : A) (b : B) → sizeB (cons a b) ≡ sizeA a + sizeB b)
     (spans : (us : List ℕ) → Holds (λ a vs. (nodes : ℕ) → span us 0 (suc nodes) ≡ sizeA a + span vs 0 nodes) (p us)) where
-  pub span-many : (count : ℕ) (us : List ℕ) → Holds (λ b vs. (nodes : ℕ) → span us 0 (count + nodes) ≡ sizeB b + span vs 0 nodes) (many nil cons p count us)
+  span-many : (count : ℕ) (us : List ℕ) → Holds (λ b vs. (nodes : ℕ) → span us 0 (count + nodes) ≡ sizeB b + span vs 0 nodes) (many nil cons p count us)
   span-many zero us = fine (λ nodes. ap (span us 0) (let e : 0 + nodes ≡ nodes = omega arith in e) ∙ omega (arith, size-nil))
   span-many (suc count) us =
       then-holds (p us) (λ a vs. next (many nil cons p count vs) (λ b ts. got (cons a b) ts)) (spans us) (λ a vs h.
@@ -210,7 +219,7 @@ module _ {A B : Type 0} (sizeA : A → ℕ) (sizeB : B → ℕ) (nil : B) (cons 
       let z : span us 0 (count + 0) ≡ span us 0 count = ap (span us 0) (omega arith) in
       omega (arith, h .it 0, z, span-zero vs)
 
-  pub skipped-many : (count at r : ℕ) (us : List ℕ) → r ≡ at + span us 0 count → Skipped sizeB at (many nil cons p count us) r
+  skipped-many : (count at r : ℕ) (us : List ℕ) → r ≡ at + span us 0 count → Skipped sizeB at (many nil cons p count us) r
   skipped-many count at r us e = skipped-at count at r us (many nil cons p count us) e (span-many count us)
 
 module _ (p : List ℕ → Parsed Condition) (spans : (us : List ℕ) → Holds (SpanC us) (p us)) where
@@ -233,7 +242,7 @@ module _ (p : List ℕ → Parsed Condition) (spans : (us : List ℕ) → Holds 
   span-node-C w ws condition.BadKind o = nothing
   span-node-C w ws condition.BadField o = nothing
 
-pub span-C : (d : ℕ) (us : List ℕ) → Holds (SpanC us) (readCondition d us)
+span-C : (d : ℕ) (us : List ℕ) → Holds (SpanC us) (readCondition d us)
 span-C zero [] = nothing
 span-C zero (w ∷ ws) = subst (Holds (SpanC (w ∷ ws))) (sym (condition-deep w ws)) nothing
 span-C (suc d) [] = nothing
@@ -264,10 +273,10 @@ span-facts : (k : ℕ) (us : List ℕ) → Holds (SpanL entryBits k us) (readLis
 span-facts k us = span-list (λ f. f) listed same-listed entryBits 1 k us refl
 
 -- ---- policies
-abbrev SpanP : List ℕ → Policy ℕ → List ℕ → Type 0
+abbrev SpanP : List ℕ → Policy Outcome → List ℕ → Type 0
 SpanP us t vs = (nodes : ℕ) → span us 0 (suc nodes) ≡ words t + span vs 0 nodes
 
-abbrev SpanD : List ℕ → Decision ℕ → List ℕ → Type 0
+abbrev SpanD : List ℕ → Decision Outcome → List ℕ → Type 0
 SpanD us d vs = (nodes : ℕ) → span us 0 (suc nodes) ≡ wordsD d + span vs 0 nodes
 
 anything : {A : Type 0} (q : Parsed A) → Holds (λ a vs. Unit {0}) q
@@ -291,7 +300,7 @@ module _ (pc : List ℕ → Parsed Condition) (spans-C : (us : List ℕ) → Hol
       let e₄ : quads os ≡ wordsFor 4 n = ap (wordsFor 4) (h .0) in
       omega (arith, e₁, e₂, e₀, h .1 0 (1 + nodes), e₃, g nodes, e₄))))))
     where
-      made : Option ℕ → Option ℕ → List ℕ → Condition → Policy ℕ
+      made : Option ℕ → Option ℕ → List ℕ → Condition → Policy Outcome
       made l m os c = grant (record { outcome = o; obligations = os; label = l; reason = m; shape = shapeOf (bitOf hidden) }) c
 
 span-permit-trace : (w : ℕ) (ws : List ℕ) (n o : ℕ) → Opens w 0 (λ us. suc (wordsFor 4 n + wordsFor 2 (getD us 0 0 % 4096))) → Holds (SpanD (w ∷ ws)) (permitTraceNode n o ws)
@@ -318,7 +327,7 @@ span-permit-trace w (w₂ ∷ ws) n o op =
     f : ℕ
     f = w₂ % 65536
 
-    made : Option ℕ → List ℕ → List ℕ → Decision ℕ
+    made : Option ℕ → List ℕ → List ℕ → Decision Outcome
     made l os fs = permits (record { outcome = o; obligations = os; label = l; facts = fs })
 
 span-deny-trace : (w : ℕ) (ws : List ℕ) (hidden denied : Bool) (o : ℕ) → Opens w 0 (λ us. suc (suc (wordsFor 2 (getD us 1 0 % 4096)))) → Holds (SpanD (w ∷ ws)) (denyTraceNode hidden denied o ws)
@@ -344,10 +353,10 @@ span-deny-trace w (w₂ ∷ (w₃ ∷ ws)) hidden denied o op =
     let e₆ : pairs fs ≡ wordsFor 2 w₃ = ap (wordsFor 2) (g .0) in
     omega (arith, e₁, e₂, e₃, e₄, e₅, e₆))))))
   where
-    made : Option ℕ → Option ℕ → List ℕ → Decision ℕ
+    made : Option ℕ → Option ℕ → List ℕ → Decision Outcome
     made l m fs = denies (record { denied = deniedBy denied o; facts = fs; label = l; reason = m; shape = shapeOf (bitOf hidden) })
 
-module _ (pc : List ℕ → Parsed Condition) (spans-C : (us : List ℕ) → Holds (SpanC us) (pc us)) (p : List ℕ → Parsed (Policy ℕ)) (spans : (us : List ℕ) → Holds (SpanP us) (p us)) where
+module _ (pc : List ℕ → Parsed Condition) (spans-C : (us : List ℕ) → Holds (SpanC us) (pc us)) (p : List ℕ → Parsed (Policy Outcome)) (spans : (us : List ℕ) → Holds (SpanP us) (p us)) where
   spans-P : (count : ℕ) (us : List ℕ) → Holds (λ ts vs. (nodes : ℕ) → span us 0 (count + nodes) ≡ wordss ts + span vs 0 nodes) (many pnil pcons p count us)
   spans-P = span-many words wordss pnil pcons p refl (λ a b. refl) spans
 
@@ -355,7 +364,7 @@ module _ (pc : List ℕ → Parsed Condition) (spans-C : (us : List ℕ) → Hol
   unfolding policyNode
   span-node-P w ws (Permit o) op = fine (λ nodes. span-leaf w ws nodes op)
   span-node-P w ws Deny op = fine (λ nodes. span-leaf w ws nodes op)
-  span-node-P w ws (Grant hidden n o) op = span-grant pc spans-C w ws hidden n o op
+  span-node-P w ws (Grant hidden n o) op = span-grant pc spans-C w ws hidden n o (op .0)
   span-node-P w ws (policy.All n) op =
       then-holds (many pnil pcons p n ws) (λ ts vs. got (all ts) vs) (spans-P n ws) (λ ts vs h. fine (λ nodes. omega (arith, span-word w ws nodes n none-own op, h nodes)))
   span-node-P w ws (policy.Any n) op =
@@ -365,22 +374,31 @@ module _ (pc : List ℕ → Parsed Condition) (spans-C : (us : List ℕ) → Hol
       then-holds (p vs) (λ b us. got (orElse a b) us) (spans vs) (λ b us g. fine (λ nodes.
       let e : span ws 0 (2 + nodes) ≡ span ws 0 (suc (suc nodes)) = ap (span ws 0) (omega arith) in
       omega (arith, span-word w ws nodes 2 none-own op, e, h (suc nodes), g nodes))))
-  span-node-P w ws (PermitWithTrace n o) op = then-holds (permitTraceNode n o ws) (λ d vs. got (stored d) vs) (span-permit-trace w ws n o op) (λ d vs h. fine h)
+  span-node-P w ws (PermitWithTrace n o) op = then-holds (permitTraceNode n o ws) (λ d vs. got (stored d) vs) (span-permit-trace w ws n o (op .0)) (λ d vs h. fine h)
   span-node-P w ws (DenyWithTrace hidden denied o) op = then-holds (denyTraceNode hidden denied o ws) (λ d vs. got (stored d) vs) (span-deny-trace w ws hidden denied o op) (λ d vs h. fine h)
   span-node-P w ws policy.BadKind op = nothing
   span-node-P w ws policy.BadField op = nothing
 
-pub span-P : (res : Bool) (d : ℕ) (us : List ℕ) → Holds (SpanP us) (readPolicy (productSets .value) res d us)
+span-P : (res : Bool) (d : ℕ) (us : List ℕ) → Holds (SpanP us) (readPolicy res d us)
 span-P res zero [] = nothing
 span-P res zero (w ∷ ws) = subst (Holds (SpanP (w ∷ ws))) (sym (policy-deep res w ws)) nothing
 span-P res (suc d) [] = nothing
 span-P res (suc d) (w ∷ ws) =
     subst (Holds (SpanP (w ∷ ws))) (sym (policy-node res d w ws))
-    (span-node-P (λ vs. readCondition d vs) (λ vs. span-C d vs) (λ vs. readPolicy (productSets .value) res d vs) (λ vs. span-P res d vs) w ws (policyHead w res) (opens-P res w))
+    (span-node-P (λ vs. readCondition d vs) (λ vs. span-C d vs) (λ vs. readPolicy res d vs) (λ vs. span-P res d vs) w ws (policyHead w res) (opens-P res w))
 
--- ---- the position after so many policies that read
-pub skipped-policies : (depth : ℕ) (res : Bool) (count at r : ℕ) (us : List ℕ) → r ≡ at + span us 0 count → Skipped wordss at (many pnil pcons (readPolicy (productSets .value) res depth) count us) r
-skipped-policies depth res = skipped-many words wordss pnil pcons (readPolicy (productSets .value) res depth) refl (λ a b. refl) (span-P res depth)
+-- ---- the position after so many conditions, or policies, that read
+pub skipped-conditions : (words : List ℕ) (at count r : ℕ) → r ≡ at + span (drop at words) 0 count → SkippedConditions words at count r
+skipped-conditions words at count r e = record {
+  onward = omega arith;
+  ends = λ depth.
+      weaker (many cnil ccons (readCondition depth) count (drop at words))
+      (λ cs vs h. let z : span (drop at words) 0 (count + 0) ≡ span (drop at words) 0 count = ap (span (drop at words) 0) (omega arith) in omega (arith, h 0, z, span-zero vs))
+      (spans-all (λ us. readCondition depth us) (λ us. span-C depth us) count (drop at words));
+}
+
+pub skipped-policies : (depth : ℕ) (res : Bool) (count at r : ℕ) (us : List ℕ) → r ≡ at + span us 0 count → Skipped wordss at (many pnil pcons (readPolicy res depth) count us) r
+skipped-policies depth res = skipped-many words wordss pnil pcons (readPolicy res depth) refl (λ a b. refl) (span-P res depth)
 
 -- ---- the code's counts, by the kind
 pub arms-by : (w k : ℕ) → w / 268435456 ≡ k → getD (armsBy (w % 4096)) k 0 ≡ armsOf w
@@ -403,6 +421,10 @@ no-arms n (suc (suc (suc (suc (suc (suc (suc (suc (suc zero))))))))) a b c d e f
 no-arms n (suc (suc (suc (suc (suc (suc (suc (suc (suc (suc zero)))))))))) a b c d e f g = absurd (f refl)
 no-arms n (suc (suc (suc (suc (suc (suc (suc (suc (suc (suc (suc zero))))))))))) a b c d e f g = absurd (g refl)
 no-arms n (suc (suc (suc (suc (suc (suc (suc (suc (suc (suc (suc (suc k)))))))))))) a b c d e f g = refl
+
+pub arms-few : (w k : ℕ) → w / 268435456 ≡ k → k < 3 → 0 ≡ armsOf w
+arms-few w k h few =
+    no-arms (w % 4096) k (λ e. omega arith) (λ e. omega arith) (λ e. omega arith) (λ e. omega arith) (λ e. omega arith) (λ e. omega arith) (λ e. omega arith) ∙ arms-by w k h
 
 pub arms-none : (w k : ℕ) → w / 268435456 ≡ k → (k ≡ 3 → ⊥) → (k ≡ 4 → ⊥) → (k ≡ 5 → ⊥) → (k ≡ 8 → ⊥) → (k ≡ 9 → ⊥) → (k ≡ 10 → ⊥) → (k ≡ 11 → ⊥) → 0 ≡ armsOf w
 arms-none w k h a b c d e f g = no-arms (w % 4096) k a b c d e f g ∙ arms-by w k h
@@ -428,11 +450,14 @@ module _ (ws : List ℕ) (at w : ℕ) where
   pub own-none : (k : ℕ) → w / 268435456 ≡ k → (k ≡ 8 → ⊥) → (k ≡ 12 → ⊥) → (k ≡ 13 → ⊥) → 0 ≡ ownOf w (drop (at + 1) ws)
   own-none k h a b c = no-own (w / 1048576 % 128) k (drop (at + 1) ws) a b c ∙ own-by w k (drop (at + 1) ws) h
 
-  pub own-grant : w / 268435456 ≡ 8 → (w / 1048576 % 128 + 3) / 4 + 1 ≡ ownOf w (drop (at + 1) ws)
-  own-grant h = omega (arith, own-by w 8 (drop (at + 1) ws) h)
+  pub own-few : (k : ℕ) → w / 268435456 ≡ k → k < 8 → 0 ≡ ownOf w (drop (at + 1) ws)
+  own-few k h few = own-none k h (λ e. omega arith) (λ e. omega arith) (λ e. omega arith)
 
-  pub own-permit : (f : ℕ) → f ≡ wordsFor 2 (getD ws (at + 1) 0 % 4096) → w / 268435456 ≡ 12 → (w / 1048576 % 128 + 3) / 4 + f + 1 ≡ ownOf w (drop (at + 1) ws)
-  own-permit f e h =
+  pub own-grant : (n : ℕ) → n ≡ wordsFor 4 (w / 1048576 % 128) → w / 268435456 ≡ 8 → n + 1 ≡ ownOf w (drop (at + 1) ws)
+  own-grant n m h = omega (arith, own-by w 8 (drop (at + 1) ws) h)
+
+  pub own-permit : (n f : ℕ) → n ≡ wordsFor 4 (w / 1048576 % 128) → f ≡ wordsFor 2 (getD ws (at + 1) 0 % 4096) → w / 268435456 ≡ 12 → n + f + 1 ≡ ownOf w (drop (at + 1) ws)
+  own-permit n f m e h =
       let g : wordsFor 2 (getD (drop (at + 1) ws) 0 0 % 4096) ≡ wordsFor 2 (getD ws (at + 1) 0 % 4096) =
       ap (λ n. wordsFor 2 (n % 4096)) (getD-drop (at + 1) ws 0 0 ∙ ap (λ i. getD ws i 0) (let z : at + 1 + 0 ≡ at + 1 = omega arith in z)) in
       omega (arith, own-by w 12 (drop (at + 1) ws) h)
@@ -443,20 +468,19 @@ module _ (ws : List ℕ) (at w : ℕ) where
       ap (λ n. wordsFor 2 (n % 4096)) (getD-drop (at + 1) ws 1 0 ∙ ap (λ i. getD ws i 0) (let z : at + 1 + 1 ≡ at + 2 = omega arith in z)) in
       omega (arith, own-by w 13 (drop (at + 1) ws) h)
 
-pub no-facts : (ws : List ℕ) (at : ℕ) → length ws ≤ at → 0 ≡ wordsFor 2 (getD ws at 0 % 4096)
-no-facts ws at h = ap (λ n. wordsFor 2 (n % 4096)) (sym (List·getD-eq-default ws 0 h))
-
 -- ---- the loop: one node more, and its ends
 span-passed : (ws : List ℕ) (passed nodes : ℕ) → passed ≤ length ws → span ws passed nodes ≡ passed + span (drop passed ws) 0 nodes
 span-passed ws zero nodes h = omega arith
 span-passed [] (suc passed) nodes h = let z : ⊥ = omega arith in absurd z
 span-passed (w ∷ ws) (suc passed) nodes h = span-suc w ws passed nodes ∙ omega (arith, span-passed ws passed nodes (omega arith))
 
-span-past : (ws : List ℕ) (passed nodes : ℕ) → length ws ≤ passed → span ws passed nodes ≡ length ws
+-- With as many passed or open as words are left, all words are theirs.
+span-full : (ws : List ℕ) (passed nodes : ℕ) → length ws ≤ passed + nodes → span ws passed nodes ≡ length ws
 unfolding span
-span-past [] passed nodes h = refl
-span-past (w ∷ ws) zero nodes h = let z : ⊥ = omega arith in absurd z
-span-past (w ∷ ws) (suc passed) nodes h = ap suc (span-past ws passed nodes (omega arith))
+span-full [] passed nodes h = refl
+span-full (w ∷ ws) zero zero h = absurd (omega arith)
+span-full (w ∷ ws) zero (suc nodes) h = ap suc (span-full ws (ownOf w ws) (armsOf w + nodes) (omega arith))
+span-full (w ∷ ws) (suc passed) nodes h = ap suc (span-full ws passed nodes (omega arith))
 
 module _ (ws : List ℕ) (at : ℕ) where
   one-node : (nodes a own : ℕ) → at < length ws → (nodes ≡ 0 → ⊥) → a ≡ armsOf (getD ws at 0) → own ≡ ownOf (getD ws at 0) (drop (at + 1) ws) →
@@ -480,8 +504,11 @@ module _ (ws : List ℕ) (at : ℕ) where
       length ws ≡ at + span (drop at ws) 0 nodes
   runs-out nodes a own lt f e g h =
       let l = length-drop (at + 1) ws in
-      let p = span-past (drop (at + 1) ws) own (nodes - 1 + a) (omega arith) in
+      let p = span-full (drop (at + 1) ws) own (nodes - 1 + a) (omega arith) in
       omega (arith, p, one-node nodes a own lt f e g)
+
+  pub all-words : (nodes : ℕ) → at ≤ length ws → length ws - at ≤ nodes → length ws ≡ at + span (drop at ws) 0 nodes
+  all-words nodes h few = let l = length-drop at ws in omega (arith, span-full (drop at ws) 0 nodes (omega arith))
 
   pub no-word-left : (nodes : ℕ) → length ws ≤ at → at ≡ at + span (drop at ws) 0 nodes
   unfolding span

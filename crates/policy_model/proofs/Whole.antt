@@ -16,8 +16,9 @@ use Rattle.model.specs.Policy.{Policy, stored}
 use Rattle.model.specs.Partial.{ReducedPolicy, resolved, pending}
 use Rattle.model.specs.Consulted.{Consulted}
 use Rattle.model.specs.Record.{Record}
-use Rattle.model.specs.Writing.{leadKind, entryBits}
-use Rattle.model.specs.Reading.{Parsed, refuse, got, next, unless, another, readList, consulted, readCondition, whole, at12, at13, asStored, asResolved, nodeP, readPolicy, readSheet, node14, parse14, parse15, rest, leads, readLead, readRecord}
+use Rattle.model.specs.Writing.{entryBits}
+use Rattle.model.specs.Reading.{Parsed, refuse, got, next, unless, another, readList, consulted, readCondition, whole, parse15, rest}
+use Rattle.model.specs.Products.{Outcome, leadKind, at12, at13, asStored, asResolved, nodeP, readPolicy, readSheet, node14, parse14, leads, readLead, readRecord, policyAt}
 use Rattle.laws.specs.Size.{pairs, words}
 use Rattle.laws.specs.FieldLaws.{Holds, fine, nothing, if-holds}
 use Rattle.policy_model.specs.declared.Checked.{Checked}
@@ -34,7 +35,7 @@ nothing-after ws n e = let z : length ws - n ≡ 0 = sym (length-drop n ws) ∙ 
 word-after : (ws : List ℕ) (n w : ℕ) (vs : List ℕ) → drop n ws ≡ w ∷ vs → ltb n (length ws) ≡ true
 word-after ws n w vs e = let z : length ws - n ≡ suc (length vs) = sym (length-drop n ws) ∙ ap length e in lt-ltb n (length ws) (omega arith)
 
-pub whole-checked : {A : Type 0} (size : A → ℕ) (ws : List ℕ) (at : ℕ) (q : Parsed A) → Leaves size (drop at ws) q → atEnd (length ws) (checked size at q) ≡ checked size at (whole q)
+whole-checked : {A : Type 0} (size : A → ℕ) (ws : List ℕ) (at : ℕ) (q : Parsed A) → Leaves size (drop at ws) q → atEnd (length ws) (checked size at q) ≡ checked size at (whole q)
 unfolding checked atEnd
 whole-checked size ws at (refuse n) l = refl
 whole-checked size ws at (got a []) l =
@@ -45,15 +46,15 @@ whole-checked size ws at (got a (w ∷ vs)) l =
 -- ---- sheets
 module _ (ws : List ℕ) where
   abbrev sheet-by : Bool → Bool → Option ℕ
-  sheet-by t u = refusal (unless (t && u) 1 (whole (readPolicy (productSets .value) false 32 ws)))
+  sheet-by t u = refusal (unless (t && u) 1 (whole (readPolicy false 32 ws)))
 
-  pub no-sheet : length ws ≡ 0 → some 1 ≡ refusal (readSheet (productSets .value) ws)
+  pub no-sheet : length ws ≡ 0 → some 1 ≡ refusal (readSheet ws)
   no-sheet h = ap (λ t. sheet-by t (leb (length ws) 4096)) (sym (lt-leb 1 (length ws) (omega arith)))
 
-  pub long-sheet : (length ws ≡ 0 → ⊥) → 4096 < length ws → some 1 ≡ refusal (readSheet (productSets .value) ws)
+  pub long-sheet : (length ws ≡ 0 → ⊥) → 4096 < length ws → some 1 ≡ refusal (readSheet ws)
   long-sheet f h = ap₂ sheet-by (sym (le-leb 1 (length ws) (omega arith))) (sym (lt-leb (length ws) 4096 h))
 
-  fair-sheet : (length ws ≡ 0 → ⊥) → length ws ≤ 4096 → refusal (whole (readPolicy (productSets .value) false 32 ws)) ≡ refusal (readSheet (productSets .value) ws)
+  fair-sheet : (length ws ≡ 0 → ⊥) → length ws ≤ 4096 → refusal (whole (readPolicy false 32 ws)) ≡ refusal (readSheet ws)
   fair-sheet f h = ap₂ sheet-by (sym (le-leb 1 (length ws) (omega arith))) (sym (le-leb (length ws) 4096 h))
 
   accepted : {A : Type 0} (size : A → ℕ) (n : ℕ) (q : Parsed A) → Next n ≡ checked size 0 q → none ≡ refusal q
@@ -66,112 +67,112 @@ module _ (ws : List ℕ) where
   turned-back size n (refuse m) e = let k : n ≡ m = cc in ap some k
   turned-back size n (got a vs) e = clash (0 + size a) n (sym e)
 
-  to-the-last : (found r : Checked) → found ≡ checked words 0 (readPolicy (productSets .value) false 32 ws) → r ≡ atEnd (length ws) found → r ≡ checked words 0 (whole (readPolicy (productSets .value) false 32 ws))
-  to-the-last found r e g = g ∙ ap (atEnd (length ws)) e ∙ whole-checked words ws 0 (readPolicy (productSets .value) false 32 ws) (policy-leaves false 32 ws)
+  to-the-last : (found r : Checked) → found ≡ checked words 0 (readPolicy false 32 ws) → r ≡ atEnd (length ws) found → r ≡ checked words 0 (whole (readPolicy false 32 ws))
+  to-the-last found r e g = g ∙ ap (atEnd (length ws)) e ∙ whole-checked words ws 0 (readPolicy false 32 ws) (policy-leaves false 32 ws)
 
-  pub sheet-accepted : (n : ℕ) (found : Checked) → (length ws ≡ 0 → ⊥) → length ws ≤ 4096 → found ≡ checked words 0 (readPolicy (productSets .value) false 32 ws) → Next n ≡ atEnd (length ws) found → none ≡ refusal (readSheet (productSets .value) ws)
-  sheet-accepted n found f h e g = accepted words n (whole (readPolicy (productSets .value) false 32 ws)) (to-the-last found (Next n) e g) ∙ fair-sheet f h
+  pub sheet-accepted : (n : ℕ) (found : Checked) → (length ws ≡ 0 → ⊥) → length ws ≤ 4096 → found ≡ checked words 0 (readPolicy false 32 ws) → Next n ≡ atEnd (length ws) found → none ≡ refusal (readSheet ws)
+  sheet-accepted n found f h e g = accepted words n (whole (readPolicy false 32 ws)) (to-the-last found (Next n) e g) ∙ fair-sheet f h
 
-  pub sheet-refused : (n : ℕ) (found : Checked) → (length ws ≡ 0 → ⊥) → length ws ≤ 4096 → found ≡ checked words 0 (readPolicy (productSets .value) false 32 ws) → Refused n ≡ atEnd (length ws) found → some n ≡ refusal (readSheet (productSets .value) ws)
-  sheet-refused n found f h e g = turned-back words n (whole (readPolicy (productSets .value) false 32 ws)) (to-the-last found (Refused n) e g) ∙ fair-sheet f h
+  pub sheet-refused : (n : ℕ) (found : Checked) → (length ws ≡ 0 → ⊥) → length ws ≤ 4096 → found ≡ checked words 0 (readPolicy false 32 ws) → Refused n ≡ atEnd (length ws) found → some n ≡ refusal (readSheet ws)
+  sheet-refused n found f h e g = turned-back words n (whole (readPolicy false 32 ws)) (to-the-last found (Refused n) e g) ∙ fair-sheet f h
 
 -- ---- the tree of a Resolved record is one node of a residual tree
-one-node : (at : ℕ) (q : Parsed (Decision ℕ)) → checked words at (asStored (productSets .value) q) ≡ checked wordsB at (asResolved (productSets .value) q)
+one-node : (at : ℕ) (q : Parsed (Decision Outcome)) → checked words at (asStored q) ≡ checked wordsB at (asResolved q)
 unfolding checked
 one-node at (refuse n) = refl
 one-node at (got d vs) = refl
 
-module _ (pc : List ℕ → Parsed Condition) (p : List ℕ → Parsed (Policy ℕ)) (at r : ℕ) (vs : List ℕ) where
-  as-residual : (j : ℕ) → checked words at (nodeP (productSets .value) true pc p (6 + j) r vs) ≡ checked wordsB at (node14 (productSets .value) j r vs)
+module _ (pc : List ℕ → Parsed Condition) (p : List ℕ → Parsed (Policy Outcome)) (at r : ℕ) (vs : List ℕ) where
+  as-residual : (j : ℕ) → checked words at (nodeP true pc p (6 + j) r vs) ≡ checked wordsB at (node14 j r vs)
   unfolding checked
-  as-residual zero = one-node at (at12 (productSets .value) r vs)
-  as-residual (suc zero) = one-node at (at13 (productSets .value) r vs)
+  as-residual zero = one-node at (at12 r vs)
+  as-residual (suc zero) = one-node at (at13 r vs)
   as-residual (suc (suc j)) =
       let e : 6 + suc (suc j) ≡ suc (suc (suc (suc (suc (suc (suc (suc j))))))) = omega arith in
-      ap (λ i. checked words at (nodeP (productSets .value) true pc p i r vs)) e
+      ap (λ i. checked words at (nodeP true pc p i r vs)) e
 
 module _ (ws : List ℕ) (at : ℕ) where
-  pub no-tree : length ws ≤ at → Refused 6 ≡ checked wordsB at (parse14 (productSets .value) (drop at ws))
+  pub no-tree : length ws ≤ at → Refused 6 ≡ checked wordsB at (parse14 (drop at ws))
   unfolding checked
-  no-tree h = ap (λ us. checked wordsB at (parse14 (productSets .value) us)) (sym (no-word ws at h))
+  no-tree h = ap (λ us. checked wordsB at (parse14 us)) (sym (no-word ws at h))
 
   module _ (lt : at < length ws) where
     abbrev k : ℕ
     k = getD ws at 0 / 268435456
 
-    tree-by : (t : Bool) → leb 12 k ≡ t → checked wordsB at (unless t 5 (node14 (productSets .value) (k - 12) (getD ws at 0 % 268435456) (drop (at + 1) ws))) ≡ checked wordsB at (parse14 (productSets .value) (drop at ws))
+    tree-by : (t : Bool) → leb 12 k ≡ t → checked wordsB at (unless t 5 (node14 (k - 12) (getD ws at 0 % 268435456) (drop (at + 1) ws))) ≡ checked wordsB at (parse14 (drop at ws))
     tree-by t e =
-        ap (λ b. checked wordsB at (unless b 5 (node14 (productSets .value) (k - 12) (getD ws at 0 % 268435456) (drop (at + 1) ws)))) (sym e)
-        ∙ ap (λ us. checked wordsB at (parse14 (productSets .value) us)) (sym (word-at ws at lt))
+        ap (λ b. checked wordsB at (unless b 5 (node14 (k - 12) (getD ws at 0 % 268435456) (drop (at + 1) ws)))) (sym e)
+        ∙ ap (λ us. checked wordsB at (parse14 us)) (sym (word-at ws at lt))
 
-    pub other-tree : k < 12 → Refused 5 ≡ checked wordsB at (parse14 (productSets .value) (drop at ws))
+    pub other-tree : k < 12 → Refused 5 ≡ checked wordsB at (parse14 (drop at ws))
     unfolding checked
     other-tree h = tree-by false (lt-leb 12 k h)
 
-    pub resolved-tree : 12 ≤ k → checked words at (readPolicy (productSets .value) true 1 (drop at ws)) ≡ checked wordsB at (parse14 (productSets .value) (drop at ws))
+    pub resolved-tree : 12 ≤ k → checked words at (policyAt ws at 1) ≡ checked wordsB at (parse14 (drop at ws))
     resolved-tree h =
         let j : k - 6 ≡ 6 + (k - 12) = omega arith in
-        ap (λ us. checked words at (readPolicy (productSets .value) true 1 us)) (word-at ws at lt)
-        ∙ ap (λ t. checked words at (unless t 5 (nodeP (productSets .value) true (λ vs. readCondition 0 vs) (λ vs. readPolicy (productSets .value) true 0 vs) (k - 6) (getD ws at 0 % 268435456) (drop (at + 1) ws)))) (le-leb 6 k (omega arith))
-        ∙ ap (λ i. checked words at (nodeP (productSets .value) true (λ vs. readCondition 0 vs) (λ vs. readPolicy (productSets .value) true 0 vs) i (getD ws at 0 % 268435456) (drop (at + 1) ws))) j
-        ∙ as-residual (λ vs. readCondition 0 vs) (λ vs. readPolicy (productSets .value) true 0 vs) at (getD ws at 0 % 268435456) (drop (at + 1) ws) (k - 12)
+        ap (λ us. checked words at (readPolicy true 1 us)) (word-at ws at lt)
+        ∙ ap (λ t. checked words at (unless t 5 (nodeP true (λ vs. readCondition 0 vs) (λ vs. readPolicy true 0 vs) (k - 6) (getD ws at 0 % 268435456) (drop (at + 1) ws)))) (le-leb 6 k (omega arith))
+        ∙ ap (λ i. checked words at (nodeP true (λ vs. readCondition 0 vs) (λ vs. readPolicy true 0 vs) i (getD ws at 0 % 268435456) (drop (at + 1) ws))) j
+        ∙ as-residual (λ vs. readCondition 0 vs) (λ vs. readPolicy true 0 vs) at (getD ws at 0 % 268435456) (drop (at + 1) ws) (k - 12)
         ∙ tree-by true (le-leb 12 k h)
 
 -- ---- records
-pending-tree : (at : ℕ) (q : Parsed (Policy ℕ)) → checked words at q ≡ checked wordsB at (next q (λ t vs. got (pending t) vs))
+pending-tree : (at : ℕ) (q : Parsed (Policy Outcome)) → checked words at q ≡ checked wordsB at (next q (λ t vs. got (pending t) vs))
 unfolding checked
 pending-tree at (refuse n) = refl
 pending-tree at (got t vs) = refl
 
-whole-pending : (q : Parsed (Policy ℕ)) → next (whole q) (λ t vs. got (pending t) vs) ≡ whole (next q (λ t vs. got (pending t) vs))
+whole-pending : (q : Parsed (Policy Outcome)) → next (whole q) (λ t vs. got (pending t) vs) ≡ whole (next q (λ t vs. got (pending t) vs))
 whole-pending (refuse n) = refl
 whole-pending (got t []) = refl
 whole-pending (got t (w ∷ vs)) = refl
 
-pub pending-body : (at : ℕ) (us : List ℕ) → checked words at (whole (readPolicy (productSets .value) true 32 us)) ≡ checked wordsB at (whole (bodyAt true us))
+pending-body : (at : ℕ) (us : List ℕ) → checked words at (whole (readPolicy true 32 us)) ≡ checked wordsB at (whole (bodyAt true us))
 unfolding bodyAt
-pending-body at us = pending-tree at (whole (readPolicy (productSets .value) true 32 us)) ∙ ap (checked wordsB at) (whole-pending (readPolicy (productSets .value) true 32 us))
+pending-body at us = pending-tree at (whole (readPolicy true 32 us)) ∙ ap (checked wordsB at) (whole-pending (readPolicy true 32 us))
 
 -- What a Resolved tree leaves: it is a node of a residual tree.
-resolved-leaves-at : (us : List ℕ) (q : Parsed (Decision ℕ)) → Leaves words us (asStored (productSets .value) q) → Leaves wordsB us (asResolved (productSets .value) q)
+resolved-leaves-at : (us : List ℕ) (q : Parsed (Decision Outcome)) → Leaves words us (asStored q) → Leaves wordsB us (asResolved q)
 resolved-leaves-at us (refuse n) h = nothing
 resolved-leaves-at us (got d vs) h = fine (h .it)
 
-residual-leaves : (pc : List ℕ → Parsed Condition) (p : List ℕ → Parsed (Policy ℕ)) (us : List ℕ) (j r : ℕ) (vs : List ℕ) →
-    Leaves words us (nodeP (productSets .value) true pc p (6 + j) r vs) → Leaves wordsB us (node14 (productSets .value) j r vs)
-residual-leaves pc p us zero r vs h = resolved-leaves-at us (at12 (productSets .value) r vs) h
-residual-leaves pc p us (suc zero) r vs h = resolved-leaves-at us (at13 (productSets .value) r vs) h
+residual-leaves : (pc : List ℕ → Parsed Condition) (p : List ℕ → Parsed (Policy Outcome)) (us : List ℕ) (j r : ℕ) (vs : List ℕ) →
+    Leaves words us (nodeP true pc p (6 + j) r vs) → Leaves wordsB us (node14 j r vs)
+residual-leaves pc p us zero r vs h = resolved-leaves-at us (at12 r vs) h
+residual-leaves pc p us (suc zero) r vs h = resolved-leaves-at us (at13 r vs) h
 residual-leaves pc p us (suc (suc j)) r vs h = nothing
 
-resolved-leaves : (us : List ℕ) → Leaves wordsB us (parse14 (productSets .value) us)
+resolved-leaves : (us : List ℕ) → Leaves wordsB us (parse14 us)
 resolved-leaves [] = nothing
 resolved-leaves (w ∷ vs) =
     let k = w / 268435456 in
     let r = w % 268435456 in
-    let below = nodeP (productSets .value) true (λ us. readCondition 0 us) (λ us. readPolicy (productSets .value) true 0 us) in
-    if-holds (leb 12 k) 5 (node14 (productSets .value) (k - 12) r vs) (λ e.
+    let below = nodeP true (λ us. readCondition 0 us) (λ us. readPolicy true 0 us) in
+    if-holds (leb 12 k) 5 (node14 (k - 12) r vs) (λ e.
     let h : 12 ≤ k = leb-true 12 k e in
     let j : k - 6 ≡ 6 + (k - 12) = omega arith in
-    let same : readPolicy (productSets .value) true 1 (w ∷ vs) ≡ below (6 + (k - 12)) r vs =
+    let same : readPolicy true 1 (w ∷ vs) ≡ below (6 + (k - 12)) r vs =
     ap (λ t. unless t 5 (below (k - 6) r vs)) (le-leb 6 k (omega arith)) ∙ ap (λ i. below i r vs) j in
-    residual-leaves (λ us. readCondition 0 us) (λ us. readPolicy (productSets .value) true 0 us) (w ∷ vs) (k - 12) r vs (subst (Leaves words (w ∷ vs)) same (policy-leaves true 1 (w ∷ vs))))
+    residual-leaves (λ us. readCondition 0 us) (λ us. readPolicy true 0 us) (w ∷ vs) (k - 12) r vs (subst (Leaves words (w ∷ vs)) same (policy-leaves true 1 (w ∷ vs))))
 
 -- The tree of a record, to the last word.
 module _ (ws : List ℕ) (at : ℕ) (p : Bool) (found r : Checked) where
-  pub to-pending : p ≡ true → found ≡ checked words at (readPolicy (productSets .value) true 32 (drop at ws)) → r ≡ atEnd (length ws) found → r ≡ checked wordsB at (whole (bodyAt p (drop at ws)))
+  pub to-pending : p ≡ true → found ≡ checked words at (policyAt ws at 32) → r ≡ atEnd (length ws) found → r ≡ checked wordsB at (whole (bodyAt p (drop at ws)))
   to-pending e f g =
       g
       ∙ ap (atEnd (length ws)) f
-      ∙ whole-checked words ws at (readPolicy (productSets .value) true 32 (drop at ws)) (policy-leaves true 32 (drop at ws))
+      ∙ whole-checked words ws at (policyAt ws at 32) (policy-leaves true 32 (drop at ws))
       ∙ pending-body at (drop at ws)
       ∙ ap (λ t. checked wordsB at (whole (bodyAt t (drop at ws)))) (sym e)
 
-  pub to-resolved : p ≡ false → found ≡ checked wordsB at (parse14 (productSets .value) (drop at ws)) → r ≡ atEnd (length ws) found → r ≡ checked wordsB at (whole (bodyAt p (drop at ws)))
+  pub to-resolved : p ≡ false → found ≡ checked wordsB at (parse14 (drop at ws)) → r ≡ atEnd (length ws) found → r ≡ checked wordsB at (whole (bodyAt p (drop at ws)))
   unfolding bodyAt
   to-resolved e f g =
       g
       ∙ ap (atEnd (length ws)) f
-      ∙ whole-checked wordsB ws at (parse14 (productSets .value) (drop at ws)) (resolved-leaves (drop at ws))
+      ∙ whole-checked wordsB ws at (parse14 (drop at ws)) (resolved-leaves (drop at ws))
       ∙ ap (λ t. checked wordsB at (whole (bodyAt t (drop at ws)))) (sym e)
 
 -- The kind of the lead, by what was read under it.
@@ -179,39 +180,39 @@ abbrev kindIf : Bool → ℕ
 kindIf true = 15
 kindIf false = 14
 
-pending-kind : (q : Parsed (Policy ℕ)) → Holds (λ b _. leadKind (productSets .number) b ≡ 15) (next q (λ t vs. got (pending t) vs))
+pending-kind : (q : Parsed (Policy Outcome)) → Holds (λ b _. leadKind b ≡ 15) (next q (λ t vs. got (pending t) vs))
 pending-kind (refuse n) = nothing
 pending-kind (got t vs) = fine refl
 
-resolved-kind : (q : Parsed (Decision ℕ)) → Holds (λ b _. leadKind (productSets .number) b ≡ 14) (asResolved (productSets .value) q)
+resolved-kind : (q : Parsed (Decision Outcome)) → Holds (λ b _. leadKind b ≡ 14) (asResolved q)
 resolved-kind (refuse n) = nothing
 resolved-kind (got d vs) = fine refl
 
-node14-kind : (j r : ℕ) (vs : List ℕ) → Holds (λ b _. leadKind (productSets .number) b ≡ 14) (node14 (productSets .value) j r vs)
-node14-kind zero r vs = resolved-kind (at12 (productSets .value) r vs)
-node14-kind (suc zero) r vs = resolved-kind (at13 (productSets .value) r vs)
+node14-kind : (j r : ℕ) (vs : List ℕ) → Holds (λ b _. leadKind b ≡ 14) (node14 j r vs)
+node14-kind zero r vs = resolved-kind (at12 r vs)
+node14-kind (suc zero) r vs = resolved-kind (at13 r vs)
 node14-kind (suc (suc j)) r vs = nothing
 
-tree14-kind : (us : List ℕ) → Holds (λ b _. leadKind (productSets .number) b ≡ 14) (parse14 (productSets .value) us)
+tree14-kind : (us : List ℕ) → Holds (λ b _. leadKind b ≡ 14) (parse14 us)
 tree14-kind [] = nothing
-tree14-kind (w ∷ vs) = if-holds (leb 12 (w / 268435456)) 5 (node14 (productSets .value) (w / 268435456 - 12) (w % 268435456) vs) (λ _. node14-kind (w / 268435456 - 12) (w % 268435456) vs)
+tree14-kind (w ∷ vs) = if-holds (leb 12 (w / 268435456)) 5 (node14 (w / 268435456 - 12) (w % 268435456) vs) (λ _. node14-kind (w / 268435456 - 12) (w % 268435456) vs)
 
-body-kind : (p : Bool) (us : List ℕ) → Holds (λ b _. leadKind (productSets .number) b ≡ kindIf p) (bodyAt p us)
+body-kind : (p : Bool) (us : List ℕ) → Holds (λ b _. leadKind b ≡ kindIf p) (bodyAt p us)
 unfolding bodyAt
-body-kind true us = pending-kind (readPolicy (productSets .value) true 32 us)
+body-kind true us = pending-kind (readPolicy true 32 us)
 body-kind false us = tree14-kind us
 
 module _ (es : Consulted) where
-  abbrev record-with : ReducedPolicy ℕ → List ℕ → Parsed (Record ℕ)
+  abbrev record-with : ReducedPolicy Outcome → List ℕ → Parsed (Record Outcome)
   record-with b ts = got (record { body = b; log = es }) ts
 
-  by-kind : (p : Bool) (b : ReducedPolicy ℕ) (n : ℕ) → leadKind (productSets .number) b ≡ kindIf p →
+  by-kind : (p : Bool) (b : ReducedPolicy Outcome) (n : ℕ) → leadKind b ≡ kindIf p →
       recordLead (recordOf (Next n) p (length es) (1 + pairs es)) ≡ leadOf (record-with b [])
   unfolding leadOf
   by-kind true b n e = ap (λ k. got (record { kind = k; consulted = length es; tree = 1 + pairs es }) []) (sym e)
   by-kind false b n e = ap (λ k. got (record { kind = k; consulted = length es; tree = 1 + pairs es }) []) (sym e)
 
-  by-body : (p : Bool) (q : Parsed (ReducedPolicy ℕ)) (at : ℕ) → Holds (λ b _. leadKind (productSets .number) b ≡ kindIf p) q →
+  by-body : (p : Bool) (q : Parsed (ReducedPolicy Outcome)) (at : ℕ) → Holds (λ b _. leadKind b ≡ kindIf p) q →
       recordLead (recordOf (checked wordsB at (whole q)) p (length es) (1 + pairs es)) ≡ leadOf (whole (next q record-with))
   unfolding leadOf checked
   by-body p (refuse n) at h = refl
@@ -220,7 +221,7 @@ module _ (es : Consulted) where
 
 -- The entries, and then the tree.
 module _ (ws : List ℕ) (p : Bool) where
-  abbrev and-tree : Consulted → List ℕ → Parsed (Record ℕ)
+  abbrev and-tree : Consulted → List ℕ → Parsed (Record Outcome)
   and-tree es vs = next (bodyAt p vs) (λ b ts. got (record { body = b; log = es }) ts)
 
   entries-then : (count tree : ℕ) (q : Parsed Consulted) → Holds (λ es vs. length es ≡ count) q → Leaves pairs (drop 1 ws) q → Next tree ≡ checked pairs 1 q →
@@ -240,21 +241,21 @@ module _ (ws : List ℕ) (p : Bool) where
   entries-refused n (got es vs) e = clash (1 + pairs es) n (sym e)
 
 -- The lead.
-lead-by : (j r : ℕ) (vs : List ℕ) → j < 2 → rest (productSets .value) (bodyAt (eqb (14 + j) 15)) r vs ≡ leads (productSets .value) j r vs
+lead-by : (j r : ℕ) (vs : List ℕ) → j < 2 → rest (productSets .value) (bodyAt (eqb (14 + j) 15)) r vs ≡ leads j r vs
 unfolding bodyAt
 lead-by zero r vs h = refl
 lead-by (suc zero) r vs h = refl
 lead-by (suc (suc j)) r vs h = let z : ⊥ = omega arith in absurd z
 
 module _ (ws : List ℕ) where
-  abbrev record-by : Bool → Bool → Parsed (Record ℕ)
-  record-by t u = unless (t && u) 1 (whole (readLead (productSets .value) ws))
+  abbrev record-by : Bool → Bool → Parsed (Record Outcome)
+  record-by t u = unless (t && u) 1 (whole (readLead ws))
 
-  pub no-record : length ws ≡ 0 → refuse 1 ≡ leadOf (readRecord (productSets .value) ws)
+  pub no-record : length ws ≡ 0 → refuse 1 ≡ leadOf (readRecord ws)
   unfolding leadOf
   no-record h = ap (λ t. leadOf (record-by t (leb (length ws) 16384))) (sym (lt-leb 1 (length ws) (omega arith)))
 
-  pub long-record : (length ws ≡ 0 → ⊥) → 16384 < length ws → refuse 1 ≡ leadOf (readRecord (productSets .value) ws)
+  pub long-record : (length ws ≡ 0 → ⊥) → 16384 < length ws → refuse 1 ≡ leadOf (readRecord ws)
   unfolding leadOf
   long-record f h = ap₂ (λ t u. leadOf (record-by t u)) (sym (le-leb 1 (length ws) (omega arith))) (sym (lt-leb (length ws) 16384 h))
 
@@ -268,24 +269,24 @@ module _ (ws : List ℕ) where
     abbrev r₁ : ℕ
     r₁ = w₁ % 268435456
 
-    abbrev lead-at : Bool → Parsed (Record ℕ)
-    lead-at t = whole (unless t 5 (leads (productSets .value) (k₁ - 14) r₁ (drop 1 ws)))
+    abbrev lead-at : Bool → Parsed (Record Outcome)
+    lead-at t = whole (unless t 5 (leads (k₁ - 14) r₁ (drop 1 ws)))
 
-    fair-record : (t : Bool) → leb 14 k₁ ≡ t → lead-at t ≡ readRecord (productSets .value) ws
+    fair-record : (t : Bool) → leb 14 k₁ ≡ t → lead-at t ≡ readRecord ws
     fair-record t e =
         ap lead-at (sym e)
-        ∙ ap (λ us. whole (readLead (productSets .value) us)) (sym (word-at ws 0 (omega arith)))
+        ∙ ap (λ us. whole (readLead us)) (sym (word-at ws 0 (omega arith)))
         ∙ ap₂ record-by (sym (le-leb 1 (length ws) (omega arith))) (sym (le-leb (length ws) 16384 h))
 
-    pub other-record : k₁ < 14 → refuse 5 ≡ leadOf (readRecord (productSets .value) ws)
+    pub other-record : k₁ < 14 → refuse 5 ≡ leadOf (readRecord ws)
     unfolding leadOf
     other-record g = ap leadOf (fair-record false (lt-leb 14 k₁ g))
 
     module _ (low : 14 ≤ k₁) (fits : w₁ < 4294967296) where
-      abbrev counted-at : Bool → Parsed (Record ℕ)
+      abbrev counted-at : Bool → Parsed (Record Outcome)
       counted-at t = whole (unless t 8 (next (readList consulted entryBits r₁ (drop 1 ws)) (and-tree ws (eqb k₁ 15))))
 
-      known-lead : (t : Bool) → ltb r₁ 4096 ≡ t → counted-at t ≡ readRecord (productSets .value) ws
+      known-lead : (t : Bool) → ltb r₁ 4096 ≡ t → counted-at t ≡ readRecord ws
       known-lead t e =
           let j : 14 + (k₁ - 14) ≡ k₁ = omega arith in
           ap counted-at (sym e)
@@ -293,15 +294,15 @@ module _ (ws : List ℕ) where
           ∙ ap whole (lead-by (k₁ - 14) r₁ (drop 1 ws) (omega arith))
           ∙ fair-record true (le-leb 14 k₁ low)
 
-      pub record-count : 4096 ≤ r₁ → refuse 8 ≡ leadOf (readRecord (productSets .value) ws)
+      pub record-count : 4096 ≤ r₁ → refuse 8 ≡ leadOf (readRecord ws)
       unfolding leadOf
       record-count g = ap leadOf (known-lead false (le-ltb r₁ 4096 g))
 
-      pub record-entries : (n : ℕ) → r₁ < 4096 → Refused n ≡ checked pairs 1 (readList consulted entryBits r₁ (drop 1 ws)) → refuse n ≡ leadOf (readRecord (productSets .value) ws)
+      pub record-entries : (n : ℕ) → r₁ < 4096 → Refused n ≡ checked pairs 1 (readList consulted entryBits r₁ (drop 1 ws)) → refuse n ≡ leadOf (readRecord ws)
       record-entries n g e = entries-refused ws (eqb k₁ 15) n (readList consulted entryBits r₁ (drop 1 ws)) e ∙ ap leadOf (known-lead true (lt-ltb r₁ 4096 g))
 
       pub record-tree : (tree : ℕ) (b : Checked) → r₁ < 4096 → Next tree ≡ checked pairs 1 (readList consulted entryBits r₁ (drop 1 ws)) →
-          b ≡ checked wordsB tree (whole (bodyAt (eqb k₁ 15) (drop tree ws))) → recordLead (recordOf b (eqb k₁ 15) r₁ tree) ≡ leadOf (readRecord (productSets .value) ws)
+          b ≡ checked wordsB tree (whole (bodyAt (eqb k₁ 15) (drop tree ws))) → recordLead (recordOf b (eqb k₁ 15) r₁ tree) ≡ leadOf (readRecord ws)
       record-tree tree b g e d =
           ap (λ x. recordLead (recordOf x (eqb k₁ 15) r₁ tree)) d
           ∙ entries-then ws (eqb k₁ 15) r₁ tree (readList consulted entryBits r₁ (drop 1 ws)) (entries-long r₁ (drop 1 ws)) (entries-leave r₁ (drop 1 ws)) e

@@ -6,11 +6,10 @@ use mathlib.Core.List.{List, []}
 use Prim.Native.Nat.{ℕ, _+_, _<_}
 use lib.Dec.{ltb}
 use lib.ListN.{length}
-use Rattle.model.specs.Outcome.{productSets}
 use Rattle.model.specs.Partial.{ReducedPolicy, asResidual}
 use Rattle.model.specs.Record.{Record}
-use Rattle.model.specs.Writing.{leadKind}
-use Rattle.model.specs.Reading.{Parsed, refuse, got, parse14, parse15}
+use Rattle.model.specs.Reading.{Parsed, refuse, got}
+use Rattle.model.specs.Products.{Outcome, leadKind, parse14, parse15}
 use Rattle.laws.specs.Size.{pairs, words}
 use Rattle.policy_model.specs.declared.Checked.{Checked}
 use Rattle.policy_model.specs.declared.Checked.the-variants.{Next, Refused}
@@ -57,11 +56,11 @@ sheetRefusal (sheet.Refused n) = some n
 -- ---- records
 
 -- What stands after the consulted entries: under 15 a residual tree, under 14 one node 12 or 13.
-unfoldable pub bodyAt : Bool → List ℕ → Parsed (ReducedPolicy ℕ)
-bodyAt true ws = parse15 (productSets .value) ws
-bodyAt false ws = parse14 (productSets .value) ws
+unfoldable pub bodyAt : Bool → List ℕ → Parsed (ReducedPolicy Outcome)
+bodyAt true ws = parse15 ws
+bodyAt false ws = parse14 ws
 
-abbrev pub wordsB : ReducedPolicy ℕ → ℕ
+abbrev pub wordsB : ReducedPolicy Outcome → ℕ
 wordsB b = words (asResidual b)
 
 -- A record's lead: its kind (14 Resolved, 15 Pending) and consulted count; and the position where its tree begins.
@@ -71,9 +70,9 @@ pub record Lead : Type 0 where
   pub tree : ℕ
 
 -- Of a record that was read, and as `RecordCheck` says it: that, or the number of the refusal.
-unfoldable pub leadOf : Parsed (Record ℕ) → Parsed Lead
+unfoldable pub leadOf : Parsed (Record Outcome) → Parsed Lead
 leadOf (refuse n) = refuse n
-leadOf (got r ws) = got (record { kind = leadKind (productSets .number) (r .body); consulted = length (r .log); tree = 1 + pairs (r .log) }) []
+leadOf (got r ws) = got (record { kind = leadKind (r .body); consulted = length (r .log); tree = 1 + pairs (r .log) }) []
 
 abbrev pub recordLead : RecordCheck → Parsed Lead
 recordLead (Resolved count tree) = got (record { kind = 14; consulted = count; tree = tree }) []

@@ -12,7 +12,8 @@ use Rattle.model.specs.Outcome.{productSets}
 use Rattle.model.specs.Condition.{Condition}
 use Rattle.model.specs.Decision.{Decision}
 use Rattle.model.specs.Policy.{Policy, permit}
-use Rattle.model.specs.Reading.{Parsed, refuse, got, next, unless, another, kindOf, restOf, nodeC, readCondition, outcomeOf, deniedOf, grantMore, grantAt, more12, at12, more13, at13, asStored, inResidual, permitAt, nodeP, node, lastKind, readPolicy}
+use Rattle.model.specs.Reading.{Parsed, refuse, got, next, unless, another, kindOf, restOf, nodeC, readCondition, inResidual, node, mostObligations}
+use Rattle.model.specs.Products.{Outcome, outcomeOf, deniedOf, grantMore, grantAt, more12, at12, more13, at13, asStored, permitAt, nodeP, lastKind, readPolicy}
 use Rattle.policy_model.specs.declared.ConditionHead.{ConditionHead}
 use Rattle.policy_model.specs.declared.ConditionHead.the-variants.{Always, Never, Has, Not}
 use Rattle.policy_model.specs.declared.ConditionHead.the-variants as condition
@@ -28,7 +29,7 @@ module _ (p : List ℕ → Parsed Condition) (ws : List ℕ) where
   field-C true h = refl
   field-C false h = refl
 
-  pub condition-by-head : (k r : ℕ) → nodeC p k r ws ≡ conditionNode p (getD (conditionHeads r) k condition.BadKind) ws
+  condition-by-head : (k r : ℕ) → nodeC p k r ws ≡ conditionNode p (getD (conditionHeads r) k condition.BadKind) ws
   unfolding conditionNode
   condition-by-head zero r = field-C (eqb r 0) Always
   condition-by-head (suc zero) r = field-C (eqb r 0) Never
@@ -72,85 +73,85 @@ bit-is zero h = refl
 bit-is (suc zero) h = refl
 bit-is (suc (suc n)) h = let z : ⊥ = omega arith in absurd z
 
-module _ (pc : List ℕ → Parsed Condition) (p : List ℕ → Parsed (Policy ℕ)) (ws : List ℕ) where
-  field-P : (b : Bool) (h : PolicyHead) (q : Parsed (Policy ℕ)) → q ≡ policyNode pc p h ws → unless b 8 q ≡ policyNode pc p (cond b h policy.BadField) ws
+module _ (pc : List ℕ → Parsed Condition) (p : List ℕ → Parsed (Policy Outcome)) (ws : List ℕ) where
+  field-P : (b : Bool) (h : PolicyHead) (q : Parsed (Policy Outcome)) → q ≡ policyNode pc p h ws → unless b 8 q ≡ policyNode pc p (cond b h policy.BadField) ws
   unfolding policyNode
   field-P true h q e = e
   field-P false h q e = refl
 
   -- 6 Permit, 8 Grant
-  permit-by-head : (r : ℕ) → permitAt (productSets .value) r ws ≡ policyNode pc p (permitHead r) ws
+  permit-by-head : (r : ℕ) → permitAt r ws ≡ policyNode pc p (permitHead r) ws
   unfolding policyNode permitHead
   permit-by-head r =
-      field-P (eqb (r / 65536) 0) (Permit (r % 65536)) (outcomeOf (productSets .value) (productSets .value (r % 65536)) (λ o. got (permit o) ws))
-      (ap (λ x. outcomeOf (productSets .value) x (λ o. got (permit o) ws)) (outcome-is r))
+      field-P (eqb (r / 65536) 0) (Permit (r % 65536)) (outcomeOf (productSets .value (r % 65536)) (λ o. got (permit o) ws))
+      (ap (λ x. outcomeOf x (λ o. got (permit o) ws)) (outcome-is r))
 
-  grant-by-head : (r : ℕ) → r < 268435456 → grantAt (productSets .value) pc r ws ≡ policyNode pc p (grantHead r) ws
+  grant-by-head : (r : ℕ) → r < 268435456 → grantAt pc r ws ≡ policyNode pc p (grantHead r) ws
   unfolding policyNode grantHead grantNode
   grant-by-head r hr =
       let sh = r / 134217728 in
       let n = r / 1048576 % 128 in
       let z = r / 65536 % 16 in
-      let more : ℕ → ℕ → Parsed (Policy ℕ) = λ s o. another ws (λ w vs. grantMore (productSets .value) pc s n o (w / 65536) (w % 65536) vs) in
-      let given : outcomeOf (productSets .value) (productSets .value (r % 65536)) (more sh) ≡ more (bitOf (eqb sh 1)) (r % 65536) =
-      ap (λ x. outcomeOf (productSets .value) x (more sh)) (outcome-is r) ∙ ap (λ s. more s (r % 65536)) (sym (bit-is sh (omega arith))) in
-      field-P (leb n 64) (cond (eqb z 0) (Grant (eqb sh 1) n (r % 65536)) policy.BadField) (unless (eqb z 0) 8 (outcomeOf (productSets .value) (productSets .value (r % 65536)) (more sh)))
-      (field-P (eqb z 0) (Grant (eqb sh 1) n (r % 65536)) (outcomeOf (productSets .value) (productSets .value (r % 65536)) (more sh)) given)
+      let more : ℕ → ℕ → Parsed (Policy Outcome) = λ s o. another ws (λ w vs. grantMore pc s n o (w / 65536) (w % 65536) vs) in
+      let given : outcomeOf (productSets .value (r % 65536)) (more sh) ≡ more (bitOf (eqb sh 1)) (r % 65536) =
+      ap (λ x. outcomeOf x (more sh)) (outcome-is r) ∙ ap (λ s. more s (r % 65536)) (sym (bit-is sh (omega arith))) in
+      field-P (leb n mostObligations) (cond (eqb z 0) (Grant (eqb sh 1) n (r % 65536)) policy.BadField) (unless (eqb z 0) 8 (outcomeOf (productSets .value (r % 65536)) (more sh)))
+      (field-P (eqb z 0) (Grant (eqb sh 1) n (r % 65536)) (outcomeOf (productSets .value (r % 65536)) (more sh)) given)
 
   -- 12 PermitWithTrace, 13 DenyWithTrace
-  stored-field : (b : Bool) (q : Parsed (Decision ℕ)) → asStored (productSets .value) (unless b 8 q) ≡ unless b 8 (asStored (productSets .value) q)
+  stored-field : (b : Bool) (q : Parsed (Decision Outcome)) → asStored (unless b 8 q) ≡ unless b 8 (asStored q)
   stored-field true q = refl
   stored-field false q = refl
 
-  permit-trace-by-head : (r : ℕ) → asStored (productSets .value) (at12 (productSets .value) r ws) ≡ policyNode pc p (permitTraceHead r) ws
+  permit-trace-by-head : (r : ℕ) → asStored (at12 r ws) ≡ policyNode pc p (permitTraceHead r) ws
   unfolding policyNode permitTraceHead permitTraceNode
   permit-trace-by-head r =
       let sh = r / 134217728 in
       let n = r / 1048576 % 128 in
       let z = r / 65536 % 16 in
-      let more : ℕ → Parsed (Decision ℕ) = λ o. another ws (λ w vs. more12 (productSets .value) n o (w / 65536) (w % 65536) vs) in
-      let q₃ = outcomeOf (productSets .value) (productSets .value (r % 65536)) more in
+      let more : ℕ → Parsed (Decision Outcome) = λ o. another ws (λ w vs. more12 n o (w / 65536) (w % 65536) vs) in
+      let q₃ = outcomeOf (productSets .value (r % 65536)) more in
       let q₂ = unless (eqb z 0) 8 q₃ in
-      let q₁ = unless (leb n 64) 8 q₂ in
+      let q₁ = unless (leb n mostObligations) 8 q₂ in
       let h₃ = PermitWithTrace n (r % 65536) in
       let h₂ = cond (eqb z 0) h₃ policy.BadField in
-      let h₁ = cond (leb n 64) h₂ policy.BadField in
-      let e₃ : asStored (productSets .value) q₃ ≡ policyNode pc p h₃ ws = ap (λ x. asStored (productSets .value) (outcomeOf (productSets .value) x more)) (outcome-is r) in
-      let e₂ : asStored (productSets .value) q₂ ≡ policyNode pc p h₂ ws = stored-field (eqb z 0) q₃ ∙ field-P (eqb z 0) h₃ (asStored (productSets .value) q₃) e₃ in
-      let e₁ : asStored (productSets .value) q₁ ≡ policyNode pc p h₁ ws = stored-field (leb n 64) q₂ ∙ field-P (leb n 64) h₂ (asStored (productSets .value) q₂) e₂ in
-      stored-field (eqb sh 0) q₁ ∙ field-P (eqb sh 0) h₁ (asStored (productSets .value) q₁) e₁
+      let h₁ = cond (leb n mostObligations) h₂ policy.BadField in
+      let e₃ : asStored q₃ ≡ policyNode pc p h₃ ws = ap (λ x. asStored (outcomeOf x more)) (outcome-is r) in
+      let e₂ : asStored q₂ ≡ policyNode pc p h₂ ws = stored-field (eqb z 0) q₃ ∙ field-P (eqb z 0) h₃ (asStored q₃) e₃ in
+      let e₁ : asStored q₁ ≡ policyNode pc p h₁ ws = stored-field (leb n mostObligations) q₂ ∙ field-P (leb n mostObligations) h₂ (asStored q₂) e₂ in
+      stored-field (eqb sh 0) q₁ ∙ field-P (eqb sh 0) h₁ (asStored q₁) e₁
 
   -- the denied outcome, by its present bit
   denied-by-head : (sh here r : ℕ) → sh < 2 → here < 2 →
-      asStored (productSets .value) (deniedOf (productSets .value) here (r % 65536) (λ den. another ws (λ w vs. more13 (productSets .value) sh den (w / 65536) (w % 65536) vs)))
+      asStored (deniedOf here (r % 65536) (λ den. another ws (λ w vs. more13 sh den (w / 65536) (w % 65536) vs)))
       ≡ policyNode pc p (cond (eqb here 1) (DenyWithTrace (eqb sh 1) true (r % 65536)) (cond (eqb (r % 65536) 0) (DenyWithTrace (eqb sh 1) false (r % 65536)) policy.BadField)) ws
   unfolding policyNode denyTraceNode
   denied-by-head sh zero r hs hh =
-      let more : ℕ → Parsed (Decision ℕ) = λ s. another ws (λ w vs. more13 (productSets .value) s none (w / 65536) (w % 65536) vs) in
+      let more : ℕ → Parsed (Decision Outcome) = λ s. another ws (λ w vs. more13 s none (w / 65536) (w % 65536) vs) in
       stored-field (eqb (r % 65536) 0) (more sh)
-      ∙ field-P (eqb (r % 65536) 0) (DenyWithTrace (eqb sh 1) false (r % 65536)) (asStored (productSets .value) (more sh)) (ap (λ s. asStored (productSets .value) (more s)) (sym (bit-is sh hs)))
+      ∙ field-P (eqb (r % 65536) 0) (DenyWithTrace (eqb sh 1) false (r % 65536)) (asStored (more sh)) (ap (λ s. asStored (more s)) (sym (bit-is sh hs)))
   denied-by-head sh (suc zero) r hs hh =
-      let more : ℕ → ℕ → Parsed (Decision ℕ) = λ s o. another ws (λ w vs. more13 (productSets .value) s (some o) (w / 65536) (w % 65536) vs) in
-      ap (λ x. asStored (productSets .value) (outcomeOf (productSets .value) x (more sh))) (outcome-is r)
-      ∙ ap (λ s. asStored (productSets .value) (more s (r % 65536))) (sym (bit-is sh hs))
+      let more : ℕ → ℕ → Parsed (Decision Outcome) = λ s o. another ws (λ w vs. more13 s (some o) (w / 65536) (w % 65536) vs) in
+      ap (λ x. asStored (outcomeOf x (more sh))) (outcome-is r)
+      ∙ ap (λ s. asStored (more s (r % 65536))) (sym (bit-is sh hs))
   denied-by-head sh (suc (suc here)) r hs hh = let z : ⊥ = omega arith in absurd z
 
-  deny-trace-by-head : (r : ℕ) → r < 268435456 → asStored (productSets .value) (at13 (productSets .value) r ws) ≡ policyNode pc p (denyTraceHead r) ws
+  deny-trace-by-head : (r : ℕ) → r < 268435456 → asStored (at13 r ws) ≡ policyNode pc p (denyTraceHead r) ws
   unfolding policyNode denyTraceHead
   deny-trace-by-head r hr =
       let sh = r / 134217728 in
       let here = r / 67108864 % 2 in
       let z = r / 65536 % 1024 in
-      let q = deniedOf (productSets .value) here (r % 65536) (λ den. another ws (λ w vs. more13 (productSets .value) sh den (w / 65536) (w % 65536) vs)) in
+      let q = deniedOf here (r % 65536) (λ den. another ws (λ w vs. more13 sh den (w / 65536) (w % 65536) vs)) in
       let h = cond (eqb here 1) (DenyWithTrace (eqb sh 1) true (r % 65536)) (cond (eqb (r % 65536) 0) (DenyWithTrace (eqb sh 1) false (r % 65536)) policy.BadField) in
-      stored-field (eqb z 0) q ∙ field-P (eqb z 0) h (asStored (productSets .value) q) (denied-by-head sh here r (omega arith) (omega arith))
+      stored-field (eqb z 0) q ∙ field-P (eqb z 0) h (asStored q) (denied-by-head sh here r (omega arith) (omega arith))
 
-  in-residual : (res : Bool) (h : PolicyHead) (q : Parsed (Policy ℕ)) → q ≡ policyNode pc p h ws → inResidual (productSets .value) res q ≡ policyNode pc p (cond res h policy.BadKind) ws
+  in-residual : (res : Bool) (h : PolicyHead) (q : Parsed (Policy Outcome)) → q ≡ policyNode pc p h ws → inResidual (productSets .value) res q ≡ policyNode pc p (cond res h policy.BadKind) ws
   unfolding policyNode
   in-residual true h q e = e
   in-residual false h q e = refl
 
-  nodeP-by-head : (res : Bool) (j r : ℕ) → r < 268435456 → nodeP (productSets .value) res pc p j r ws ≡ policyNode pc p (getD (policyHeads res r) j policy.BadKind) ws
+  nodeP-by-head : (res : Bool) (j r : ℕ) → r < 268435456 → nodeP res pc p j r ws ≡ policyNode pc p (getD (policyHeads res r) j policy.BadKind) ws
   unfolding policyNode
   nodeP-by-head res zero r hr = permit-by-head r
   nodeP-by-head res (suc zero) r hr = field-P (eqb r 0) Deny (policyNode pc p Deny ws) refl
@@ -158,24 +159,24 @@ module _ (pc : List ℕ → Parsed Condition) (p : List ℕ → Parsed (Policy �
   nodeP-by-head res (suc (suc (suc zero))) r hr = field-P (ltb r 4096) (policy.All r) (policyNode pc p (policy.All r) ws) refl
   nodeP-by-head res (suc (suc (suc (suc zero)))) r hr = field-P (ltb r 4096) (policy.Any r) (policyNode pc p (policy.Any r) ws) refl
   nodeP-by-head res (suc (suc (suc (suc (suc zero))))) r hr = field-P (eqb r 0) OrElse (policyNode pc p OrElse ws) refl
-  nodeP-by-head res (suc (suc (suc (suc (suc (suc zero)))))) r hr = in-residual res (permitTraceHead r) (asStored (productSets .value) (at12 (productSets .value) r ws)) (permit-trace-by-head r)
-  nodeP-by-head res (suc (suc (suc (suc (suc (suc (suc zero))))))) r hr = in-residual res (denyTraceHead r) (asStored (productSets .value) (at13 (productSets .value) r ws)) (deny-trace-by-head r hr)
+  nodeP-by-head res (suc (suc (suc (suc (suc (suc zero)))))) r hr = in-residual res (permitTraceHead r) (asStored (at12 r ws)) (permit-trace-by-head r)
+  nodeP-by-head res (suc (suc (suc (suc (suc (suc (suc zero))))))) r hr = in-residual res (denyTraceHead r) (asStored (at13 r ws)) (deny-trace-by-head r hr)
   nodeP-by-head res (suc (suc (suc (suc (suc (suc (suc (suc j)))))))) r hr = refl
 
-  kind-P : (b : Bool) (h : PolicyHead) (q : Parsed (Policy ℕ)) → q ≡ policyNode pc p h ws → unless b 5 q ≡ policyNode pc p (cond b h policy.BadKind) ws
+  kind-P : (b : Bool) (h : PolicyHead) (q : Parsed (Policy Outcome)) → q ≡ policyNode pc p h ws → unless b 5 q ≡ policyNode pc p (cond b h policy.BadKind) ws
   unfolding policyNode
   kind-P true h q e = e
   kind-P false h q e = refl
 
-  pub policy-by-head : (res : Bool) (w : ℕ) → node (productSets .value) res pc p (kindOf w) (restOf w) ws ≡ policyNode pc p (policyHead w res) ws
+  policy-by-head : (res : Bool) (w : ℕ) → node (productSets .value) res pc p (kindOf w) (restOf w) ws ≡ policyNode pc p (policyHead w res) ws
   unfolding policyHead
   policy-by-head res w =
-      kind-P (leb 6 (kindOf w)) (getD (policyHeads res (restOf w)) (kindOf w - 6) policy.BadKind) (nodeP (productSets .value) res pc p (kindOf w - 6) (restOf w) ws)
+      kind-P (leb 6 (kindOf w)) (getD (policyHeads res (restOf w)) (kindOf w - 6) policy.BadKind) (nodeP res pc p (kindOf w - 6) (restOf w) ws)
       (nodeP-by-head res (kindOf w - 6) (restOf w) (omega arith))
 
 -- A policy's first word at a level that is allowed, and below the last one.
-pub policy-node : (res : Bool) (d w : ℕ) (ws : List ℕ) → readPolicy (productSets .value) res (suc d) (w ∷ ws) ≡ policyNode (λ vs. readCondition d vs) (λ vs. readPolicy (productSets .value) res d vs) (policyHead w res) ws
-policy-node res d w ws = policy-by-head (λ vs. readCondition d vs) (λ vs. readPolicy (productSets .value) res d vs) ws res w
+pub policy-node : (res : Bool) (d w : ℕ) (ws : List ℕ) → readPolicy res (suc d) (w ∷ ws) ≡ policyNode (λ vs. readCondition d vs) (λ vs. readPolicy res d vs) (policyHead w res) ws
+policy-node res d w ws = policy-by-head (λ vs. readCondition d vs) (λ vs. readPolicy res d vs) ws res w
 
 deep-field-P : (b : Bool) (h : PolicyHead) → deepPolicy h ≡ 7 → deepPolicy (cond b h policy.BadField) ≡ 7
 deep-field-P true h e = e
@@ -193,15 +194,15 @@ deep-grant : (r : ℕ) → deepPolicy (grantHead r) ≡ 7
 unfolding grantHead
 deep-grant r =
     let h = Grant (eqb (r / 134217728) 1) (r / 1048576 % 128) (r % 65536) in
-    deep-field-P (leb (r / 1048576 % 128) 64) (cond (eqb (r / 65536 % 16) 0) h policy.BadField) (deep-field-P (eqb (r / 65536 % 16) 0) h refl)
+    deep-field-P (leb (r / 1048576 % 128) mostObligations) (cond (eqb (r / 65536 % 16) 0) h policy.BadField) (deep-field-P (eqb (r / 65536 % 16) 0) h refl)
 
 deep-permit-trace : (r : ℕ) → deepPolicy (permitTraceHead r) ≡ 7
 unfolding permitTraceHead
 deep-permit-trace r =
     let h₃ = PermitWithTrace (r / 1048576 % 128) (r % 65536) in
     let h₂ = cond (eqb (r / 65536 % 16) 0) h₃ policy.BadField in
-    let h₁ = cond (leb (r / 1048576 % 128) 64) h₂ policy.BadField in
-    deep-field-P (eqb (r / 134217728) 0) h₁ (deep-field-P (leb (r / 1048576 % 128) 64) h₂ (deep-field-P (eqb (r / 65536 % 16) 0) h₃ refl))
+    let h₁ = cond (leb (r / 1048576 % 128) mostObligations) h₂ policy.BadField in
+    deep-field-P (eqb (r / 134217728) 0) h₁ (deep-field-P (leb (r / 1048576 % 128) mostObligations) h₂ (deep-field-P (eqb (r / 65536 % 16) 0) h₃ refl))
 
 deep-deny-trace : (r : ℕ) → deepPolicy (denyTraceHead r) ≡ 7
 unfolding denyTraceHead
@@ -211,7 +212,7 @@ deep-deny-trace r =
     let h₁ = cond (eqb (r % 65536) 0) h policy.BadField in
     deep-field-P (eqb (r / 65536 % 1024) 0) (cond (eqb (r / 67108864 % 2) 1) g h₁) (deep-either (eqb (r / 67108864 % 2) 1) g h₁ refl (deep-field-P (eqb (r % 65536) 0) h refl))
 
-deep-kind-P : (res : Bool) (j r : ℕ) → unless {A = Policy ℕ} (leb (6 + j) (lastKind (productSets .value) res)) 5 (refuse 7) ≡ refuse (deepPolicy (getD (policyHeads res r) j policy.BadKind))
+deep-kind-P : (res : Bool) (j r : ℕ) → unless {A = Policy Outcome} (leb (6 + j) (lastKind res)) 5 (refuse 7) ≡ refuse (deepPolicy (getD (policyHeads res r) j policy.BadKind))
 deep-kind-P true zero r = ap refuse (sym (deep-permit r))
 deep-kind-P true (suc zero) r = ap refuse (sym (deep-field-P (eqb r 0) Deny refl))
 deep-kind-P true (suc (suc zero)) r = ap refuse (sym (deep-grant r))
@@ -220,7 +221,7 @@ deep-kind-P true (suc (suc (suc (suc zero)))) r = ap refuse (sym (deep-field-P (
 deep-kind-P true (suc (suc (suc (suc (suc zero))))) r = ap refuse (sym (deep-field-P (eqb r 0) OrElse refl))
 deep-kind-P true (suc (suc (suc (suc (suc (suc zero)))))) r = ap refuse (sym (deep-permit-trace r))
 deep-kind-P true (suc (suc (suc (suc (suc (suc (suc zero))))))) r = ap refuse (sym (deep-deny-trace r))
-deep-kind-P true (suc (suc (suc (suc (suc (suc (suc (suc j)))))))) r = ap (λ b. unless {A = Policy ℕ} b 5 (refuse 7)) (lt-leb (6 + suc (suc (suc (suc (suc (suc (suc (suc j)))))))) 13 (omega arith))
+deep-kind-P true (suc (suc (suc (suc (suc (suc (suc (suc j)))))))) r = ap (λ b. unless {A = Policy Outcome} b 5 (refuse 7)) (lt-leb (6 + suc (suc (suc (suc (suc (suc (suc (suc j)))))))) 13 (omega arith))
 deep-kind-P false zero r = ap refuse (sym (deep-permit r))
 deep-kind-P false (suc zero) r = ap refuse (sym (deep-field-P (eqb r 0) Deny refl))
 deep-kind-P false (suc (suc zero)) r = ap refuse (sym (deep-grant r))
@@ -229,16 +230,16 @@ deep-kind-P false (suc (suc (suc (suc zero)))) r = ap refuse (sym (deep-field-P 
 deep-kind-P false (suc (suc (suc (suc (suc zero))))) r = ap refuse (sym (deep-field-P (eqb r 0) OrElse refl))
 deep-kind-P false (suc (suc (suc (suc (suc (suc zero)))))) r = refl
 deep-kind-P false (suc (suc (suc (suc (suc (suc (suc zero))))))) r = refl
-deep-kind-P false (suc (suc (suc (suc (suc (suc (suc (suc j)))))))) r = ap (λ b. unless {A = Policy ℕ} b 5 (refuse 7)) (lt-leb (6 + suc (suc (suc (suc (suc (suc (suc (suc j)))))))) 11 (omega arith))
+deep-kind-P false (suc (suc (suc (suc (suc (suc (suc (suc j)))))))) r = ap (λ b. unless {A = Policy Outcome} b 5 (refuse 7)) (lt-leb (6 + suc (suc (suc (suc (suc (suc (suc (suc j)))))))) 11 (omega arith))
 
-deep-at : (res : Bool) (k r : ℕ) (b : Bool) → leb 6 k ≡ b → unless {A = Policy ℕ} (b && leb k (lastKind (productSets .value) res)) 5 (refuse 7) ≡ refuse (deepPolicy (cond b (getD (policyHeads res r) (k - 6) policy.BadKind) policy.BadKind))
+deep-at : (res : Bool) (k r : ℕ) (b : Bool) → leb 6 k ≡ b → unless {A = Policy Outcome} (b && leb k (lastKind res)) 5 (refuse 7) ≡ refuse (deepPolicy (cond b (getD (policyHeads res r) (k - 6) policy.BadKind) policy.BadKind))
 deep-at res k r true e =
     let h : 6 ≤ k = leb-true 6 k e in
     let j : k ≡ 6 + (k - 6) = omega arith in
-    ap (λ n. unless {A = Policy ℕ} (leb n (lastKind (productSets .value) res)) 5 (refuse 7)) j ∙ deep-kind-P res (k - 6) r
+    ap (λ n. unless {A = Policy Outcome} (leb n (lastKind res)) 5 (refuse 7)) j ∙ deep-kind-P res (k - 6) r
 deep-at res k r false e = refl
 
-pub policy-deep : (res : Bool) (w : ℕ) (ws : List ℕ) → readPolicy (productSets .value) res zero (w ∷ ws) ≡ refuse (deepPolicy (policyHead w res))
+pub policy-deep : (res : Bool) (w : ℕ) (ws : List ℕ) → readPolicy res zero (w ∷ ws) ≡ refuse (deepPolicy (policyHead w res))
 unfolding policyHead
 policy-deep res w ws = deep-at res (kindOf w) (restOf w) (leb 6 (kindOf w)) refl
 

@@ -7,12 +7,13 @@ use lib.Dec.{eqb, ltb, leb}
 use lib.ListN.{getD}
 use Rattle.model.specs.Fields.{bits}
 use Rattle.model.specs.Facts.{factCount}
-use Rattle.model.specs.Outcome.{outcomeBits, productSets}
+use Rattle.model.specs.Outcome.{outcomeBits}
 use Rattle.model.specs.Condition.{Condition, always, never, has, notC, allC, anyC, cnil, ccons}
 use Rattle.model.specs.Decision.{Decision}
 use Rattle.model.specs.Policy.{Policy, permit, deny, all, any, orElse, pnil, pcons}
 use Rattle.model.specs.Writing.{countBits, markBits}
-use Rattle.model.specs.Reading.{Parsed, refuse, got, next, another, many, kindOf, restOf, fewObligations, grantMore, more12, more13, asStored}
+use Rattle.model.specs.Reading.{Parsed, refuse, got, next, another, many, kindOf, restOf, fewObligations}
+use Rattle.model.specs.Products.{Outcome, grantMore, more12, more13, asStored}
 use Rattle.policy_model.specs.declared.ConditionHead.{ConditionHead}
 use Rattle.policy_model.specs.declared.ConditionHead.the-variants.{Always, Never, Has, Not}
 use Rattle.policy_model.specs.declared.ConditionHead.the-variants as condition
@@ -118,26 +119,26 @@ abbrev pub deniedBy : Bool → ℕ → Option ℕ
 deniedBy denied o = cond denied (some o) none
 
 -- The rest of a 12 and of a 13 by its head.
-unfoldable pub permitTraceNode : ℕ → ℕ → List ℕ → Parsed (Decision ℕ)
-permitTraceNode n o ws = another ws (λ w vs. more12 (productSets .value) n o (w / 2 ^ (4 + countBits)) (w % 2 ^ (4 + countBits)) vs)
+unfoldable pub permitTraceNode : ℕ → ℕ → List ℕ → Parsed (Decision Outcome)
+permitTraceNode n o ws = another ws (λ w vs. more12 n o (w / 2 ^ (4 + countBits)) (w % 2 ^ (4 + countBits)) vs)
 
-unfoldable pub denyTraceNode : Bool → Bool → ℕ → List ℕ → Parsed (Decision ℕ)
+unfoldable pub denyTraceNode : Bool → Bool → ℕ → List ℕ → Parsed (Decision Outcome)
 denyTraceNode hidden denied o ws =
-    another ws (λ w vs. more13 (productSets .value) (bitOf hidden) (deniedBy denied o) (w / 2 ^ (1 + markBits)) (w % 2 ^ (1 + markBits)) vs)
+    another ws (λ w vs. more13 (bitOf hidden) (deniedBy denied o) (w / 2 ^ (1 + markBits)) (w % 2 ^ (1 + markBits)) vs)
 
-unfoldable pub grantNode : (List ℕ → Parsed Condition) → Bool → ℕ → ℕ → List ℕ → Parsed (Policy ℕ)
-grantNode pc hidden n o ws = another ws (λ w vs. grantMore (productSets .value) pc (bitOf hidden) n o (w / 2 ^ (1 + markBits)) (w % 2 ^ (1 + markBits)) vs)
+unfoldable pub grantNode : (List ℕ → Parsed Condition) → Bool → ℕ → ℕ → List ℕ → Parsed (Policy Outcome)
+grantNode pc hidden n o ws = another ws (λ w vs. grantMore pc (bitOf hidden) n o (w / 2 ^ (1 + markBits)) (w % 2 ^ (1 + markBits)) vs)
 
 -- The rest of a policy by its head, a grant's condition read by pc and arms by p.
-unfoldable pub policyNode : (List ℕ → Parsed Condition) → (List ℕ → Parsed (Policy ℕ)) → PolicyHead → List ℕ → Parsed (Policy ℕ)
+unfoldable pub policyNode : (List ℕ → Parsed Condition) → (List ℕ → Parsed (Policy Outcome)) → PolicyHead → List ℕ → Parsed (Policy Outcome)
 policyNode pc p (Permit o) ws = got (permit o) ws
 policyNode pc p Deny ws = got deny ws
 policyNode pc p (Grant hidden n o) ws = grantNode pc hidden n o ws
 policyNode pc p (policy.All n) ws = next (many pnil pcons p n ws) (λ ts vs. got (all ts) vs)
 policyNode pc p (policy.Any n) ws = next (many pnil pcons p n ws) (λ ts vs. got (any ts) vs)
 policyNode pc p OrElse ws = next (p ws) (λ a vs. next (p vs) (λ b us. got (orElse a b) us))
-policyNode pc p (PermitWithTrace n o) ws = asStored (productSets .value) (permitTraceNode n o ws)
-policyNode pc p (DenyWithTrace hidden denied o) ws = asStored (productSets .value) (denyTraceNode hidden denied o ws)
+policyNode pc p (PermitWithTrace n o) ws = asStored (permitTraceNode n o ws)
+policyNode pc p (DenyWithTrace hidden denied o) ws = asStored (denyTraceNode hidden denied o ws)
 policyNode pc p policy.BadKind ws = refuse 5
 policyNode pc p policy.BadField ws = refuse 8
 

@@ -4,3 +4,4 @@ pub mod Lists
 pub mod Answers
 pub mod Span
 pub mod Plain
+pub mod PlainLaws

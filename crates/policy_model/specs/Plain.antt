@@ -1,25 +1,16 @@
 -- A Grant without label, reason and obligations, on one fact: the commonest policy, told by its three words. Document 01, "What a call receives".
-use mathlib.Core.Path.{_≡_, refl, sym, _∙_, ap}
-use mathlib.Core.Bool.{Bool, true, false, _&&_}
+use mathlib.Core.Bool.{Bool, false, _&&_}
 use mathlib.Core.Option.{none}
 use mathlib.Core.List.{List, [], _∷_}
-use Prim.Native.Nat.{ℕ, suc, _+_, _/_, _%_, _^_, _≤_, _<_}
-use native.Mathlib.Omega.{arith}
-use borrow.Author.Tests.{eqb-true, leb-true, leb-false}
-use lib.Dec.{eqb, leb}
-use lib.ListN.{length, drop, getD, length-drop}
-use lib.Seq.{drop-cons}
+use Prim.Native.Nat.{ℕ, _+_, _/_, _%_, _^_}
+use lib.Dec.{eqb}
 use Rattle.model.specs.Fields.{bits}
 use Rattle.model.specs.Facts.{factCount}
-use Rattle.model.specs.Outcome.{outcomeBits, productSets}
-use Rattle.model.specs.Condition.{Condition, has}
+use Rattle.model.specs.Outcome.{outcomeBits}
+use Rattle.model.specs.Condition.{has}
 use Rattle.model.specs.Policy.{Policy, grant}
-use Rattle.model.specs.Reading.{got, next, kindOf, shapeOf, readCondition, readPolicy}
-use Rattle.laws.specs.Size.{words}
-use Rattle.policy_model.specs.declared.ConditionHead.the-variants.{Has}
-use Rattle.policy_model.specs.declared.PolicyHead.the-variants.{Grant}
-use Rattle.policy_model.specs.Heads.{conditionHead, conditionNode, bitOf, grantNode, policyHead, policyNode}
-use Rattle.policy_model.specs.HeadLaws.{condition-node, policy-node, bit-is, has-word, grant-word}
+use Rattle.model.specs.Reading.{kindOf, shapeOf}
+use Rattle.model.specs.Products.{Outcome}
 
 -- A Grant's first word with no obligation; no label and no reason; a Has.
 unfoldable pub plainGrant : List ℕ → Bool
@@ -32,86 +23,5 @@ plainGrant (w ∷ v ∷ u ∷ ws) = eqb (kindOf w) 8 && (eqb (bits outcomeBits 1
 abbrev pub shapeBit : ℕ → ℕ
 shapeBit w = bits (7 + 4 + outcomeBits) 1 w
 
-abbrev pub plainPolicy : ℕ → ℕ → Policy ℕ
+abbrev pub plainPolicy : ℕ → ℕ → Policy Outcome
 plainPolicy w u = grant (record { outcome = w % 2 ^ outcomeBits; obligations = []; label = none; reason = none; shape = shapeOf (shapeBit w) }) (has (u % factCount))
-
--- ---- what the three words say
-record Told (w v u : ℕ) : Type 0 where
-  kind : w / 268435456 ≡ 8
-  no-obligation : w / 65536 % 2048 ≡ 0
-  no-mark : v ≡ 0
-  has-it : u / 1024 ≡ 524288
-
-both : (a b : Bool) → (a && b) ≡ true → (a ≡ true) × (b ≡ true)
-both true b e = (refl, e)
-both false b e = let z : _≡_ {A = ℕ} 0 1 = cc in absurd (omega arith)
-
-told : (w v u : ℕ) (ws : List ℕ) → plainGrant (w ∷ v ∷ u ∷ ws) ≡ true → Told w v u
-unfolding plainGrant
-told w v u ws e =
-    let first = both _ _ e in
-    let second = both _ _ (first .1) in
-    let third = both _ _ (second .1) in
-    record { kind = eqb-true _ _ (first .0); no-obligation = eqb-true _ _ (second .0); no-mark = eqb-true _ _ (third .0); has-it = eqb-true _ _ (third .1) }
-
-pub plain-short : (ws : List ℕ) → length ws < 3 → plainGrant ws ≡ false
-unfolding plainGrant
-plain-short [] h = refl
-plain-short (w ∷ []) h = refl
-plain-short (w ∷ v ∷ []) h = refl
-plain-short (w ∷ v ∷ u ∷ ws) h = absurd (omega arith)
-
-three-words : (ws : List ℕ) (b : Bool) → leb 3 (length ws) ≡ b → plainGrant ws ≡ true → 3 ≤ length ws
-three-words ws true e p = leb-true 3 (length ws) e
-three-words ws false e p = let no : plainGrant ws ≡ false = plain-short ws (leb-false 3 (length ws) e) in let z : _≡_ {A = ℕ} 0 1 = cc in absurd (omega arith)
-
-pub three-here : (sheet : List ℕ) (at : ℕ) → at + 2 < length sheet → drop at sheet ≡ getD sheet at 0 ∷ getD sheet (at + 1) 0 ∷ getD sheet (at + 2) 0 ∷ drop (at + 3) sheet
-three-here sheet at h =
-    let at-1 : suc at ≡ at + 1 = omega arith in
-    let at-2 : suc (at + 1) ≡ at + 2 = omega arith in
-    let at-3 : suc (at + 2) ≡ at + 3 = omega arith in
-    drop-cons sheet at 0 (omega arith)
-    ∙ ap (λ l. getD sheet at 0 ∷ l) (ap (λ i. drop i sheet) at-1 ∙ drop-cons sheet (at + 1) 0 (omega arith))
-    ∙ ap (λ l. getD sheet at 0 ∷ getD sheet (at + 1) 0 ∷ l) (ap (λ i. drop i sheet) at-2 ∙ drop-cons sheet (at + 2) 0 (omega arith))
-    ∙ ap (λ i. getD sheet at 0 ∷ getD sheet (at + 1) 0 ∷ getD sheet (at + 2) 0 ∷ drop i sheet) at-3
-
-condition-of : (d u : ℕ) (ws : List ℕ) → u / 1024 ≡ 524288 → readCondition (suc d) (u ∷ ws) ≡ got (has (u % 1024)) ws
-unfolding conditionNode
-condition-of d u ws e = condition-node d u ws ∙ ap (λ h. conditionNode (λ vs. readCondition d vs) h ws) (sym (has-word u e))
-
-policy-of : (res : Bool) (d w u : ℕ) (ws : List ℕ) → w / 268435456 ≡ 8 → w / 65536 % 2048 ≡ 0 → u / 1024 ≡ 524288 →
-    readPolicy (productSets .value) res (suc (suc d)) (w ∷ 0 ∷ u ∷ ws) ≡ got (plainPolicy w u) ws
-unfolding policyNode grantNode
-policy-of res d w u ws k n h =
-    let given : ℕ → Condition → Policy ℕ = λ s c. grant (record { outcome = w % 65536; obligations = []; label = none; reason = none; shape = shapeOf s }) c in
-    policy-node res (suc d) w (0 ∷ u ∷ ws)
-    ∙ ap (λ q. policyNode (λ vs. readCondition (suc d) vs) (λ vs. readPolicy (productSets .value) res (suc d) vs) q (0 ∷ u ∷ ws)) (sym (grant-word w res k n))
-    ∙ ap (λ q. next q (λ c us. got (given (bitOf (eqb (shapeBit w) 1)) c) us)) (condition-of d u ws h)
-    ∙ ap (λ s. got (given s (has (u % 1024))) ws) (bit-is (shapeBit w) (omega arith))
-
--- ---- where one stands
-module _ (sheet : List ℕ) (at : ℕ) (plain : plainGrant (drop at sheet) ≡ true) where
-  pub plain-inside : at + 2 < length sheet
-  plain-inside = omega (arith, three-words (drop at sheet) (leb 3 (length (drop at sheet))) refl plain, length-drop at sheet)
-
-  all-told : Told (getD sheet at 0) (getD sheet (at + 1) 0) (getD sheet (at + 2) 0)
-  all-told = told _ _ _ _ (rw (three-here sheet at plain-inside) at plain)
-
-  -- The first word says a Grant without obligations, the second nothing, the third a fact.
-  pub plain-head : (res : Bool) → policyHead (getD sheet at 0) res ≡ Grant (eqb (shapeBit (getD sheet at 0)) 1) 0 (getD sheet at 0 % 65536)
-  plain-head res = sym (grant-word (getD sheet at 0) res (all-told .kind) (all-told .no-obligation))
-
-  pub plain-marks : getD sheet (at + 1) 0 ≡ 0
-  plain-marks = all-told .no-mark
-
-  pub plain-fact : conditionHead (getD sheet (at + 2) 0) ≡ Has (getD sheet (at + 2) 0 % 1024)
-  plain-fact = sym (has-word (getD sheet (at + 2) 0) (all-told .has-it))
-
-  -- So the policy is read, at every level that has one below it; and it takes three words.
-  pub plain-reads : (res : Bool) (d : ℕ) → readPolicy (productSets .value) res (suc (suc d)) (drop at sheet) ≡ got (plainPolicy (getD sheet at 0) (getD sheet (at + 2) 0)) (drop (at + 3) sheet)
-  plain-reads res d =
-      ap (λ ws. readPolicy (productSets .value) res (suc (suc d)) ws) (three-here sheet at plain-inside ∙ ap (λ v. getD sheet at 0 ∷ v ∷ getD sheet (at + 2) 0 ∷ drop (at + 3) sheet) plain-marks)
-      ∙ policy-of res d (getD sheet at 0) (getD sheet (at + 2) 0) (drop (at + 3) sheet) (all-told .kind) (all-told .no-obligation) (all-told .has-it)
-
-pub plain-words : (w u : ℕ) → words (plainPolicy w u) ≡ 3
-plain-words w u = refl

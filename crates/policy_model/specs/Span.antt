@@ -1,12 +1,15 @@
 -- How far so many trees reach, by a count of open nodes: a node closes itself and opens its arms. No level is counted.
 use mathlib.Core.Path.{_≡_}
 use mathlib.Core.List.{List, [], _∷_}
-use Prim.Native.Nat.{ℕ, zero, suc, _+_, _%_, _^_}
-use lib.ListN.{getD}
+use Prim.Native.Nat.{ℕ, zero, suc, _+_, _%_, _^_, _≤_}
+use lib.ListN.{drop, getD}
 use Rattle.model.specs.Fields.{bits, wordsFor}
 use Rattle.model.specs.Outcome.{outcomeBits}
+use Rattle.model.specs.Condition.{cnil, ccons}
 use Rattle.model.specs.Writing.{countBits}
-use Rattle.model.specs.Reading.{Parsed, refuse, got, kindOf}
+use Rattle.model.specs.Reading.{Parsed, refuse, got, kindOf, many, readCondition}
+use Rattle.laws.specs.FieldLaws.{Holds}
+use Rattle.laws.specs.Size.{wordsCs}
 
 -- The arms that a first word opens, by its kind: a grant's condition is one.
 abbrev pub armsBy : ℕ → List ℕ
@@ -39,3 +42,8 @@ span (w ∷ ws) zero (suc nodes) = suc (span ws (ownOf w ws) (armsOf w + nodes))
 unfoldable pub Skipped : {A : Type 0} → (A → ℕ) → ℕ → Parsed A → ℕ → Type 0
 Skipped size at (refuse n) r = Unit {0}
 Skipped size at (got a ws) r = r ≡ at + size a
+
+-- r is the position after `count` conditions from `at`, however deep, if they read. It is never before `at`.
+pub record SkippedConditions (words : List ℕ) (at count r : ℕ) : Type 0 where
+  pub onward : at ≤ r
+  pub ends : (depth : ℕ) → Holds (λ cs rest. r ≡ at + wordsCs cs) (many cnil ccons (readCondition depth) count (drop at words))

@@ -1,39 +1,175 @@
 // Policies as words, after gatekeep's policy_model.rs: what one word says, whether words hold a sheet or a record, and how far a tree reaches.
 ghost use mathlib.Core.Path.{_≡_};
 ghost use mathlib.Core.Bool.{Bool};
-ghost use Prim.Native.Nat.{ℕ, _+_, _-_, _%_, _<_, _≤_};
+ghost use Prim.Native.Nat.{ℕ, _+_, _-_, _%_, _^_, _<_, _≤_};
 ghost use lib.ListN.{length, drop, getD};
-ghost use Rattle.model.specs.Fields.{split, wordsFor};
-ghost use Rattle.model.specs.Outcome.{productSets};
+ghost use Rattle.model.specs.Fields.{bits, split, wordsFor};
+ghost use Rattle.model.specs.Outcome.{outcomeBits};
 ghost use Rattle.model.specs.Condition.{cnil, ccons};
 ghost use Rattle.model.specs.Policy.{pnil, pcons};
-ghost use Rattle.model.specs.Writing.{obligationBits, entryBits};
-ghost use Rattle.model.specs.Reading.{many, readList, obligation, listed, consulted, readCondition, readPolicy, whole, readSheet, parse14, readRecord};
+ghost use Rattle.model.specs.Writing.{countBits, obligationBits, entryBits};
+ghost use Rattle.model.specs.Reading.{many, readList, obligation, listed, consulted, readCondition, levels, recordWords, whole};
+ghost use Rattle.model.specs.Products.{readPolicy, readSheet, parse14, readRecord};
 ghost use Rattle.laws.specs.Size.{quads, pairs, wordsC, wordsCs, wordsD, words as wordsT, wordss as wordsTs};
 ghost use Rattle.policy_model.specs.Heads.{conditionHead, deepCondition, permitHead, grantHead, permitTraceHead, denyTraceHead, policyHead, deepPolicy, grantNode, permitTraceNode, denyTraceNode};
 ghost use Rattle.policy_model.specs.Plain.{plainGrant};
 ghost use Rattle.policy_model.specs.Lists.{seenOne, seenAll, entryFits, pairFits, markFits, marksFit, checkedPairs};
 ghost use Rattle.policy_model.specs.Answers.{checked, Stepped, stepOf, atEnd, refusal, sheetRefusal, bodyAt, wordsB, leadOf, recordLead, recordOf};
-ghost use Rattle.policy_model.specs.Span.{armsOf, ownOf, span, Skipped};
+ghost use Rattle.policy_model.specs.Span.{armsOf, ownOf, span, Skipped, SkippedConditions};
+
+// ---- the format: kinds, fields and limits
 
 // A word's kind stands above its other 28 bits.
 pub const KIND: u32 = 268435456;
 
-// Facts, 10 bits; counts of arms and facts, 12 bits; outcomes, entries, labels and reasons, half a word.
+// Conditions.
+pub const KIND_ALWAYS: u32 = 0;
+
+pub const KIND_NEVER: u32 = 1;
+
+pub const KIND_HAS: u32 = 2;
+
+pub const KIND_NOT: u32 = 3;
+
+pub const KIND_CONDITION_ALL: u32 = 4;
+
+pub const KIND_CONDITION_ANY: u32 = 5;
+
+// Policies.
+pub const KIND_PERMIT: u32 = 6;
+
+pub const KIND_DENY: u32 = 7;
+
+pub const KIND_GRANT: u32 = 8;
+
+pub const KIND_POLICY_ALL: u32 = 9;
+
+pub const KIND_POLICY_ANY: u32 = 10;
+
+pub const KIND_OR_ELSE: u32 = 11;
+
+pub const KIND_PERMIT_WITH_TRACE: u32 = 12;
+
+pub const KIND_DENY_WITH_TRACE: u32 = 13;
+
+// Records.
+pub const KIND_RESOLVED: u32 = 14;
+
+pub const KIND_PENDING: u32 = 15;
+
+// A first word whose other bits are 0.
+pub const LEAD_HAS: u32 = KIND_HAS * KIND;
+
+pub const LEAD_NOT: u32 = KIND_NOT * KIND;
+
+pub const LEAD_CONDITION_ALL: u32 = KIND_CONDITION_ALL * KIND;
+
+pub const LEAD_CONDITION_ANY: u32 = KIND_CONDITION_ANY * KIND;
+
+pub const LEAD_POLICY_ALL: u32 = KIND_POLICY_ALL * KIND;
+
+pub const LEAD_POLICY_ANY: u32 = KIND_POLICY_ANY * KIND;
+
+pub const LEAD_OR_ELSE: u32 = KIND_OR_ELSE * KIND;
+
+pub const LEAD_PERMIT_WITH_TRACE: u32 = KIND_PERMIT_WITH_TRACE * KIND;
+
+pub const LEAD_DENY_WITH_TRACE: u32 = KIND_DENY_WITH_TRACE * KIND;
+
+pub const LEAD_RESOLVED: u32 = KIND_RESOLVED * KIND;
+
+pub const LEAD_PENDING: u32 = KIND_PENDING * KIND;
+
+// Obligations, a quarter of a word; facts, 10 bits; counts of arms and facts, 12 bits; outcomes, entries, labels and reasons, half a word.
+pub const QUARTER: u32 = 256;
+
 pub const FACTS: u32 = 1024;
 
 pub const COUNTS: u32 = 4096;
 
 pub const HALF: u32 = 65536;
 
+pub const THREE_QUARTERS: u32 = HALF * QUARTER;
+
+// The shape of a Grant and of a DenyWithTrace; whether a DenyWithTrace has an outcome.
+pub const HIDDEN: u32 = 134217728;
+
+pub const DENIED: u32 = 67108864;
+
+// A count of obligations, 7 bits, stands above the other 20; it is at most 64.
+pub const OBLIGATIONS: u32 = 1048576;
+
+pub const OBLIGATION_COUNTS: u32 = 128;
+
+pub const MOST_OBLIGATIONS: u32 = 64;
+
+// An obligation is a number below this.
+pub const OBLIGATION_NUMBERS: u32 = 64;
+
+// Whether a label or a reason is present, above its 15 bits; the presence of an entry, above its fact and four zero bits.
+pub const MARKED: u32 = 32768;
+
+pub const PRESENCE: u32 = facts::ABOVE_FACT;
+
+// The bits between an outcome and the shape, the obligation count, and the bit of a denied outcome.
+const BELOW_SHAPE: u32 = HIDDEN / HALF;
+
+const BELOW_OBLIGATIONS: u32 = OBLIGATIONS / HALF;
+
+const BELOW_DENIED: u32 = DENIED / HALF;
+
 // What stands above a Has's fact, a Permit's outcome, and an All's or an Any's count: the kind, and zero bits.
-pub const HAS: u32 = 524288;
+pub const HAS: u32 = KIND_HAS * (KIND / FACTS);
 
-pub const PERMIT: u32 = 24576;
+pub const PERMIT: u32 = KIND_PERMIT * (KIND / HALF);
 
-const ALL: u32 = 589824;
+const ALL: u32 = KIND_POLICY_ALL * (KIND / COUNTS);
 
-const ANY: u32 = 655360;
+const ANY: u32 = KIND_POLICY_ANY * (KIND / COUNTS);
+
+// The levels of a tree, the words of a sheet and of a record, and the facts or entries of a list, at most.
+pub const LEVELS: usize = 32;
+
+pub const SHEET_WORDS: usize = 4096;
+
+pub const RECORD_WORDS: usize = 16384;
+
+pub const MOST_LISTED: usize = 4095;
+
+// The word at `at`, 0 past the end.
+pub fn word_at(words: &[u32], at: usize) -> u32
+    ensures { λ r. ⌜ r ≡ getD (now (words .entry)) at 0 ⌝ }
+{
+    if at < words.len() { words[at] } else { 0 }
+}
+
+// How many obligations a Grant or a PermitWithTrace has, by its first word.
+pub fn obligations_of(word: u32) -> u32
+    ensures { λ r. ⌜ r ≡ bits (4 + outcomeBits) 7 word ⌝ }
+{
+    word / OBLIGATIONS % OBLIGATION_COUNTS
+}
+
+// The outcome in the last half of a first word.
+pub fn outcome_of(word: u32) -> u16
+    ensures { λ r. ⌜ r ≡ word % 2 ^ outcomeBits ⌝ }
+{
+    (word % HALF) as u16
+}
+
+// How many words so many obligations take, four a word.
+pub fn obligation_words(count: u32) -> usize
+    ensures { λ r. ⌜ r ≡ wordsFor 4 count ⌝ }
+{
+    (count as usize + 3) / 4
+}
+
+// How many words so many facts or entries take, two a word.
+pub fn entry_words(count: u32) -> usize
+    ensures { λ r. ⌜ r ≡ wordsFor 2 count ⌝ }
+{
+    (count as usize + 1) / 2
+}
 
 // What the first word of a condition says.
 pub enum ConditionHead {
@@ -86,32 +222,32 @@ pub fn condition_head(word: u32) -> ConditionHead
         return ConditionHead::Has(rest);
     }
     match word / KIND {
-        0 => if rest == 0 {
+        KIND_ALWAYS => if rest == 0 {
             ConditionHead::Always
         } else {
             ConditionHead::BadField
         },
-        1 => if rest == 0 {
+        KIND_NEVER => if rest == 0 {
             ConditionHead::Never
         } else {
             ConditionHead::BadField
         },
-        2 => if rest < FACTS {
+        KIND_HAS => if rest < FACTS {
             ConditionHead::Has(rest)
         } else {
             ConditionHead::BadField
         },
-        3 => if rest == 0 {
+        KIND_NOT => if rest == 0 {
             ConditionHead::Not
         } else {
             ConditionHead::BadField
         },
-        4 => if rest < COUNTS {
+        KIND_CONDITION_ALL => if rest < COUNTS {
             ConditionHead::All(rest)
         } else {
             ConditionHead::BadField
         },
-        5 => if rest < COUNTS {
+        KIND_CONDITION_ANY => if rest < COUNTS {
             ConditionHead::Any(rest)
         } else {
             ConditionHead::BadField
@@ -135,15 +271,15 @@ fn permit_head(rest: u32) -> PolicyHead
 fn grant_head(rest: u32) -> PolicyHead
     ensures { λ r. ⌜ r ≡ grantHead rest ⌝ }
 {
-    if rest / 1048576 % 128 > 64 {
+    if rest / OBLIGATIONS % OBLIGATION_COUNTS > MOST_OBLIGATIONS {
         return PolicyHead::BadField;
     }
-    if rest / HALF % 16 != 0 {
+    if rest / HALF % BELOW_OBLIGATIONS != 0 {
         return PolicyHead::BadField;
     }
     PolicyHead::Grant {
-        hidden: rest / 134217728 == 1,
-        obligations: rest / 1048576 % 128,
+        hidden: rest / HIDDEN == 1,
+        obligations: rest / OBLIGATIONS % OBLIGATION_COUNTS,
         outcome: (rest % HALF) as u16,
     }
 }
@@ -152,17 +288,17 @@ fn grant_head(rest: u32) -> PolicyHead
 fn permit_trace_head(rest: u32) -> PolicyHead
     ensures { λ r. ⌜ r ≡ permitTraceHead rest ⌝ }
 {
-    if rest / 134217728 != 0 {
+    if rest / HIDDEN != 0 {
         return PolicyHead::BadField;
     }
-    if rest / 1048576 % 128 > 64 {
+    if rest / OBLIGATIONS % OBLIGATION_COUNTS > MOST_OBLIGATIONS {
         return PolicyHead::BadField;
     }
-    if rest / HALF % 16 != 0 {
+    if rest / HALF % BELOW_OBLIGATIONS != 0 {
         return PolicyHead::BadField;
     }
     PolicyHead::PermitWithTrace {
-        obligations: rest / 1048576 % 128,
+        obligations: rest / OBLIGATIONS % OBLIGATION_COUNTS,
         outcome: (rest % HALF) as u16,
     }
 }
@@ -171,12 +307,12 @@ fn permit_trace_head(rest: u32) -> PolicyHead
 fn deny_trace_head(rest: u32) -> PolicyHead
     ensures { λ r. ⌜ r ≡ denyTraceHead rest ⌝ }
 {
-    let hidden = rest / 134217728 == 1;
+    let hidden = rest / HIDDEN == 1;
     let outcome = (rest % HALF) as u16;
-    if rest / HALF % 1024 != 0 {
+    if rest / HALF % BELOW_DENIED != 0 {
         return PolicyHead::BadField;
     }
-    if rest / 67108864 % 2 == 1 {
+    if rest / DENIED % 2 == 1 {
         return PolicyHead::DenyWithTrace {
             hidden,
             denied: true,
@@ -200,34 +336,34 @@ fn head_by_kind(word: u32, residual: bool) -> PolicyHead
 {
     let rest = word % KIND;
     match word / KIND {
-        6 => permit_head(rest),
-        7 => if rest == 0 {
+        KIND_PERMIT => permit_head(rest),
+        KIND_DENY => if rest == 0 {
             PolicyHead::Deny
         } else {
             PolicyHead::BadField
         },
-        8 => grant_head(rest),
-        9 => if rest < COUNTS {
+        KIND_GRANT => grant_head(rest),
+        KIND_POLICY_ALL => if rest < COUNTS {
             PolicyHead::All(rest)
         } else {
             PolicyHead::BadField
         },
-        10 => if rest < COUNTS {
+        KIND_POLICY_ANY => if rest < COUNTS {
             PolicyHead::Any(rest)
         } else {
             PolicyHead::BadField
         },
-        11 => if rest == 0 {
+        KIND_OR_ELSE => if rest == 0 {
             PolicyHead::OrElse
         } else {
             PolicyHead::BadField
         },
-        12 => if residual {
+        KIND_PERMIT_WITH_TRACE => if residual {
             permit_trace_head(rest)
         } else {
             PolicyHead::BadKind
         },
-        13 => if residual {
+        KIND_DENY_WITH_TRACE => if residual {
             deny_trace_head(rest)
         } else {
             PolicyHead::BadKind
@@ -243,7 +379,7 @@ pub fn policy_head(word: u32, residual: bool) -> PolicyHead
     if word / HALF == PERMIT {
         return PolicyHead::Permit((word % HALF) as u16);
     }
-    if word / KIND == 8 {
+    if word / KIND == KIND_GRANT {
         return grant_head(word % KIND);
     }
     if word / COUNTS == ALL {
@@ -264,11 +400,11 @@ pub fn plain_grant(words: &[u32], at: usize) -> bool
         return false;
     }
     let word = words[at];
-    if word / KIND != 8 {
+    if word / KIND != KIND_GRANT {
         return false;
     }
     // neither obligations nor a bit that must be 0
-    if word / HALF % 2048 != 0 {
+    if word / HALF % BELOW_SHAPE != 0 {
         return false;
     }
     if words[at + 1] != 0 {
@@ -278,7 +414,7 @@ pub fn plain_grant(words: &[u32], at: usize) -> bool
 }
 
 // What a check finds: the position after what was checked, or the number of the refusal.
-pub enum Checked {
+enum Checked {
     Next(usize),
     Refused(u32),
 }
@@ -303,7 +439,7 @@ fn with_field(seen: Obligations, field: u32) -> Obligations
                     Obligations::Refused(8)
                 };
             }
-            if field >= 64 {
+            if field >= OBLIGATION_NUMBERS {
                 return Obligations::Refused(8);
             }
             if (mask >> field) % 2 == 1 {
@@ -321,10 +457,10 @@ fn with_field(seen: Obligations, field: u32) -> Obligations
 fn with_word(seen: Obligations, word: u32) -> Obligations
     ensures { λ r. ⌜ r ≡ seenAll seen (split obligationBits 4 word) ⌝ }
 {
-    let first = with_field(seen, word / 16777216);
-    let second = with_field(first, word % 16777216 / HALF);
-    let third = with_field(second, word % HALF / 256);
-    with_field(third, word % 256)
+    let first = with_field(seen, word / THREE_QUARTERS);
+    let second = with_field(first, word % THREE_QUARTERS / HALF);
+    let third = with_field(second, word % HALF / QUARTER);
+    with_field(third, word % QUARTER)
 }
 
 // Checks a list of `count` obligations from `at`.
@@ -357,8 +493,8 @@ fn check_obligations(words: &[u32], at: usize, count: u32) -> Checked
 fn entry_fits(field: u32, presences: u32) -> bool
     ensures { λ r. ⌜ r ≡ entryFits presences field ⌝ }
 {
-    if field / 16384 < presences {
-        field % 16384 < FACTS
+    if field / PRESENCE < presences {
+        field % PRESENCE < FACTS
     } else {
         false
     }
@@ -411,7 +547,7 @@ fn check_facts(words: &[u32], at: usize, count: u32) -> Checked
 fn check_entries(words: &[u32], at: usize, count: u32) -> Checked
     ensures { λ r. ⌜ r ≡ checked pairs at (readList consulted entryBits count (drop at (now (words .entry)))) ⌝ }
 {
-    check_pairs(words, at, count, 3)
+    check_pairs(words, at, count, facts::PRESENCES)
 }
 
 // Whether 16 bits are a label or a reason: present (1), then 15 bits; an absent one is 0.
@@ -421,7 +557,7 @@ fn mark_fits(half: u32) -> bool
     if half == 0 {
         return true;
     }
-    half >= 32768
+    half >= MARKED
 }
 
 // Whether a word is a label and a reason.
@@ -484,10 +620,10 @@ fn condition_step(words: &[u32], at: usize, depth: usize) -> Step
 // Checks the condition at `at`, of at most `depth` levels. One loop, since a call for each level costs more than the level itself: `left` nodes are due at `level`,
 // and `above` says how many are due at each level above it.
 fn check_condition(words: &[u32], at: usize, depth: usize) -> Checked
-    requires { ⌜ depth ≤ 32 ⌝ }
+    requires { ⌜ depth ≤ levels ⌝ }
     ensures { λ r. ⌜ r ≡ checked wordsC at (readCondition depth (drop at (now (words .entry)))) ⌝ }
 {
-    let mut above = [0u32; 32];
+    let mut above = [0u32; LEVELS];
     let mut level = 0;
     let mut left: u32 = 1;
     let mut next = at;
@@ -518,7 +654,7 @@ fn check_condition(words: &[u32], at: usize, depth: usize) -> Checked
 
 // Checks a Grant's condition as `check_condition` does. A Has, the commonest, is seen here, with no array to fill.
 fn check_grant_condition(words: &[u32], at: usize, depth: usize) -> Checked
-    requires { ⌜ depth ≤ 32 ⌝ }
+    requires { ⌜ depth ≤ levels ⌝ }
     ensures { λ r. ⌜ r ≡ checked wordsC at (readCondition depth (drop at (now (words .entry)))) ⌝ }
 {
     if depth != 0 {
@@ -534,7 +670,7 @@ fn check_grant_condition(words: &[u32], at: usize, depth: usize) -> Checked
 // Checks what follows the first word of a Grant at `at`: label and reason, `obligations`, and one condition of at most `depth` levels.
 fn check_grant(words: &[u32], at: usize, depth: usize, obligations: u32) -> Checked
     requires { ⌜ at < length (now words) ⌝ }
-    requires { ⌜ depth ≤ 32 ⌝ }
+    requires { ⌜ depth ≤ levels ⌝ }
     ensures { λ r. ⌜ ((hidden : Bool) (outcome : ℕ) → r ≡ checked wordsT at (grantNode (readCondition depth) hidden obligations outcome (drop (at + 1) (now (words .entry))))) ⌝ }
 {
     let second = at + 1;
@@ -636,8 +772,8 @@ fn step_of(found: Checked) -> Step
 
 // Checks the policy at `at` up to its arms. A Grant's condition is no arm.
 fn policy_step(words: &[u32], at: usize, depth: usize, residual: bool) -> Step
-    requires { ⌜ depth ≤ 32 ⌝ }
-    ensures { λ r. ⌜ Stepped (now (words .entry)) at depth (checked wordsT at (readPolicy (productSets .value) residual depth (drop at (now (words .entry))))) (λ n. checked wordsTs (at + 1) (many pnil pcons (readPolicy (productSets .value) residual (depth - 1)) n (drop (at + 1) (now (words .entry))))) r ⌝ }
+    requires { ⌜ depth ≤ levels ⌝ }
+    ensures { λ r. ⌜ Stepped (now (words .entry)) at depth (checked wordsT at (readPolicy residual depth (drop at (now (words .entry))))) (λ n. checked wordsTs (at + 1) (many pnil pcons (readPolicy residual (depth - 1)) n (drop (at + 1) (now (words .entry))))) r ⌝ }
 {
     if words.len() <= at {
         return Step::Refused(6);
@@ -673,7 +809,7 @@ fn policy_step(words: &[u32], at: usize, depth: usize, residual: bool) -> Step
 
 // The words of the policy at `at`, of at most `depth` levels, if it is a Permit or a plain grant, the commonest; 0 if it is another. So these are passed with no step.
 fn short_policy(words: &[u32], at: usize, depth: usize) -> usize
-    ensures { λ r. ⌜ ((r ≡ 0 → ⊥) → (at + r ≤ length (now (words .entry))) × ((residual : Bool) → Checked.Next (at + r) ≡ checked wordsT at (readPolicy (productSets .value) residual depth (drop at (now (words .entry)))))) ⌝ }
+    ensures { λ r. ⌜ ((r ≡ 0 → ⊥) → (at + r ≤ length (now (words .entry))) × ((residual : Bool) → Checked.Next (at + r) ≡ checked wordsT at (readPolicy residual depth (drop at (now (words .entry)))))) ⌝ }
 {
     if words.len() <= at {
         return 0;
@@ -689,10 +825,10 @@ fn short_policy(words: &[u32], at: usize, depth: usize) -> usize
 
 // Checks the policy at `at`, of at most `depth` levels, its conditions among them, in one loop as `check_condition` does.
 fn check_policy(words: &[u32], at: usize, depth: usize, residual: bool) -> Checked
-    requires { ⌜ depth ≤ 32 ⌝ }
-    ensures { λ r. ⌜ r ≡ checked wordsT at (readPolicy (productSets .value) residual depth (drop at (now (words .entry)))) ⌝ }
+    requires { ⌜ depth ≤ levels ⌝ }
+    ensures { λ r. ⌜ r ≡ checked wordsT at (readPolicy residual depth (drop at (now (words .entry)))) ⌝ }
 {
-    let mut above = [0u32; 32];
+    let mut above = [0u32; LEVELS];
     let mut level = 0;
     let mut left: u32 = 1;
     let mut next = at;
@@ -756,15 +892,15 @@ fn to_the_end(found: Checked, length: usize) -> Checked
 
 // Checks a sheet: 1 to 4,096 words, one tree of at most 32 levels.
 pub fn check_sheet(words: &[u32]) -> SheetCheck
-    ensures { λ r. ⌜ sheetRefusal r ≡ refusal (readSheet (productSets .value) (now (words .entry))) ⌝ }
+    ensures { λ r. ⌜ sheetRefusal r ≡ refusal (readSheet (now (words .entry))) ⌝ }
 {
     if words.len() == 0 {
         return SheetCheck::Refused(1);
     }
-    if words.len() > 4096 {
+    if words.len() > SHEET_WORDS {
         return SheetCheck::Refused(1);
     }
-    match to_the_end(check_policy(words, 0, 32, false), words.len()) {
+    match to_the_end(check_policy(words, 0, LEVELS, false), words.len()) {
         Checked::Next(_) => SheetCheck::Accepted,
         Checked::Refused(number) => SheetCheck::Refused(number),
     }
@@ -772,12 +908,12 @@ pub fn check_sheet(words: &[u32]) -> SheetCheck
 
 // Checks the tree of a Resolved record: one node 12 or 13.
 fn check_resolved(words: &[u32], at: usize) -> Checked
-    ensures { λ r. ⌜ r ≡ checked wordsB at (parse14 (productSets .value) (drop at (now (words .entry)))) ⌝ }
+    ensures { λ r. ⌜ r ≡ checked wordsB at (parse14 (drop at (now (words .entry)))) ⌝ }
 {
     if words.len() <= at {
         return Checked::Refused(6);
     }
-    if words[at] / KIND < 12 {
+    if words[at] / KIND < KIND_PERMIT_WITH_TRACE {
         return Checked::Refused(5);
     }
     check_policy(words, at, 1, true)
@@ -788,7 +924,7 @@ fn check_body(words: &[u32], at: usize, pending: bool) -> Checked
     ensures { λ r. ⌜ r ≡ checked wordsB at (whole (bodyAt pending (drop at (now (words .entry))))) ⌝ }
 {
     if pending {
-        to_the_end(check_policy(words, at, 32, true), words.len())
+        to_the_end(check_policy(words, at, LEVELS, true), words.len())
     } else {
         to_the_end(check_resolved(words, at), words.len())
     }
@@ -818,16 +954,16 @@ fn record_of(body: Checked, pending: bool, count: u32, tree: usize) -> RecordChe
 
 // Checks a record: 1 to 16,384 words; the lead, the consulted entries, one residual tree of at most 32 levels.
 pub fn check_record(words: &[u32]) -> RecordCheck
-    ensures { λ r. ⌜ recordLead r ≡ leadOf (readRecord (productSets .value) (now (words .entry))) ⌝ }
+    ensures { λ r. ⌜ recordLead r ≡ leadOf (readRecord (now (words .entry))) ⌝ }
 {
     if words.len() == 0 {
         return RecordCheck::Refused(1);
     }
-    if words.len() > 16384 {
+    if words.len() > RECORD_WORDS {
         return RecordCheck::Refused(1);
     }
     let kind = words[0] / KIND;
-    if kind < 14 {
+    if kind < KIND_RESOLVED {
         return RecordCheck::Refused(5);
     }
     let count = words[0] % KIND;
@@ -836,8 +972,8 @@ pub fn check_record(words: &[u32]) -> RecordCheck
     }
     match check_entries(words, 1, count) {
         Checked::Next(tree) => record_of(
-            check_body(words, tree, kind == 15),
-            kind == 15,
+            check_body(words, tree, kind == KIND_PENDING),
+            kind == KIND_PENDING,
             count,
             tree,
         ),
@@ -845,61 +981,70 @@ pub fn check_record(words: &[u32]) -> RecordCheck
     }
 }
 
-// The arms that a first word opens, of a condition or a policy.
-fn arms_of(word: u32) -> u32
-    ensures arms { λ r. ⌜ r ≡ armsOf word ⌝ }
-    ensures few { λ r. ⌜ r ≤ 4095 ⌝ }
+// The arms that a first word opens, of a condition or a policy; a Grant's condition is one. The kinds without arms that are the commonest come first.
+pub fn arms_of(word: u32) -> u32
+    ensures { λ r. ⌜ r ≡ armsOf word ⌝ }
 {
-    match word / KIND {
-        3 => 1,
-        4 => word % COUNTS,
-        5 => word % COUNTS,
-        8 => 1,
-        9 => word % COUNTS,
-        10 => word % COUNTS,
-        11 => 2,
+    let kind = word / KIND;
+    if kind < KIND_NOT {
+        return 0;
+    }
+    match kind {
+        KIND_NOT => 1,
+        KIND_CONDITION_ALL => word % COUNTS,
+        KIND_CONDITION_ANY => word % COUNTS,
+        KIND_GRANT => 1,
+        KIND_POLICY_ALL => word % COUNTS,
+        KIND_POLICY_ANY => word % COUNTS,
+        KIND_OR_ELSE => 2,
         _ => 0,
     }
 }
 
 // The words of the facts that the word at `at` counts in its last 12 bits.
 fn facts_at(words: &[u32], at: usize) -> usize
-    ensures facts { λ r. ⌜ r ≡ wordsFor 2 (getD (now (words .entry)) at 0 % 4096) ⌝ }
+    ensures facts { λ r. ⌜ r ≡ wordsFor 2 (getD (now (words .entry)) at 0 % 2 ^ countBits) ⌝ }
     ensures few { λ r. ⌜ r ≤ 2048 ⌝ }
 {
-    if words.len() <= at {
-        return 0;
-    }
-    ((words[at] % COUNTS + 1) / 2) as usize
+    entry_words(word_at(words, at) % COUNTS)
 }
 
-// The words of the node at `at` itself after its first one.
+// The words of the node at `at` itself after its first one. A condition has none.
 fn own_of(words: &[u32], at: usize) -> usize
     requires { ⌜ at < length (now words) ⌝ }
     ensures own { λ r. ⌜ r ≡ ownOf (getD (now (words .entry)) at 0) (drop (at + 1) (now (words .entry))) ⌝ }
     ensures few { λ r. ⌜ r ≤ 4096 ⌝ }
 {
     let word = words[at];
-    match word / KIND {
-        8 => (word / 1048576 % 128 + 3) as usize / 4 + 1,
-        12 => (word / 1048576 % 128 + 3) as usize / 4 + facts_at(words, at + 1) + 1,
-        13 => facts_at(words, at + 2) + 2,
+    let kind = word / KIND;
+    if kind < KIND_GRANT {
+        return 0;
+    }
+    match kind {
+        KIND_GRANT => obligation_words(obligations_of(word)) + 1,
+        KIND_PERMIT_WITH_TRACE => {
+            obligation_words(obligations_of(word)) + facts_at(words, at + 1) + 1
+        }
+        KIND_DENY_WITH_TRACE => facts_at(words, at + 2) + 2,
         _ => 0,
     }
 }
 
-// The position after `count` trees from `at`, by a count of open nodes.
+// The position after `count` trees from `at`, by a count of open nodes: a node closes itself and opens its arms. With as many open as words are left, all
+// words are theirs.
 fn skip_nodes(words: &[u32], at: usize, count: u32) -> usize
-    requires { ⌜ length (now words) ≤ 16384 ⌝ }
     ensures { λ r. ⌜ r ≡ at + span (drop at (now (words .entry))) 0 count ⌝ }
 {
+    if words.len() < at {
+        return at;
+    }
     let mut next = at;
-    let mut nodes = count as u64;
+    let mut nodes = count as usize;
     while nodes != 0 {
-        if words.len() <= next {
-            return next;
+        if words.len() - next <= nodes {
+            return words.len();
         }
-        nodes = nodes - 1 + (arms_of(words[next]) as u64);
+        nodes = nodes - 1 + (arms_of(words[next]) as usize);
         next = next + 1 + own_of(words, next);
         if words.len() < next {
             return words.len();
@@ -908,10 +1053,17 @@ fn skip_nodes(words: &[u32], at: usize, count: u32) -> usize
     next
 }
 
+// The position after `count` conditions from `at` that read there.
+pub fn skip_conditions(words: &[u32], at: usize, count: u32) -> usize
+    ensures { λ r. ⌜ SkippedConditions (now (words .entry)) at count r ⌝ }
+{
+    skip_nodes(words, at, count)
+}
+
 // The position after `count` policies from `at` that read there.
 pub fn skip_policies(words: &[u32], at: usize, count: u32) -> usize
-    requires { ⌜ length (now words) ≤ 16384 ⌝ }
-    ensures { λ r. ⌜ ((depth : ℕ) (residual : Bool) → Skipped wordsTs at (many pnil pcons (readPolicy (productSets .value) residual depth) count (drop at (now (words .entry)))) r) ⌝ }
+    requires { ⌜ length (now words) ≤ recordWords ⌝ }
+    ensures { λ r. ⌜ ((depth : ℕ) (residual : Bool) → Skipped wordsTs at (many pnil pcons (readPolicy residual depth) count (drop at (now (words .entry)))) r) ⌝ }
 {
     skip_nodes(words, at, count)
 }

@@ -6,11 +6,11 @@ use Prim.Native.Nat.{ℕ, zero, suc, _+_, _-_, _≤_, _<_}
 use native.Mathlib.Omega.{arith}
 use lib.ListN.{length, drop, getD}
 use lib.Seq.{drop-drop}
-use Rattle.model.specs.Outcome.{productSets}
 use Rattle.model.specs.Decision.{permits, denies}
 use Rattle.model.specs.Policy.{Policy, permit, deny, grant, all, any, orElse, stored, pnil, pcons}
-use Rattle.model.specs.Reading.{Parsed, got, next, many, readPolicy}
+use Rattle.model.specs.Reading.{Parsed, got, next, many}
 use Rattle.model.specs.Required.{obliges, obligess}
+use Rattle.model.specs.Products.{Outcome, readPolicy}
 use Rattle.laws.specs.FieldLaws.{Holds, fine, then-holds}
 use Rattle.laws.specs.Size.{words, wordss}
 use Rattle.policy_model.specs.Span.{Skipped}
@@ -20,13 +20,13 @@ use Rattle.questions.specs.Nodes.{obligationAt, armsAt, Passed}
 use Rattle.questions.specs.Answers.{Stands}
 use Rattle.questions.proofs.Nodes.{arms, Node, own-or-arms, read-as, held, nothing-reads, node-holds}
 
-abbrev reader : ℕ → List ℕ → Parsed (Policy ℕ)
-reader = readPolicy (productSets .value) true
+abbrev reader : ℕ → List ℕ → Parsed (Policy Outcome)
+reader = readPolicy true
 
 -- One policy reads, and Q holds of the words after it.
 pub record First (us : List ℕ) (b : Bool) (Q : List ℕ → Bool → Type 0) : Type 0 where
   pub depth : ℕ
-  pub tree : Policy ℕ
+  pub tree : Policy Outcome
   pub after : List ℕ
   pub others : Bool
   pub reads : reader depth us ≡ got tree after
@@ -61,7 +61,7 @@ open-many d (suc n) us =
     record { depth = d; tree = t; after = vs; others = obligess ts || c; reads = e; answer = or-assoc (obliges t) (obligess ts) c; rest = h m c o } in
     open-as (let k : suc (n + m) ≡ suc n + m = omega arith in k) refl refl one)))
 
-some-words : (t : Policy ℕ) → 1 ≤ words t
+some-words : (t : Policy Outcome) → 1 ≤ words t
 some-words (permit o) = omega arith
 some-words deny = omega arith
 some-words (grant g c) = omega arith
@@ -133,6 +133,6 @@ module _ (ws : List ℕ) (at : ℕ) where
           open-as (let k : suc n + m ≡ suc m - 1 + suc n = omega arith in k) (ap (λ k. drop k ws) (sym (p .into some))) refl (into-arms (suc n) m e some o)
 
 -- The tree alone is to come.
-pub open-tree : (ws : List ℕ) (at : ℕ) (t : Policy ℕ) → Stands ws at t → Open 1 (drop at ws) (obliges t)
+pub open-tree : (ws : List ℕ) (at : ℕ) (t : Policy Outcome) → Stands ws at t → Open 1 (drop at ws) (obliges t)
 unfolding Open
 open-tree ws at t s = record { depth = s .depth; tree = t; after = []; others = false; reads = s .reads; answer = sym (or-false (obliges t)); rest = refl }

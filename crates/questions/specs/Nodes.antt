@@ -6,16 +6,17 @@ use Prim.Native.Nat.{ℕ, _+_, _%_, _^_}
 use lib.Dec.{eqb}
 use lib.ListN.{drop}
 use Rattle.model.specs.Fields.{bits}
-use Rattle.model.specs.Outcome.{outcomeBits, productSets}
+use Rattle.model.specs.Outcome.{outcomeBits}
 use Rattle.model.specs.Decision.{permits, denies}
 use Rattle.model.specs.Policy.{Policy, permit, deny, grant, all, any, orElse, stored, pnil, pcons}
 use Rattle.model.specs.Writing.{countBits}
-use Rattle.model.specs.Reading.{many, kindOf, readPolicy}
+use Rattle.model.specs.Reading.{many, kindOf}
+use Rattle.model.specs.Products.{Outcome, readPolicy}
 use Rattle.laws.specs.Size.{wordss}
 use Rattle.policy_model.specs.Span.{Skipped}
 
 -- The kind of the top node.
-abbrev pub kindAt : Policy ℕ → ℕ
+abbrev pub kindAt : Policy Outcome → ℕ
 kindAt (permit o) = 6
 kindAt deny = 7
 kindAt (grant g c) = 8
@@ -35,5 +36,5 @@ armsAt w = cond (eqb (kindOf w) 9 || eqb (kindOf w) 10) (w % 2 ^ countBits) (con
 
 -- The policy at `at` is passed: whole, if it has no arms, or else its first word.
 pub record Passed (words : List ℕ) (at arms next : ℕ) : Type 0 where
-  pub over : arms ≡ 0 → (depth : ℕ) → Skipped wordss at (many pnil pcons (readPolicy (productSets .value) true depth) 1 (drop at words)) next
+  pub over : arms ≡ 0 → (depth : ℕ) → Skipped wordss at (many pnil pcons (readPolicy true depth) 1 (drop at words)) next
   pub into : (arms ≡ 0 → ⊥) → next ≡ at + 1

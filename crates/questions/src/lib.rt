@@ -2,15 +2,15 @@
 use policy_model::RecordCheck;
 ghost use mathlib.Core.Path.{_≡_};
 ghost use mathlib.Core.Bool.{_||_};
-ghost use Prim.Native.Nat.{ℕ, _<_, _≤_};
+ghost use Prim.Native.Nat.{_<_, _≤_};
 ghost use lib.Dec.{eqb};
 ghost use lib.ListN.{length};
-ghost use Rattle.model.specs.Outcome.{productSets};
 ghost use Rattle.model.specs.Policy.{Policy};
-ghost use Rattle.model.specs.Reading.{readRecord};
-ghost use Rattle.model.specs.Required.{obliges, isPermitConstant, isDenyConstant, carriesObligation};
+ghost use Rattle.model.specs.Reading.{recordWords};
+ghost use Rattle.model.specs.Required.{obliges};
+ghost use Rattle.model.specs.Products.{Outcome, readRecord, isPermitConstant, isDenyConstant, carriesObligation};
 ghost use Rattle.questions.specs.Nodes.{kindAt, obligationAt, armsAt, Passed};
-ghost use Rattle.questions.specs.Answers.{asked, Stands, SomeTree, Found};
+ghost use Rattle.questions.specs.Answers.{toldOf, Stands, SomeTree, Found};
 
 // Yes or no, or the number of the refusal.
 pub enum Told {
@@ -26,7 +26,7 @@ enum Place {
 
 // Checks a record, Resolved or Pending, and finds its tree.
 fn tree_of(words: &[u32]) -> Place
-    ensures { λ r. ⌜ Found (now (words .entry)) (readRecord (productSets .value) (now (words .entry))) r ⌝ }
+    ensures { λ r. ⌜ Found (now (words .entry)) (readRecord (now (words .entry))) r ⌝ }
 {
     match policy_model::check_record(words) {
         RecordCheck::Resolved { consulted: _, tree } => Place::At(tree),
@@ -48,39 +48,58 @@ fn either(kind: u32, one: u32, other: u32) -> bool
 // The kind of the tree's top node.
 fn top_kind(words: &[u32], at: usize) -> u32
     requires { ⌜ SomeTree (now words) at ⌝ }
-    ensures { λ r. ⌜ ((t : Policy ℕ) → Stands (now (words .entry)) at t → r ≡ kindAt t) ⌝ }
+    ensures { λ r. ⌜ ((t : Policy Outcome) → Stands (now (words .entry)) at t → r ≡ kindAt t) ⌝ }
 {
     words[at] / policy_model::KIND
 }
 
-// Whether the record's tree is a permit: its top node is 6 or 12.
+// Whether the record's tree is a permit: its top node is a Permit or a PermitWithTrace.
 pub fn is_permit_constant(words: &[u32]) -> Told
-    ensures { λ r. ⌜ asked r ≡ isPermitConstant productSets (now (words .entry)) ⌝ }
+    ensures { λ r. ⌜ r ≡ toldOf (isPermitConstant (now (words .entry))) ⌝ }
 {
     match tree_of(words) {
-        Place::At(tree) => Told::Says(either(top_kind(words, tree), 6, 12)),
+        Place::At(tree) => {
+            let kind = top_kind(words, tree);
+            Told::Says(either(
+                kind,
+                policy_model::KIND_PERMIT,
+                policy_model::KIND_PERMIT_WITH_TRACE,
+            ))
+        }
         Place::Refused(number) => Told::Refused(number),
     }
 }
 
-// Whether the record's tree is a deny: its top node is 7 or 13.
+// Whether the record's tree is a deny: its top node is a Deny or a DenyWithTrace.
 pub fn is_deny_constant(words: &[u32]) -> Told
-    ensures { λ r. ⌜ asked r ≡ isDenyConstant productSets (now (words .entry)) ⌝ }
+    ensures { λ r. ⌜ r ≡ toldOf (isDenyConstant (now (words .entry))) ⌝ }
 {
     match tree_of(words) {
-        Place::At(tree) => Told::Says(either(top_kind(words, tree), 7, 13)),
+        Place::At(tree) => {
+            let kind = top_kind(words, tree);
+            Told::Says(either(
+                kind,
+                policy_model::KIND_DENY,
+                policy_model::KIND_DENY_WITH_TRACE,
+            ))
+        }
         Place::Refused(number) => Told::Refused(number),
     }
 }
 
-// Whether a policy's first word is that of an 8 or 12 with obligations.
+// Whether a policy's first word is that of a Grant or a PermitWithTrace with obligations.
 fn obligation_at(word: u32) -> bool
     ensures { λ r. ⌜ r ≡ obligationAt word ⌝ }
 {
-    if word / 1048576 % 128 == 0 {
+    if policy_model::obligations_of(word) == 0 {
         return false;
     }
-    either(word / policy_model::KIND, 8, 12)
+    let kind = word / policy_model::KIND;
+    either(
+        kind,
+        policy_model::KIND_GRANT,
+        policy_model::KIND_PERMIT_WITH_TRACE,
+    )
 }
 
 // How many policies are the arms of a policy with this first word.
@@ -88,10 +107,14 @@ fn arms_at(word: u32) -> u32
     ensures { λ r. ⌜ r ≡ armsAt word ⌝ }
 {
     let kind = word / policy_model::KIND;
-    if either(kind, 9, 10) {
-        return word % 4096;
+    if either(
+        kind,
+        policy_model::KIND_POLICY_ALL,
+        policy_model::KIND_POLICY_ANY,
+    ) {
+        return word % policy_model::COUNTS;
     }
-    if kind == 11 {
+    if kind == policy_model::KIND_OR_ELSE {
         return 2;
     }
     0
@@ -99,7 +122,7 @@ fn arms_at(word: u32) -> u32
 
 // The index of the policy after the one at `at`, or of its first arm.
 fn next_policy(words: &[u32], at: usize, arms: u32) -> usize
-    requires { ⌜ (length (now words) ≤ 16384) × (at < length (now words)) ⌝ }
+    requires { ⌜ (length (now words) ≤ recordWords) × (at < length (now words)) ⌝ }
     ensures { λ r. ⌜ Passed (now (words .entry)) at arms r ⌝ }
 {
     if arms == 0 {
@@ -111,7 +134,7 @@ fn next_policy(words: &[u32], at: usize, arms: u32) -> usize
 // Looks for an obligation in the tree at `at`, from node to node by a count of the policies that are to come.
 fn carries(words: &[u32], at: usize) -> bool
     requires { ⌜ SomeTree (now words) at ⌝ }
-    ensures { λ r. ⌜ ((t : Policy ℕ) → Stands (now (words .entry)) at t → r ≡ obliges t) ⌝ }
+    ensures { λ r. ⌜ ((t : Policy Outcome) → Stands (now (words .entry)) at t → r ≡ obliges t) ⌝ }
 {
     let mut next = at;
     let mut left: u64 = 1;
@@ -130,9 +153,9 @@ fn carries(words: &[u32], at: usize) -> bool
     false
 }
 
-// Whether any 8 or 12 of the record's tree has obligations.
+// Whether any Grant or PermitWithTrace of the record's tree has obligations.
 pub fn carries_obligation(words: &[u32]) -> Told
-    ensures { λ r. ⌜ asked r ≡ carriesObligation productSets (now (words .entry)) ⌝ }
+    ensures { λ r. ⌜ r ≡ toldOf (carriesObligation (now (words .entry))) ⌝ }
 {
     match tree_of(words) {
         Place::At(tree) => Told::Says(carries(words, tree)),

@@ -9,10 +9,10 @@ use borrow.Author.Tests.{ltb-true, ltb-false, lt-leb, le-leb}
 use lib.Dec.{eqb, ltb}
 use lib.ListN.{length-map}
 use Rattle.model.specs.Fields.{pack}
-use Rattle.model.specs.Outcome.{productSets}
 use Rattle.model.specs.Record.{Record, tree}
-use Rattle.model.specs.Writing.{entryBits, word, entryField, encode, leadKind, encodeR}
+use Rattle.model.specs.Writing.{entryBits, word, entryField}
 use Rattle.model.specs.Reading.{got, unless, mark}
+use Rattle.model.specs.Products.{Outcome, encode, leadKind, encodeR}
 use Rattle.laws.specs.FieldLaws.{Holds, fine, if-holds}
 use Rattle.record.specs.Nodes.{markIn, leadOf, frontWords}
 
@@ -29,8 +29,8 @@ mark-in-read half = mark-at half (ltb half 32768) refl
 -- ---- nodes and records
 
 -- A record is its front and then its tree.
-pub record-words : (r : Record ℕ) (resolved : Bool) (es : List ℕ) → leadKind (productSets .number) (r .body) ≡ leadOf resolved → es ≡ map entryField (r .log) →
-    frontWords resolved es ++ encode (productSets .number) (tree r) ≡ encodeR (productSets .number) r
+pub record-words : (r : Record Outcome) (resolved : Bool) (es : List ℕ) → leadKind (r .body) ≡ leadOf resolved → es ≡ map entryField (r .log) →
+    frontWords resolved es ++ encode (tree r) ≡ encodeR r
 record-words r resolved es k e =
-    ap (λ l. frontWords resolved l ++ encode (productSets .number) (tree r)) e
-    ∙ ap₂ (λ x n. word x n ∷ (pack entryBits (map entryField (r .log)) ++ encode (productSets .number) (tree r))) (sym k) (length-map (r .log) entryField)
+    ap (λ l. frontWords resolved l ++ encode (tree r)) e
+    ∙ ap₂ (λ x n. word x n ∷ (pack entryBits (map entryField (r .log)) ++ encode (tree r))) (sym k) (length-map (r .log) entryField)

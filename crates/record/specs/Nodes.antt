@@ -6,10 +6,11 @@ use Prim.Native.Nat.{ℕ, _+_, _%_, _^_}
 use lib.Dec.{leb}
 use lib.ListN.{length}
 use Rattle.model.specs.Fields.{above, pack}
-use Rattle.model.specs.Outcome.{outcomeBits, productSets}
+use Rattle.model.specs.Outcome.{outcomeBits}
 use Rattle.model.specs.Decision.{Decision, permits, denies}
-use Rattle.model.specs.Writing.{countBits, markBits, entryBits, word, shapeBit, marked, deniedField, encodeD}
+use Rattle.model.specs.Writing.{countBits, markBits, entryBits, word, shapeBit, marked}
 use Rattle.model.specs.Reading.{shapeOf}
+use Rattle.model.specs.Products.{Outcome, deniedField, encodeD}
 use Rattle.policy_model.specs.Heads.{bitOf, deniedBy}
 use Rattle.record.specs.declared.Mark.{Mark}
 use Rattle.record.specs.declared.Denied.{Denied}
@@ -26,15 +27,15 @@ markIn half = cond (leb (2 ^ markBits) half) (some (half % 2 ^ markBits)) none
 abbrev pub deniedOf : Denied → Option ℕ
 deniedOf d = deniedBy (d .present) (d .outcome)
 
-abbrev pub permitOf : ℕ → Mark → List ℕ → List ℕ → Decision ℕ
+abbrev pub permitOf : ℕ → Mark → List ℕ → List ℕ → Decision Outcome
 permitOf outcome label os fs = permits (record { outcome = outcome; obligations = os; label = markOf label; facts = fs })
 
-abbrev pub denyOf : Denied → Bool → Mark → Mark → List ℕ → Decision ℕ
+abbrev pub denyOf : Denied → Bool → Mark → Mark → List ℕ → Decision Outcome
 denyOf denied hidden label reason fs = denies (record { denied = deniedOf denied; facts = fs; label = markOf label; reason = markOf reason; shape = shapeOf (bitOf hidden) })
 
 -- A decision's words.
-abbrev pub decisionWords : Decision ℕ → List ℕ
-decisionWords d = encodeD (productSets .number) d
+abbrev pub decisionWords : Decision Outcome → List ℕ
+decisionWords d = encodeD d
 
 -- 12 PermitWithTrace: its first two words, with n obligations and m facts; and the node, its obligations as the words that they take.
 abbrev pub permitFront : ℕ → ℕ → Mark → ℕ → List ℕ
@@ -46,7 +47,7 @@ permitWords outcome n label packed fs = permitFront outcome n label (length fs) 
 -- 13 DenyWithTrace: its first three words, with m facts.
 abbrev pub denyFront : Denied → Bool → Mark → Mark → ℕ → List ℕ
 denyFront denied hidden label reason m =
-    word 13 (above (1 + 10 + outcomeBits) (shapeBit (shapeOf (bitOf hidden))) + deniedField (productSets .number) (deniedOf denied))
+    word 13 (above (1 + 10 + outcomeBits) (shapeBit (shapeOf (bitOf hidden))) + deniedField (deniedOf denied))
     ∷ (above (1 + markBits) (marked (markOf label)) + marked (markOf reason))
     ∷ m
     ∷ []

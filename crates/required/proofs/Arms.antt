@@ -42,10 +42,6 @@ refused-either size names at end s t false n m = tt
 pub left-of : (xs vs us : List ℕ) (n : ℕ) → length xs ≡ n → xs ++ vs ≡ us → vs ≡ drop n us
 left-of xs vs us n h e = sym (drop-at xs vs n h) ∙ ap (drop n) e
 
-pub onward-then : {B : Type 0} {sizes : B → ℕ} {namess : ℕ → B → Bool} {arms : ℕ → List ℕ → Parsed B} {sheet : List ℕ} (from count : ℕ) (s : List ℕ) (mid some : ℕ) (t : List ℕ) (at left : ℕ) (u : List ℕ) →
-    Onward sizes namess arms sheet from count s mid some t → Onward sizes namess arms sheet mid some t at left u → Onward sizes namess arms sheet from count s at left u
-onward-then from count s mid some t at left u o v = record { onward = λ x end w. o .onward x end (v .onward x end w) }
-
 -- Arms that are read by p, the words of each and the facts that it names; and the same of a list of arms.
 module _ {A B : Type 0} (nil : B) (cons : A → B → B) (size : A → ℕ) (sizes : B → ℕ) (names : ℕ → A → Bool) (namess : ℕ → B → Bool)
     (size-nil : sizes nil ≡ 0) (size-cons : (a : A) (b : B) → sizes (cons a b) ≡ size a + sizes b)

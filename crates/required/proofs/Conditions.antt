@@ -21,14 +21,14 @@ use Rattle.policy_model.specs.declared.ConditionHead.the-variants.{Always, Neve
 use Rattle.policy_model.specs.declared.ConditionHead.the-variants as condition
 use Rattle.policy_model.specs.Heads.{conditionHeads, conditionHead, conditionNode}
 use Rattle.policy_model.specs.HeadLaws.{condition-node, has-word}
+use Rattle.policy_model.specs.Span.{armsBy, armsOf}
 use Rattle.fact_set.specs.Sets.{Grown}
 use Rattle.required.specs.Sets.{Walked, Collected}
-use Rattle.required.specs.Nodes.{ConditionArms}
 use Rattle.required.specs.Arms.{OnwardC}
 use Rattle.required.proofs.Arms.{grown-none, grown-as, walked-then, walked-as, refused-either, left-of, onward-more, onward-end}
 
 -- What a condition leaves begins where its words end.
-pub condition-left : (d : ℕ) (us : List ℕ) → Holds (λ c vs. vs ≡ drop (wordsC c) us) (readCondition d us)
+condition-left : (d : ℕ) (us : List ℕ) → Holds (λ c vs. vs ≡ drop (wordsC c) us) (readCondition d us)
 condition-left d us = weaker (readCondition d us) (λ c vs e. left-of (encodeC c) vs us (wordsC c) (length-encodeC c) e) (same-C d us)
 
 -- The loop over its arms.
@@ -52,42 +52,36 @@ ownFact (condition.Any n) f = false
 ownFact condition.BadKind f = false
 ownFact condition.BadField f = false
 
--- Its arms by the kind of its word.
+-- The arms of a condition. Of a word that is none, nothing is said.
+unfoldable ConditionArms : ConditionHead → ℕ → Type 0
+ConditionArms Always k = k ≡ 0
+ConditionArms Never k = k ≡ 0
+ConditionArms (Has g) k = k ≡ 0
+ConditionArms Not k = k ≡ 1
+ConditionArms (condition.All n) k = k ≡ n
+ConditionArms (condition.Any n) k = k ≡ n
+ConditionArms condition.BadKind k = Unit {0}
+ConditionArms condition.BadField k = Unit {0}
+
+-- They are those that its word opens.
 arms-if : (b : Bool) (h : ConditionHead) (k : ℕ) → (b ≡ true → ConditionArms h k) → ConditionArms (cond b h condition.BadField) k
 unfolding ConditionArms
 arms-if true h k a = a refl
 arms-if false h k a = tt
 
-module _ (w : ℕ) where
-  pub one-arm-word : w / 268435456 ≡ 3 → ConditionArms (conditionHead w) 1
-  unfolding conditionHead ConditionArms
-  one-arm-word e = rw e (arms-if (eqb (w % 268435456) 0) Not 1 (λ _. refl))
-
-  -- A count that fits its twelve bits.
-  counted-arms : (node : ℕ → ConditionHead) → ((n : ℕ) → n ≡ w % 4096 → ConditionArms (node n) (w % 4096)) → ConditionArms (cond (ltb (w % 268435456) 4096) (node (w % 268435456)) condition.BadField) (w % 4096)
-  counted-arms node f = arms-if (ltb (w % 268435456) 4096) (node (w % 268435456)) (w % 4096) (λ b. let small = ltb-true (w % 268435456) 4096 b in f (w % 268435456) (omega arith))
-
-  pub all-arms-word : w / 268435456 ≡ 4 → ConditionArms (conditionHead w) (w % 4096)
-  unfolding conditionHead ConditionArms
-  all-arms-word e = rw e (counted-arms condition.All (λ n h. sym h))
-
-  pub any-arms-word : w / 268435456 ≡ 5 → ConditionArms (conditionHead w) (w % 4096)
-  unfolding conditionHead ConditionArms
-  any-arms-word e = rw e (counted-arms condition.Any (λ n h. sym h))
-
-no-arms-at : (k r : ℕ) → (k ≡ 3 → ⊥) → (k ≡ 4 → ⊥) → (k ≡ 5 → ⊥) → ConditionArms (getD (conditionHeads r) k condition.BadKind) 0
+arms-at : (k r n : ℕ) → (r < 4096 → n ≡ r) → ConditionArms (getD (conditionHeads r) k condition.BadKind) (getD (armsBy n) k 0)
 unfolding ConditionArms
-no-arms-at zero r x y z = arms-if (eqb r 0) Always 0 (λ _. refl)
-no-arms-at (suc zero) r x y z = arms-if (eqb r 0) Never 0 (λ _. refl)
-no-arms-at (suc (suc zero)) r x y z = arms-if (ltb r 1024) (Has r) 0 (λ _. refl)
-no-arms-at (suc (suc (suc zero))) r x y z = absurd (x refl)
-no-arms-at (suc (suc (suc (suc zero)))) r x y z = absurd (y refl)
-no-arms-at (suc (suc (suc (suc (suc zero))))) r x y z = absurd (z refl)
-no-arms-at (suc (suc (suc (suc (suc (suc k)))))) r x y z = tt
+arms-at zero r n f = arms-if (eqb r 0) Always 0 (λ _. refl)
+arms-at (suc zero) r n f = arms-if (eqb r 0) Never 0 (λ _. refl)
+arms-at (suc (suc zero)) r n f = arms-if (ltb r 1024) (Has r) 0 (λ _. refl)
+arms-at (suc (suc (suc zero))) r n f = arms-if (eqb r 0) Not 1 (λ _. refl)
+arms-at (suc (suc (suc (suc zero)))) r n f = arms-if (ltb r 4096) (condition.All r) n (λ b. f (ltb-true r 4096 b))
+arms-at (suc (suc (suc (suc (suc zero))))) r n f = arms-if (ltb r 4096) (condition.Any r) n (λ b. f (ltb-true r 4096 b))
+arms-at (suc (suc (suc (suc (suc (suc k)))))) r n f = tt
 
-pub no-arms-word : (w : ℕ) → (w / 268435456 ≡ 3 → ⊥) → (w / 268435456 ≡ 4 → ⊥) → (w / 268435456 ≡ 5 → ⊥) → ConditionArms (conditionHead w) 0
-unfolding conditionHead
-no-arms-word w x y z = no-arms-at (w / 268435456) (w % 268435456) x y z
+arms-opened : (w : ℕ) → ConditionArms (conditionHead w) (armsOf w)
+unfolding conditionHead armsOf
+arms-opened w = arms-at (w / 268435456) (w % 268435456) (w % 4096) (λ h. omega arith)
 
 -- A condition by its head: its first word, its own fact, and its arms.
 module _ (p : List ℕ → Parsed Condition) (ws : List ℕ) (at end : ℕ) (s t u : List ℕ) where
@@ -174,17 +168,12 @@ module _ (sheet : List ℕ) (at depth : ℕ) (s : List ℕ) (inside : at < lengt
       rw (condition-here sheet at depth inside some, ← has-word w e) v
 
   -- Any other: the head, and the arms to the last.
-  pub condition-walked : (end : ℕ) (u : List ℕ) (count left : ℕ) → (getD sheet at 0 / 1024 ≡ 524288 → ⊥) → ConditionArms (conditionHead (getD sheet at 0)) count → left ≡ 0 →
+  pub condition-walked : (end : ℕ) (u : List ℕ) (count left : ℕ) → (getD sheet at 0 / 1024 ≡ 524288 → ⊥) → count ≡ armsOf (getD sheet at 0) → left ≡ 0 →
       OnwardC (depth - 1) sheet (at + 1) count s end left u → Collected wordsC namesC at s u (readCondition depth (drop at sheet)) end
-  condition-walked end u count left other a z o =
+  condition-walked end u count left other e z o =
       let p : List ℕ → Parsed Condition = λ vs. readCondition (depth - 1) vs in
       let ws = drop (at + 1) sheet in
       let h = conditionHead (getD sheet at 0) in
+      let a : ConditionArms h count = subst (ConditionArms h) (sym e) (arms-opened (getD sheet at 0)) in
       let g : Grown (ownFact h) s s = grown-as (λ f. sym (no-has (getD sheet at 0) f other)) (grown-none s) in
       subst (λ q. Collected wordsC namesC at s u q end) (sym (condition-here sheet at depth inside some)) (condition-facts p ws at end s s u h count a g (onward-end-C (depth - 1) sheet (at + 1) count s end left u z o))
-
--- A Has, at whatever level it stands.
-pub has-here : (sheet : List ℕ) (at depth : ℕ) (s t : List ℕ) → at < length sheet → getD sheet at 0 / 1024 ≡ 524288 → Grown (λ f. eqb f (getD sheet at 0 % 1024)) s t →
-    Collected wordsC namesC at s t (readCondition depth (drop at sheet)) (at + 1)
-has-here sheet at zero s t inside e g = condition-deep sheet at 0 s t (at + 1) inside refl
-has-here sheet at (suc d) s t inside e g = has-walked sheet at (suc d) s inside (λ z. let b : ⊥ = omega arith in b) t e g

@@ -5,13 +5,13 @@ use mathlib.Core.List.{List, [], _∷_}
 use Prim.Native.Nat.{ℕ, zero, suc, _+_, _-_, _≤_, _<_}
 use native.Mathlib.Nat.{zero-add}
 use native.Mathlib.Omega.{arith}
-use borrow.Author.Tests.{eq-eqb, ne-eqb}
 use lib.ListN.{length, drop, getD, drop-of-length-le, replicate}
 use lib.Seq.{drop-cons, drop-drop}
 use Rattle.model.specs.Outcome.{productSets}
 use Rattle.model.specs.Policy.{Policy, permit, deny, all, any, orElse, Policies, pnil, pcons, names, namess}
-use Rattle.model.specs.Reading.{Parsed, refuse, got, next, many, levels, readCondition, readPolicy}
-use Rattle.model.specs.Required.{factSet, ones}
+use Rattle.model.specs.Reading.{Parsed, refuse, got, next, many, levels, readCondition}
+use Rattle.model.specs.Required.{ones}
+use Rattle.model.specs.Products.{Outcome, readPolicy}
 use Rattle.laws.specs.FieldLaws.{Holds}
 use Rattle.laws.specs.Deeper.{Follows, deeper}
 use Rattle.laws.specs.Size.{words}
@@ -24,22 +24,22 @@ use Rattle.fact_set.specs.SetLaws.{empty-set}
 use Rattle.required.specs.Sets.{Walked, Collected, ToTheEnd}
 use Rattle.required.specs.Nodes.{policyArms, OwnFacts}
 use Rattle.required.specs.Arms.{Toward}
-use Rattle.required.specs.Answers.{Filled, FactsOf}
+use Rattle.required.specs.Answers.{setAfter, SetOf, FactsOf}
 use Rattle.required.proofs.Arms.{grown-none, grown-as, grown-then}
 use Rattle.required.proofs.Policies.{policy-left, policy-here}
 
 -- The arms of a list are read with a level less.
-abbrev P : List ℕ → Parsed (Policy ℕ)
-P ws = readPolicy (productSets .value) true 31 ws
+abbrev P : List ℕ → Parsed (Policy Outcome)
+P ws = readPolicy true 31 ws
 
-abbrev Q : List ℕ → Parsed (Policy ℕ)
-Q ws = readPolicy (productSets .value) true levels ws
+abbrev Q : List ℕ → Parsed (Policy Outcome)
+Q ws = readPolicy true levels ws
 
-abbrev consed : Policy ℕ → Parsed (Policies ℕ) → Parsed (Policies ℕ)
+abbrev consed : Policy Outcome → Parsed (Policies Outcome) → Parsed (Policies Outcome)
 consed a q = next q (λ xs us. got (pcons a xs) us)
 
 -- n more policies after one.
-abbrev andMore : ℕ → Parsed (Policy ℕ) → Parsed (Policies ℕ)
+abbrev andMore : ℕ → Parsed (Policy Outcome) → Parsed (Policies Outcome)
 andMore n q = next q (λ a vs. consed a (many pnil pcons Q n vs))
 
 -- ---- facts added before, and what follows what was read
@@ -55,40 +55,40 @@ end-follows named (refuse n) q s u f h = tt
 end-follows named (got a []) q s u f h = subst (λ x. ToTheEnd named x s u) (f .it) h
 end-follows named (got a (w ∷ ws)) q s u f h = tt
 
-end-cons : (a : Policy ℕ) (q : Parsed (Policies ℕ)) (s t u : List ℕ) → Grown (λ f. names f a) s t → ToTheEnd namess q t u → ToTheEnd namess (consed a q) s u
+end-cons : (a : Policy Outcome) (q : Parsed (Policies Outcome)) (s t u : List ℕ) → Grown (λ f. names f a) s t → ToTheEnd namess q t u → ToTheEnd namess (consed a q) s u
 unfolding ToTheEnd
 end-cons a (refuse n) s t u g h = tt
 end-cons a (got ts []) s t u g h = grown-then g h
 end-cons a (got ts (w ∷ ws)) s t u g h = tt
 
 -- ---- the arms of a list, at the level of the list
-abbrev join : Policies ℕ → Policies ℕ → Policies ℕ
+abbrev join : Policies Outcome → Policies Outcome → Policies Outcome
 join pnil us = us
 join (pcons t ts) us = pcons t (join ts us)
 
-names-join : (f : ℕ) (ts us : Policies ℕ) → namess f (join ts us) ≡ (namess f ts || namess f us)
+names-join : (f : ℕ) (ts us : Policies Outcome) → namess f (join ts us) ≡ (namess f ts || namess f us)
 names-join f pnil us = refl
 names-join f (pcons t ts) us = ap (λ b. names f t || b) (names-join f ts us) ∙ sym (or-assoc (names f t) (namess f ts) (namess f us))
 
-abbrev joined : Policies ℕ → Parsed (Policies ℕ) → Parsed (Policies ℕ)
+abbrev joined : Policies Outcome → Parsed (Policies Outcome) → Parsed (Policies Outcome)
 joined ts q = next q (λ us zs. got (join ts us) zs)
 
 refused : {A : Type 0} {n : ℕ} {q : Parsed A} → Follows (refuse n) q
 refused = record { it = tt }
 
-join-none : (q : Parsed (Policies ℕ)) → Follows (joined pnil q) q
+join-none : (q : Parsed (Policies Outcome)) → Follows (joined pnil q) q
 join-none (refuse n) = refused
 join-none (got us zs) = record { it = refl }
 
-join-last : (a : Policy ℕ) (ts : Policies ℕ) (m z : Parsed (Policies ℕ)) → Follows (joined ts m) z → Follows (joined (pcons a ts) m) (consed a z)
+join-last : (a : Policy Outcome) (ts : Policies Outcome) (m z : Parsed (Policies Outcome)) → Follows (joined ts m) z → Follows (joined (pcons a ts) m) (consed a z)
 join-last a ts (refuse n) z h = refused
 join-last a ts (got us zs) z h = record { it = ap (consed a) (h .it) }
 
-join-more : (a : Policy ℕ) (n : ℕ) (y z : Parsed (Policies ℕ)) → Follows (next y (λ ts vs. joined ts (many pnil pcons Q n vs))) z → Follows (next (consed a y) (λ ts vs. joined ts (many pnil pcons Q n vs))) (consed a z)
+join-more : (a : Policy Outcome) (n : ℕ) (y z : Parsed (Policies Outcome)) → Follows (next y (λ ts vs. joined ts (many pnil pcons Q n vs))) z → Follows (next (consed a y) (λ ts vs. joined ts (many pnil pcons Q n vs))) (consed a z)
 join-more a n (refuse k) z h = refused
 join-more a n (got ts vs) z h = join-last a ts (many pnil pcons Q n vs) z h
 
-join-first : (k n : ℕ) → ((vs : List ℕ) → Follows (next (many pnil pcons P k vs) (λ ts us. joined ts (many pnil pcons Q n us))) (many pnil pcons Q (k + n) vs)) → (x y : Parsed (Policy ℕ)) → Follows x y →
+join-first : (k n : ℕ) → ((vs : List ℕ) → Follows (next (many pnil pcons P k vs) (λ ts us. joined ts (many pnil pcons Q n us))) (many pnil pcons Q (k + n) vs)) → (x y : Parsed (Policy Outcome)) → Follows x y →
     Follows (next (next x (λ a vs. consed a (many pnil pcons P k vs))) (λ ts vs. joined ts (many pnil pcons Q n vs))) (next y (λ a vs. consed a (many pnil pcons Q (k + n) vs)))
 join-first k n more (refuse j) y h = refused
 join-first k n more (got a vs) y h =
@@ -104,32 +104,32 @@ join-arms (suc k) n ws =
 -- ---- one node and its arms
 module _ (t u : List ℕ) (n : ℕ) where
   -- All or Any.
-  end-list : (node : Policies ℕ → Policy ℕ) (ts : Policies ℕ) (q : Parsed (Policies ℕ)) → ((f : ℕ) → namess f ts ≡ names f (node ts)) → ToTheEnd namess (joined ts q) t u → ToTheEnd namess (consed (node ts) q) t u
+  end-list : (node : Policies Outcome → Policy Outcome) (ts : Policies Outcome) (q : Parsed (Policies Outcome)) → ((f : ℕ) → namess f ts ≡ names f (node ts)) → ToTheEnd namess (joined ts q) t u → ToTheEnd namess (consed (node ts) q) t u
   unfolding ToTheEnd
   end-list node ts (refuse k) e h = tt
   end-list node ts (got us []) e h = grown-as (λ f. names-join f ts us ∙ ap (λ b. b || namess f us) (e f)) h
   end-list node ts (got us (w ∷ ws)) e h = tt
 
-  end-arms : (node : Policies ℕ → Policy ℕ) → ((f : ℕ) (ts : Policies ℕ) → namess f ts ≡ names f (node ts)) → (x : Parsed (Policies ℕ)) →
+  end-arms : (node : Policies Outcome → Policy Outcome) → ((f : ℕ) (ts : Policies Outcome) → namess f ts ≡ names f (node ts)) → (x : Parsed (Policies Outcome)) →
       ToTheEnd namess (next x (λ ts vs. joined ts (many pnil pcons Q n vs))) t u → ToTheEnd namess (andMore n (next x (λ ts vs. got (node ts) vs))) t u
   unfolding ToTheEnd
   end-arms node e (refuse k) h = tt
   end-arms node e (got ts vs) h = end-list node ts (many pnil pcons Q n vs) (λ f. e f ts) h
 
   -- OrElse.
-  end-both : (a b : Policy ℕ) (q : Parsed (Policies ℕ)) → ToTheEnd namess (joined (pcons a (pcons b pnil)) q) t u → ToTheEnd namess (consed (orElse a b) q) t u
+  end-both : (a b : Policy Outcome) (q : Parsed (Policies Outcome)) → ToTheEnd namess (joined (pcons a (pcons b pnil)) q) t u → ToTheEnd namess (consed (orElse a b) q) t u
   unfolding ToTheEnd
   end-both a b (refuse k) h = tt
   end-both a b (got us []) h = grown-as (λ f. sym (or-assoc (names f a) (names f b) (namess f us))) h
   end-both a b (got us (w ∷ ws)) h = tt
 
-  end-second : (a : Policy ℕ) (x : Parsed (Policy ℕ)) → ToTheEnd namess (next (consed a (next x (λ b us. got (pcons b pnil) us))) (λ ts vs. joined ts (many pnil pcons Q n vs))) t u →
+  end-second : (a : Policy Outcome) (x : Parsed (Policy Outcome)) → ToTheEnd namess (next (consed a (next x (λ b us. got (pcons b pnil) us))) (λ ts vs. joined ts (many pnil pcons Q n vs))) t u →
       ToTheEnd namess (andMore n (next x (λ b us. got (orElse a b) us))) t u
   unfolding ToTheEnd
   end-second a (refuse k) h = tt
   end-second a (got b us) h = end-both a b (many pnil pcons Q n us) h
 
-  end-two : (x : Parsed (Policy ℕ)) → ToTheEnd namess (next (next x (λ a vs. consed a (next (P vs) (λ b us. got (pcons b pnil) us)))) (λ ts vs. joined ts (many pnil pcons Q n vs))) t u →
+  end-two : (x : Parsed (Policy Outcome)) → ToTheEnd namess (next (next x (λ a vs. consed a (next (P vs) (λ b us. got (pcons b pnil) us)))) (λ ts vs. joined ts (many pnil pcons Q n vs))) t u →
       ToTheEnd namess (andMore n (next x (λ a vs. next (P vs) (λ b us. got (orElse a b) us)))) t u
   unfolding ToTheEnd
   end-two (refuse k) h = tt
@@ -140,7 +140,7 @@ module _ (sheet : List ℕ) (at mid : ℕ) (s t : List ℕ) where
   here = drop (at + 1) sheet
 
   -- A node without arms.
-  end-first : (n : ℕ) (u : List ℕ) (q : Parsed (Policy ℕ)) → Holds (λ a vs. vs ≡ drop (words a) (drop at sheet)) q → Collected words names at s t q mid → ToTheEnd namess (many pnil pcons Q (0 + n) (drop mid sheet)) t u →
+  end-first : (n : ℕ) (u : List ℕ) (q : Parsed (Policy Outcome)) → Holds (λ a vs. vs ≡ drop (words a) (drop at sheet)) q → Collected words names at s t q mid → ToTheEnd namess (many pnil pcons Q (0 + n) (drop mid sheet)) t u →
       ToTheEnd namess (andMore n q) s u
   unfolding ToTheEnd Collected
   end-first n u (refuse k) h v w = tt
@@ -192,7 +192,7 @@ module _ (sheet : List ℕ) (at mid : ℕ) (s t : List ℕ) where
     toward-more from r o = record { nodes = policyArms (policyHead (getD sheet at 0) true) + (o .nodes - 1); toward = λ u w. o .toward u (pass (o .nodes) u w) }
 
 -- ---- the walk begins with one node, and ends with the words
-one-node : (q : Parsed (Policy ℕ)) (s u : List ℕ) → ToTheEnd namess (andMore 0 q) s u → ToTheEnd names q s u
+one-node : (q : Parsed (Policy Outcome)) (s u : List ℕ) → ToTheEnd namess (andMore 0 q) s u → ToTheEnd names q s u
 unfolding ToTheEnd
 one-node (refuse n) s u h = tt
 one-node (got a []) s u h = grown-as (λ f. or-false (names f a)) h
@@ -210,23 +210,14 @@ pub toward-end : (sheet : List ℕ) (from at : ℕ) (s t : List ℕ) → length 
 toward-end sheet from at s t h o = o .toward t (subst (λ ws. ToTheEnd namess (many pnil pcons Q (o .nodes) ws) t t) (sym (drop-of-length-le sheet h)) (no-words (o .nodes) t))
 
 -- ---- a policy's facts, from an empty set on
-pub fills : (q : Parsed (Policy ℕ)) (none facts : List ℕ) (count : ℕ) → none ≡ replicate 16 0 → ToTheEnd names q none facts → count ≡ ones facts → Filled q facts count
-unfolding ToTheEnd Filled
-fills (refuse n) none facts count e h k = tt
-fills (got t []) none facts count e h k =
-    let g : facts ≡ factSet (λ f. names f t) = h .grown (λ f. false) (e ∙ empty-set) in
-    record { counted = k ∙ ap ones g; filled = g }
-fills (got t (w ∷ ws)) none facts count e h k = tt
+pub facts-from-none : (q : Parsed (Policy Outcome)) (none facts : List ℕ) → none ≡ replicate 16 0 → ToTheEnd names q none facts → SetOf q facts
+unfolding ToTheEnd SetOf
+facts-from-none (refuse n) none facts e h = tt
+facts-from-none (got t []) none facts e h = h .grown (λ f. false) (e ∙ empty-set)
+facts-from-none (got t (w ∷ ws)) none facts e h = tt
 
--- Where a set of sixteen numbers was filled, or another one in its place.
-pub in-place : (q : Parsed (Policy ℕ)) (before after : List ℕ) (count : ℕ) → length before ≡ 16 → Filled q after count → FactsOf q before after count
-unfolding Filled FactsOf
-in-place (refuse n) before after count e h = tt
-in-place (got t []) before after count e h = record { counted = h .counted; set-is = h .filled ∙ rw (eq-eqb (length before) 16 e) }
-in-place (got t (w ∷ ws)) before after count e h = tt
-
-pub aside : (q : Parsed (Policy ℕ)) (before facts : List ℕ) (count : ℕ) → (length before ≡ 16 → ⊥) → Filled q facts count → FactsOf q before before count
-unfolding Filled FactsOf
-aside (refuse n) before facts count f h = tt
-aside (got t []) before facts count f h = record { counted = h .counted; set-is = rw (ne-eqb (length before) 16 f) }
-aside (got t (w ∷ ws)) before facts count f h = tt
+pub facts-given : (q : Parsed (Policy Outcome)) (facts before after : List ℕ) (count : ℕ) → SetOf q facts → after ≡ setAfter before facts → count ≡ ones facts → FactsOf q before after count
+unfolding SetOf FactsOf
+facts-given (refuse n) facts before after count e s k = tt
+facts-given (got t []) facts before after count e s k = record { counted = k ∙ ap ones e; set-is = s ∙ ap (setAfter before) e }
+facts-given (got t (w ∷ ws)) facts before after count e s k = tt

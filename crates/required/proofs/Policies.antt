@@ -8,15 +8,16 @@ use native.Mathlib.Numerals.{add-one}
 use native.Mathlib.Omega.{arith}
 use borrow.Author.Tests.{leb-true, le-leb}
 use lib.Dec.{eqb, ltb, leb}
-use lib.ListN.{length, drop, getD, length-drop, length-map, List·getD-eq-default}
+use lib.ListN.{length, drop, getD, length-map, List·getD-eq-default}
 use lib.Seq.{drop-cons, drop-drop, getD-drop}
 use Rattle.model.specs.Fields.{wordsFor, perWord, pack}
 use Rattle.model.specs.Outcome.{productSets}
 use Rattle.model.specs.Condition.{Condition, namesC}
 use Rattle.model.specs.Decision.{Decision}
-use Rattle.model.specs.Policy.{Policy, stored, names}
-use Rattle.model.specs.Writing.{obligationBits, entryBits, encode}
-use Rattle.model.specs.Reading.{Parsed, refuse, got, next, another, readList, obligation, listed, mark, levels, readCondition, readPolicy}
+use Rattle.model.specs.Policy.{stored, names}
+use Rattle.model.specs.Writing.{obligationBits, entryBits}
+use Rattle.model.specs.Reading.{Parsed, refuse, got, next, another, readList, obligation, listed, mark, levels, readCondition, mostObligations}
+use Rattle.model.specs.Products.{Outcome, encode, readPolicy, policyAt}
 use Rattle.laws.specs.FieldLaws.{Holds, fine, nothing, if-holds, weaker, then-holds, same-list}
 use Rattle.laws.specs.Size.{wordsC, wordsD, words}
 use Rattle.laws.specs.Lengths.{length-pack, length-encode}
@@ -33,9 +34,9 @@ use Rattle.required.specs.Nodes.{Ended, OwnFacts}
 use Rattle.required.proofs.Arms.{grown-none, left-of}
 
 -- What a policy leaves begins where its words end.
-pub policy-left : (res : Bool) (d : ℕ) (us : List ℕ) → Holds (λ t vs. vs ≡ drop (words t) us) (readPolicy (productSets .value) res d us)
+pub policy-left : (res : Bool) (d : ℕ) (us : List ℕ) → Holds (λ t vs. vs ≡ drop (words t) us) (readPolicy res d us)
 policy-left res d us =
-    weaker (readPolicy (productSets .value) res d us) (λ t vs e. left-of (encode (productSets .number) t) vs us (words t) (length-encode (productSets .number) t) e)
+    weaker (readPolicy res d us) (λ t vs e. left-of (encode t) vs us (words t) (length-encode (productSets .number) t) e)
     (same-T (productSets .number) (productSets .value) (writtenProducts .only) res d us)
 
 -- ---- what stands before a policy's arms
@@ -68,9 +69,6 @@ module _ (sheet : List ℕ) (at w : ℕ) (vs : List ℕ) (e : drop at sheet ≡ 
   words-after : vs ≡ drop (at + 1) sheet
   words-after = ap (drop 1) (sym e) ∙ drop-drop 1 at sheet
 
-  word-there : at < length sheet
-  word-there = omega (arith, ap length e, length-drop at sheet)
-
 -- A grant: two words, its obligations, its condition.
 module _ (sheet : List ℕ) (at end n : ℕ) (s t : List ℕ) where
   collected-of : {A : Type 0} (size : A → ℕ) (named : ℕ → A → Bool) (from : ℕ) (q : Parsed A) → Holds (λ a vs. Walked from (size a) end (λ f. named f a) s t) q → Collected size named from s t q end
@@ -83,7 +81,7 @@ module _ (sheet : List ℕ) (at end n : ℕ) (s t : List ℕ) where
   holds-of size named from (refuse k) c = nothing
   holds-of size named from (got a vs) c = fine c
 
-  pub grant-facts : (pc : List ℕ → Parsed Condition) (hidden : Bool) (o : ℕ) → Collected wordsC namesC (at + 2 + (n + 3) / 4) s t (pc (drop (at + 2 + (n + 3) / 4) sheet)) end →
+  grant-facts : (pc : List ℕ → Parsed Condition) (hidden : Bool) (o : ℕ) → Collected wordsC namesC (at + 2 + (n + 3) / 4) s t (pc (drop (at + 2 + (n + 3) / 4) sheet)) end →
       Collected words names at s t (grantNode pc hidden n o (drop (at + 1) sheet)) end
   unfolding grantNode
   grant-facts pc hidden o c =
@@ -102,12 +100,12 @@ module _ (sheet : List ℕ) (at end n : ℕ) (s t : List ℕ) where
 
 -- Nodes 12 and 13: their words are counted by what their lists hold.
 module _ (sheet : List ℕ) (at end : ℕ) where
-  ended-of : (q : Parsed (Decision ℕ)) → Holds (λ d vs. end ≡ at + wordsD d) q → Ended at q end
+  ended-of : (q : Parsed (Decision Outcome)) → Holds (λ d vs. end ≡ at + wordsD d) q → Ended at q end
   unfolding Ended
   ended-of (refuse k) h = tt
   ended-of (got d vs) h = h .it
 
-  pub permit-trace-ends : (n o : ℕ) → (at + 1 < length sheet → end ≡ at + 2 + (n + 3) / 4 + (getD sheet (at + 1) 0 % 65536 + 1) / 2) → Ended at (permitTraceNode n o (drop (at + 1) sheet)) end
+  pub permit-trace-ends : (n o : ℕ) → end ≡ at + 2 + (n + 3) / 4 + (getD sheet (at + 1) 0 % 65536 + 1) / 2 → Ended at (permitTraceNode n o (drop (at + 1) sheet)) end
   unfolding permitTraceNode
   permit-trace-ends n o h =
       ended-of (permitTraceNode n o (drop (at + 1) sheet))
@@ -116,12 +114,11 @@ module _ (sheet : List ℕ) (at end : ℕ) where
       if-holds (ltb (w % 65536) 4096) 8 _ (λ _.
       then-holds (readList obligation obligationBits n vs) _ (obligations-left n vs) (λ os us r.
       then-holds (readList listed entryBits (w % 65536) us) _ (facts-long (w % 65536) us) (λ fs _ k.
-      let e : end ≡ at + 2 + (n + 3) / 4 + (getD sheet (at + 1) 0 % 65536 + 1) / 2 = h (word-there sheet (at + 1) w vs ew) in
       let x : getD sheet (at + 1) 0 ≡ w = word-at sheet (at + 1) w vs ew in
       let lo : length os ≡ n = r .0 in
       fine (omega arith)))))))
 
-  pub deny-trace-ends : (hidden denied : Bool) (o : ℕ) → (at + 2 < length sheet → end ≡ at + 3 + (getD sheet (at + 2) 0 + 1) / 2) → Ended at (denyTraceNode hidden denied o (drop (at + 1) sheet)) end
+  pub deny-trace-ends : (hidden denied : Bool) (o : ℕ) → end ≡ at + 3 + (getD sheet (at + 2) 0 + 1) / 2 → Ended at (denyTraceNode hidden denied o (drop (at + 1) sheet)) end
   unfolding denyTraceNode
   deny-trace-ends hidden denied o h =
       ended-of (denyTraceNode hidden denied o (drop (at + 1) sheet))
@@ -132,20 +129,19 @@ module _ (sheet : List ℕ) (at end : ℕ) where
       let e₂ : drop (at + 2) sheet ≡ n ∷ us = ap (λ k. drop k sheet) (let k : at + 2 ≡ at + 1 + 1 = omega arith in k) ∙ sym (words-after sheet (at + 1) w vs ew) ∙ en in
       if-holds (ltb n 4096) 8 _ (λ _.
       then-holds (readList listed entryBits n us) _ (facts-long n us) (λ fs _ k.
-      let e : end ≡ at + 3 + (getD sheet (at + 2) 0 + 1) / 2 = h (word-there sheet (at + 2) n us e₂) in
       let x : getD sheet (at + 2) 0 ≡ n = word-at sheet (at + 2) n us e₂ in
       fine (omega arith))))))))
 
   -- They name nothing.
-  pub stored-facts : (s : List ℕ) (q : Parsed (Decision ℕ)) → Ended at q end → Collected words names at s s (next q (λ d vs. got (stored d) vs)) end
+  stored-facts : (s : List ℕ) (q : Parsed (Decision Outcome)) → Ended at q end → Collected words names at s s (next q (λ d vs. got (stored d) vs)) end
   unfolding Ended Collected
   stored-facts s (refuse k) e = tt
   stored-facts s (got d vs) e = record { ends = e; adds = grown-none s }
 
 -- ---- what stands at `at`
 pub policy-here : (sheet : List ℕ) (at : ℕ) → at < length sheet →
-    readPolicy (productSets .value) true levels (drop at sheet)
-    ≡ policyNode (λ vs. readCondition 31 vs) (λ vs. readPolicy (productSets .value) true 31 vs) (policyHead (getD sheet at 0) true) (drop (at + 1) sheet)
+    policyAt sheet at levels
+    ≡ policyNode (λ vs. readCondition 31 vs) (λ vs. readPolicy true 31 vs) (policyHead (getD sheet at 0) true) (drop (at + 1) sheet)
 policy-here sheet at h = rw (add-one, drop-cons sheet at 0) (policy-node true 31 (getD sheet at 0) (drop (suc at) sheet))
 
 -- ---- what stands before the arms, by the kind of the first word
@@ -213,25 +209,19 @@ module _ (pc : List ℕ → Parsed Condition) (sheet : List ℕ) (at : ℕ) (s :
     unfolding policyHead
     own-word h f = of-one-word (policyHead w true) (one-from (leb 6 (w / 268435456)) (w / 268435456) (w % 268435456) refl h f)
 
-    pub own-grant : (t : List ℕ) (end : ℕ) → w / 268435456 ≡ 8 →
-        Collected wordsC namesC (at + 2 + (w / 1048576 % 128 + 3) / 4) s t (pc (drop (at + 2 + (w / 1048576 % 128 + 3) / 4) sheet)) end → OwnFacts pc (policyHead w true) (drop (at + 1) sheet) at s t end
+    pub own-grant : (t : List ℕ) (start end : ℕ) → w / 268435456 ≡ 8 → start ≡ at + (2 + (w / 1048576 % 128 + 3) / 4) →
+        Collected wordsC namesC start s t (pc (drop start sheet)) end → OwnFacts pc (policyHead w true) (drop (at + 1) sheet) at s t end
     unfolding OwnFacts policyNode policyHead grantHead
-    own-grant t end e c =
+    own-grant t start end e f c =
         let r = w % 268435456 in
         let n = r / 1048576 % 128 in
-        let same : w / 1048576 % 128 ≡ n = omega arith in
+        let count : w / 1048576 % 128 ≡ n = omega arith in
+        let same : start ≡ at + 2 + (n + 3) / 4 = omega arith in
         let hidden = eqb (r / 134217728) 1 in
         let o = r % 65536 in
         let g : OwnFacts pc (Grant hidden n o) (drop (at + 1) sheet) at s t end =
-        grant-facts sheet at end n s t pc hidden o (subst (λ k. Collected wordsC namesC (at + 2 + (k + 3) / 4) s t (pc (drop (at + 2 + (k + 3) / 4) sheet)) end) same c) in
-        rw e (own-if t end (leb n 64) _ (own-if t end (eqb (r / 65536 % 16) 0) (Grant hidden n o) g))
-
-    -- Without obligations.
-    pub own-plain : (t : List ℕ) (end : ℕ) → w / 268435456 ≡ 8 → w % 134217728 < 1048576 → Collected wordsC namesC (at + 2) s t (pc (drop (at + 2) sheet)) end → OwnFacts pc (policyHead w true) (drop (at + 1) sheet) at s t end
-    own-plain t end e few c =
-        let none : w / 1048576 % 128 ≡ 0 = omega arith in
-        let same : at + 2 ≡ at + 2 + (w / 1048576 % 128 + 3) / 4 = omega arith in
-        own-grant t end e (subst (λ k. Collected wordsC namesC k s t (pc (drop k sheet)) end) same c)
+        grant-facts sheet at end n s t pc hidden o (subst (λ k. Collected wordsC namesC k s t (pc (drop k sheet)) end) same c) in
+        rw e (own-if t end (leb n mostObligations) _ (own-if t end (eqb (r / 65536 % 16) 0) (Grant hidden n o) g))
 
     pub own-permit-trace : (end : ℕ) → w / 268435456 ≡ 12 → ((o : ℕ) → Ended at (permitTraceNode (w / 1048576 % 128) o (drop (at + 1) sheet)) end) →
         OwnFacts pc (policyHead w true) (drop (at + 1) sheet) at s s end
@@ -243,7 +233,7 @@ module _ (pc : List ℕ → Parsed Condition) (sheet : List ℕ) (at : ℕ) (s :
         let o = r % 65536 in
         let g : OwnFacts pc (PermitWithTrace n o) (drop (at + 1) sheet) at s s end =
         stored-facts sheet at end s (permitTraceNode n o (drop (at + 1) sheet)) (subst (λ k. Ended at (permitTraceNode k o (drop (at + 1) sheet)) end) same (c o)) in
-        rw e (own-if s end (eqb (r / 134217728) 0) _ (own-if s end (leb n 64) _ (own-if s end (eqb (r / 65536 % 16) 0) (PermitWithTrace n o) g)))
+        rw e (own-if s end (eqb (r / 134217728) 0) _ (own-if s end (leb n mostObligations) _ (own-if s end (eqb (r / 65536 % 16) 0) (PermitWithTrace n o) g)))
 
     -- Kind 13; from 14 on there is no policy.
     own-deny-trace : (end : ℕ) → w / 268435456 ≡ 13 → ((hidden denied : Bool) (o : ℕ) → Ended at (denyTraceNode hidden denied o (drop (at + 1) sheet)) end) →

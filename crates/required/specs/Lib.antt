@@ -1,5 +1,6 @@
 pub mod Sets
-pub mod Counts
+pub mod CountLaws
 pub mod Nodes
 pub mod Answers
+pub mod AnswerLaws
 pub mod Arms

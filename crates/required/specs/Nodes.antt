@@ -1,4 +1,4 @@
--- How many arms a node has, and what stands before them, by what its first word says. Document 01, "What a call receives".
+-- How many arms a policy has, and what stands before them, by what its first word says. Document 01, "What a call receives".
 use mathlib.Core.Path.{_≡_}
 use mathlib.Core.Bool.{false}
 use mathlib.Core.List.{List}
@@ -8,26 +8,13 @@ use Rattle.model.specs.Condition.{Condition}
 use Rattle.model.specs.Decision.{Decision}
 use Rattle.model.specs.Policy.{names}
 use Rattle.model.specs.Reading.{Parsed, refuse, got, kindOf}
+use Rattle.model.specs.Products.{Outcome}
 use Rattle.laws.specs.Size.{wordsD, words}
-use Rattle.policy_model.specs.declared.ConditionHead.{ConditionHead}
-use Rattle.policy_model.specs.declared.ConditionHead.the-variants.{Always, Never, Has, Not}
-use Rattle.policy_model.specs.declared.ConditionHead.the-variants as condition
 use Rattle.policy_model.specs.declared.PolicyHead.{PolicyHead}
 use Rattle.policy_model.specs.declared.PolicyHead.the-variants.{Permit, Deny, Grant, OrElse, PermitWithTrace, DenyWithTrace}
 use Rattle.policy_model.specs.declared.PolicyHead.the-variants as policy
 use Rattle.policy_model.specs.Heads.{policyNode}
 use Rattle.required.specs.Sets.{Walked, Collected}
-
--- The arms of a condition. Of a word that is none, nothing is said.
-unfoldable pub ConditionArms : ConditionHead → ℕ → Type 0
-ConditionArms Always k = k ≡ 0
-ConditionArms Never k = k ≡ 0
-ConditionArms (Has g) k = k ≡ 0
-ConditionArms Not k = k ≡ 1
-ConditionArms (condition.All n) k = k ≡ n
-ConditionArms (condition.Any n) k = k ≡ n
-ConditionArms condition.BadKind k = Unit {0}
-ConditionArms condition.BadField k = Unit {0}
 
 -- The arms of a policy.
 unfoldable pub policyArms : PolicyHead → ℕ
@@ -48,7 +35,7 @@ pub record StoredAt (sheet : List ℕ) (at : ℕ) : Type 0 where
   pub stored : 12 ≤ kindOf (getD sheet at 0)
 
 -- Where a node 12 or 13 ends.
-unfoldable pub Ended : ℕ → Parsed (Decision ℕ) → ℕ → Type 0
+unfoldable pub Ended : ℕ → Parsed (Decision Outcome) → ℕ → Type 0
 Ended at (refuse n) next = Unit {0}
 Ended at (got d ws) next = next ≡ at + wordsD d
 

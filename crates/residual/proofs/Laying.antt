@@ -12,22 +12,24 @@ use Rattle.model.specs.Facts.{Table}
 use Rattle.model.specs.Outcome.{productSets}
 use Rattle.model.specs.Decision.{Decision as Decided}
 use Rattle.model.specs.Writing.{shortD}
+use Rattle.model.specs.Products.{Outcome}
 use Rattle.laws.specs.Size.{wordsD}
 use Rattle.laws.specs.Lengths.{length-encodeD}
-use Rattle.packing.specs.Written.{written-front}
+use Rattle.packing.specs.WrittenLaws.{written-front}
 use Rattle.decision.specs.declared.Decision.{Decision}
 use Rattle.decision.specs.Meaning.{obligationsIn, decisionOf, Sound}
 use Rattle.decision.specs.Answers.{Held}
 use Rattle.clause.specs.Clauses.{decisionSize}
 use Rattle.clause.specs.Answers.{ClauseFacts, DecisionWritten}
-use Rattle.clause.specs.Callers.{gathered, decision-size, decision-short}
-use Rattle.sizes.specs.Laid.{Laid, tooMany}
+use Rattle.clause.specs.AnswerLaws.{gathered, decision-size, decision-short}
+use Rattle.sizes.specs.Laid.{tooMany}
+use Rattle.decision.specs.Room.{obligationRoom}
 use Rattle.residual.specs.Weight.{weightD}
 use Rattle.residual.specs.Answers.{NodeLaid}
 
 -- ---- the buffer
 -- Bytes that are a decision's obligations stay where they are.
-bytes-at : (W : List ℕ) (d : Decision) (before after : List ℕ) (held n : ℕ) → d .count ≡ n → n ≤ length before → held ≤ length after → take held after ≡ obligationsIn W before d → take n after ≡ take n before
+bytes-at : (W : List ℕ) (d : Decision) (before after : List ℕ) (held n : ℕ) → d .united ≡ n → n ≤ length before → held ≤ length after → take held after ≡ obligationsIn W before d → take n after ≡ take n before
 unfolding obligationsIn
 bytes-at W d before after held zero e h k o = refl
 bytes-at W d before after held (suc n) e h k o =
@@ -35,19 +37,19 @@ bytes-at W d before after held (suc n) e h k o =
     let long : held ≡ suc n = sym (length-take-le held after k) ∙ ap length same ∙ length-take-le (suc n) before h in
     ap (λ i. take i after) (sym long) ∙ same
 
-bytes-stay : (W : List ℕ) (d : Decision) (before after : List ℕ) (held : ℕ) → d .count ≤ 64 → 64 ≤ length before → 64 ≤ length after → Held W d before after held → Sound W before d →
-    take (d .count) after ≡ take (d .count) before
-bytes-stay W d before after held few h k o s = bytes-at W d before after held (d .count) refl (omega arith) (omega (arith, o .few)) (o .front (s .held))
+bytes-stay : (W : List ℕ) (d : Decision) (before after : List ℕ) (held : ℕ) → d .united ≤ obligationRoom → obligationRoom ≤ length before → obligationRoom ≤ length after → Held W d before after held → Sound W before d →
+    take (d .united) after ≡ take (d .united) before
+bytes-stay W d before after held few h k o s = bytes-at W d before after held (d .united) refl (omega arith) (omega (arith, o .few)) (o .front (s .held))
 
 -- ---- the node
-node-small : (permit : Bool) (held named : ℕ) → held ≤ 64 → named ≤ 4095 → decisionSize permit held named ≤ 2100
+node-small : (permit : Bool) (held named : ℕ) → held ≤ obligationRoom → named ≤ 4095 → decisionSize permit held named ≤ 2100
 node-small true held named h k = omega arith
 node-small false held named h k = omega arith
 
-weight-at : (b : Bool) (D : Decided ℕ) → shortD D ≡ b → weightD D ≡ cond b (wordsD D) tooMany
+weight-at : (b : Bool) (D : Decided Outcome) → shortD D ≡ b → weightD D ≡ cond b (wordsD D) tooMany
 weight-at b D e = ap (λ x. cond x (wordsD D) tooMany) e
 
-module _ {W : List ℕ} {T : Table} {before after : List ℕ} {d : Decision} {held : ℕ} {fs : List ℕ} {named : ℕ} (few : d .count ≤ 64) (wide : 64 ≤ length before) (wide′ : 64 ≤ length after)
+module _ {W : List ℕ} {T : Table} {before after : List ℕ} {d : Decision} {held : ℕ} {fs : List ℕ} {named : ℕ} (few : d .united ≤ obligationRoom) (wide : obligationRoom ≤ length before) (wide′ : obligationRoom ≤ length after)
     (h : Held W d before after held) (f : ClauseFacts W T (d .clause) fs named) where
   -- Its facts can't be counted.
   pub node-long : (out : List ℕ) → 4095 < named → NodeLaid W T d before after out tooMany

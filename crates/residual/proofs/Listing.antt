@@ -1,16 +1,16 @@
 -- Words that are moved up, and a list that is made of nodes and pending arms. Assumes nothing.
 use mathlib.Core.Path.{_≡_, refl, sym, _∙_, ap, ap₂, subst}
 use mathlib.Core.Bool.{Bool, true, false}
-use mathlib.Core.List.{List, [], _∷_, _++_}
-use Prim.Native.Nat.{ℕ, zero, suc, _+_, _-_, _≤_, _<_}
+use mathlib.Core.List.{List, _∷_, _++_}
+use Prim.Native.Nat.{ℕ, _+_, _-_, _≤_, _<_}
 use native.Mathlib.Omega.{arith}
 use borrow.Author.Tests.{eqb-true, eqb-false}
 use lib.Dec.{eqb}
 use lib.ListN.{length, take, drop, getD, set, length-set, length-take, length-drop}
-use lib.Seq.{length-take-le, getD-take, getD-drop, getD-set-same, getD-set-other, take-at, take-add, drop-at, ext-getD}
+use lib.Seq.{length-take-le, getD-take, getD-drop, getD-set-same, getD-set-other, take-add, ext-getD}
 use Rattle.packing.specs.Written as packing
-use Rattle.packing.specs.Written.{written-lead, written-front, written-rest, written-long}
-use Rattle.sizes.specs.Laid.{capped, mostWords, tooMany}
+use Rattle.packing.specs.WrittenLaws.{written-lead, written-front, written-rest, written-long}
+use Rattle.sizes.specs.Laid.{capped, mostWords}
 use Rattle.residual.specs.Answers.{Moved, ListPut}
 
 -- ---- a loop that moves words from the last one on: those up to i stand as they stood

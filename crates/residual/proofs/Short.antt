@@ -10,14 +10,18 @@ use Rattle.model.specs.Facts.{Presence, absent, present, unknown, Table}
 use Rattle.model.specs.Condition.{evalHas}
 use Rattle.model.specs.Decision.{Decision as Decided, permits, combined}
 use Rattle.model.specs.Writing.{word}
+use Rattle.model.specs.Products.{Outcome}
 use Rattle.decision.specs.declared.Decision.{Decision}
-use Rattle.policy_model.specs.Plain.{plainGrant, plain-reads}
+use Rattle.policy_model.specs.Plain.{plainGrant}
+use Rattle.policy_model.specs.PlainLaws.{plain-reads}
 use Rattle.decision.specs.Nodes.{named, nodeAt, clauseRead, obligationsRead, clauseAt, obligationsAt}
 use Rattle.decision.specs.Meaning.{permittedAt, obligationsIn, permitOf, decisionOf}
 use Rattle.decision.proofs.Standing.{permitted-bare}
 use Rattle.record.specs.Nodes.{decisionWords}
-use Rattle.packing.specs.Written.{Written, written-none, written-next, written-front}
-use Rattle.sizes.specs.Laid.{Laid, laid-as, tooMany}
+use Rattle.packing.specs.Written.{Written}
+use Rattle.packing.specs.WrittenLaws.{written-none, written-next, written-front}
+use Rattle.sizes.specs.Laid.{Laid, tooMany}
+use Rattle.sizes.specs.LaidLaws.{laid-as}
 use Rattle.residual.specs.Weight.{weightD}
 use Rattle.residual.specs.Answers.{onFact, NodeLaid}
 
@@ -44,7 +48,7 @@ fact-laid o f out h =
 
 -- ---- nodes
 -- A node that stands for the decision is laid, and nothing was brought to the buffer.
-node-as : {W : List ℕ} {T : Table} {d : Decision} {buf out : List ℕ} {n r : ℕ} (D : Decided ℕ) → decisionOf W T buf d ≡ D → weightD D ≡ n → Laid n (decisionWords D) out r → NodeLaid W T d buf buf out r
+node-as : {W : List ℕ} {T : Table} {d : Decision} {buf out : List ℕ} {n r : ℕ} (D : Decided Outcome) → decisionOf W T buf d ≡ D → weightD D ≡ n → Laid n (decisionWords D) out r → NodeLaid W T d buf buf out r
 node-as {W} {T} {d} {buf} {out} {n} {r} D e w l = record {
   bound = omega (arith, l .size-is);
   laid = λ s. rw (e, w) l;

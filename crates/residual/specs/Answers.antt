@@ -7,6 +7,7 @@ use lib.ListN.{length, take, drop}
 use Rattle.model.specs.Facts.{Table}
 use Rattle.model.specs.Decision.{Decision as Decided, permits}
 use Rattle.model.specs.Policy.{stored}
+use Rattle.model.specs.Products.{Outcome}
 use Rattle.decision.specs.declared.Decision.{Decision}
 use Rattle.decision.specs.Meaning.{decisionOf, Sound}
 use Rattle.record.specs.Nodes.{decisionWords}
@@ -14,14 +15,14 @@ use Rattle.sizes.specs.Laid.{mostWords, tooMany, capped, Laid}
 use Rattle.residual.specs.Weight.{weight}
 
 -- A permit with nothing but its outcome and one fact.
-abbrev pub onFact : ℕ → ℕ → Decided ℕ
+abbrev pub onFact : ℕ → ℕ → Decided Outcome
 onFact o f = permits (record { outcome = o; obligations = []; label = none; facts = f ∷ [] })
 
 -- The node of a decision was laid. The bytes of the decision's obligations stand in its buffer as they stood.
 pub record NodeLaid (W : List ℕ) (T : Table) (d : Decision) (before after : List ℕ) (out : List ℕ) (r : ℕ) : Type 0 where
   pub bound : r ≤ tooMany
   pub laid : Sound W before d → Laid (weight (stored (decisionOf W T before d))) (decisionWords (decisionOf W T before d)) out r
-  pub bytes : Sound W before d → take (d .count) after ≡ take (d .count) before
+  pub bytes : Sound W before d → take (d .united) after ≡ take (d .united) before
 
 -- The n words after the first were moved up.
 pub record Moved (n by : ℕ) (before after : List ℕ) : Type 0 where

@@ -4,21 +4,16 @@ use decision::Decision;
 ghost use mathlib.Core.Path.{_≡_};
 ghost use mathlib.Core.Bool.{true};
 ghost use mathlib.Core.List.{[]};
-ghost use Prim.Native.Nat.{_+_, _*_, _≤_, _<_, min};
+ghost use Prim.Native.Nat.{_+_, _≤_, _<_};
 ghost use lib.ListN.{length};
-ghost use Rattle.model.specs.Facts.{tableOf};
+ghost use Rattle.model.specs.Facts.{factCount, tableOf};
 ghost use Rattle.model.specs.Decision.{permits, combined};
-ghost use Rattle.model.specs.Writing.{mostListed};
 ghost use Rattle.decision.specs.Meaning.{permittedAt};
 ghost use Rattle.record.specs.Nodes.{decisionWords};
 ghost use Rattle.sizes.specs.Laid.{tooMany, Laid};
+ghost use Rattle.decision.specs.Room.{RoomToUnite, Few};
+ghost use Rattle.clause.specs.Room.{RoomToName};
 ghost use Rattle.residual.specs.Answers.{onFact, NodeLaid, Moved, ListPut};
-
-// No node lists more facts.
-const MOST_LISTED: usize = 4095;
-
-// The first word of a PermitWithTrace without obligations, but for its outcome.
-const PERMIT_WITH_TRACE: u32 = 3221225472;
 
 // Whether a decision is a permit that takes all but its outcome from one node, or from none.
 fn from_one_node(decision: Decision) -> bool
@@ -27,10 +22,10 @@ fn from_one_node(decision: Decision) -> bool
     if !decision.permit {
         return false;
     }
-    if decision.count != 0 {
+    if decision.united != 0 {
         return false;
     }
-    decision.held == decision.clause
+    decision.obligations == decision.clause
 }
 
 // Lays the node of a permit with nothing but its outcome.
@@ -40,20 +35,20 @@ fn lay_bare(outcome: u16, out: &mut [u32]) -> usize
     if out.len() < 2 {
         return 2;
     }
-    out[0] = PERMIT_WITH_TRACE + outcome as u32;
+    out[0] = policy_model::LEAD_PERMIT_WITH_TRACE + outcome as u32;
     out[1] = 0;
     2
 }
 
 // Lays the node of a permit with its outcome and one fact: in word two no label and a count of 1, and the fact in the upper half of word three.
 fn lay_on_fact(outcome: u16, fact: u32, out: &mut [u32]) -> usize
-    requires { ⌜ fact < 1024 ⌝ }
+    requires { ⌜ fact < factCount ⌝ }
     ensures { λ r. ⌜ Laid 3 (decisionWords (onFact outcome fact)) (now (out .exit)) r ⌝ }
 {
     if out.len() < 3 {
         return 3;
     }
-    out[0] = PERMIT_WITH_TRACE + outcome as u32;
+    out[0] = policy_model::LEAD_PERMIT_WITH_TRACE + outcome as u32;
     out[1] = 1;
     out[2] = fact * policy_model::HALF;
     3
@@ -69,7 +64,7 @@ pub fn policy_from_decision(
     named: &mut [u16],
     out: &mut [u32],
 ) -> usize
-    requires { ⌜ (decision .count ≤ 64) × (64 ≤ length (now buf)) × (length (now words) ≤ length (now named)) × (min (2 * length (now words)) mostListed ≤ length (now named)) ⌝ }
+    requires { ⌜ Few decision × RoomToUnite 1 (now buf) × RoomToName (now words) (now named) ⌝ }
     ensures { λ r. ⌜ NodeLaid (now (words .entry)) (tableOf (now (facts .entry))) decision (now (buf .entry)) (now (buf .exit)) (now (out .exit)) r ⌝ }
 {
     // The commonest nodes, those of a Permit and of a grant on one fact, are short.
@@ -83,15 +78,15 @@ pub fn policy_from_decision(
         }
     }
     let held = decision::obligations(words, decision, buf);
-    let facts_named = clause::clause_facts(words, decision.clause, facts, named);
-    if facts_named > MOST_LISTED {
+    let count = clause::clause_facts(words, decision.clause, facts, named);
+    if count > policy_model::MOST_LISTED {
         return sizes::LIMIT + 1;
     }
-    let size = clause::decision_words(decision.permit, held, facts_named);
+    let size = clause::decision_words(decision.permit, held, count);
     if out.len() < size {
         return size;
     }
-    clause::write_decision(words, decision, buf, held, named, facts_named, out)
+    clause::write_decision(words, decision, buf, held, named, count, out)
 }
 
 // Moves the `n` words after the first one up by `by` words.

@@ -1,39 +1,38 @@
 -- What is listed of a sheet and a table is what the call `evaluate` answers. Assumes nothing.
-use mathlib.Core.Path.{_≡_, refl, sym, _∙_, ap, subst}
-use mathlib.Core.Bool.{Bool, true, false, _&&_}
+use mathlib.Core.Path.{_≡_, refl, sym, _∙_, ap}
+use mathlib.Core.Bool.{Bool, true, false}
 use mathlib.Core.Option.{Option, none, some}
-use mathlib.Core.List.{List, [], _∷_, _++_}
-use Prim.Native.Nat.{ℕ, zero, suc, _+_, _*_, _≤_}
+use mathlib.Core.List.{List, [], _∷_}
+use Prim.Native.Nat.{ℕ, _+_, _*_, _≤_}
 use native.Mathlib.Omega.{arith}
 use borrow.Author.Tests.{le-leb}
 use lib.Dec.{leb}
-use lib.ListN.{length, take, drop, length-append, length-drop}
+use lib.ListN.{length, take, drop, length-append}
 use lib.Seq.{take-at}
 use Rattle.model.specs.Facts.{tableOf, knownFacts, tableFault}
 use Rattle.model.specs.Outcome.{productSets}
 use Rattle.model.specs.Decision.{Decision}
 use Rattle.model.specs.Policy.{Policy}
 use Rattle.model.specs.Partial.{resolved}
-use Rattle.model.specs.Evaluate.{evalPolicy}
-use Rattle.model.specs.Consulted.{Consulted, read}
-use Rattle.model.specs.Record.{Record, evaluated}
-use Rattle.model.specs.Writing.{encodeR}
-use Rattle.model.specs.Reading.{Parsed, refuse, got, unless, sheetLength, whole, readSheet, readRecord, readPolicy}
+use Rattle.model.specs.Consulted.{Consulted}
+use Rattle.model.specs.Record.{Record}
+use Rattle.model.specs.Reading.{Parsed, refuse, got, unless, sheetLength, whole}
 use Rattle.model.specs.Listing.{refusedText, listing, decided, checked}
 use Rattle.model.specs.Calls as model
+use Rattle.model.specs.Products.{Outcome, evalPolicy, read, evaluated, encodeR, readSheet, readRecord, readPolicy, write}
 use Rattle.staging.specs.Demand3.{evaluate-products, evaluate-products-back}
-use Rattle.calls.specs.declared.Answer.{Answer}
-use Rattle.calls.specs.declared.Answer.the-variants.{Written, Refused}
-use Rattle.calls.specs.Answers.{Answered, answerOf, numberOf, writtenOf}
+use Rattle.answer.specs.declared.Answer.{Answer}
+use Rattle.answer.specs.declared.Answer.the-variants.{Written, Refused}
+use Rattle.answer.specs.Answers.{Answered, answerOf, numberOf, writtenOf}
 use Rattle.listing.specs.Texts.{Wrote, ListedAs}
 use Rattle.listing.specs.Writers.{wrote-as}
 use Rattle.listing.specs.RecordTexts.{listed-resolved}
 
 -- A sheet that reads leaves no word.
-sheet-whole : (sheet : List ℕ) (t : Policy ℕ) (vs : List ℕ) → readSheet (productSets .value) sheet ≡ got t vs → vs ≡ []
-sheet-whole sheet t vs = by-length (sheetLength sheet) (readPolicy (productSets .value) false 32 sheet)
+sheet-whole : (sheet : List ℕ) (t : Policy Outcome) (vs : List ℕ) → readSheet sheet ≡ got t vs → vs ≡ []
+sheet-whole sheet t vs = by-length (sheetLength sheet) (readPolicy false 32 sheet)
   where
-    by-length : (b : Bool) (q : Parsed (Policy ℕ)) → unless b 1 (whole q) ≡ got t vs → vs ≡ []
+    by-length : (b : Bool) (q : Parsed (Policy Outcome)) → unless b 1 (whole q) ≡ got t vs → vs ≡ []
     by-length false q e = cc
     by-length true (refuse n) e = cc
     by-length true (got u []) e = cc
@@ -49,32 +48,32 @@ module _ (sheet facts : List ℕ) (room : ℕ) where
   -- The call is refused, and so is what is listed; or the record that it writes is read back, and listed.
   pub data Cases : Type 0 where
     refuses : (n : ℕ) → Call ≡ model.refusal n → Text ≡ refusedText n → Cases
-    writes : (d : Decision ℕ) (l : Consulted) (ws : List ℕ) → Call ≡ model.wrote ws → readRecord (productSets .value) ws ≡ got (record { body = resolved d; log = l }) [] → Text ≡ listing d l → Cases
+    writes : (d : Decision Outcome) (l : Consulted) (ws : List ℕ) → Call ≡ model.wrote ws → readRecord ws ≡ got (record { body = resolved d; log = l }) [] → Text ≡ listing d l → Cases
 
   module _ (some-words : 1 ≤ length sheet) (few : length sheet ≤ 4096) (enough : 3 * length sheet + 513 ≤ room) where
-    past-length : Call ≡ model.unlessFault (tableFault knownFacts facts) (model.onRead (readSheet (productSets .value) sheet) (λ t. model.write productSets room (evaluated productSets (tableOf facts) t)))
+    past-length : Call ≡ model.unlessFault (tableFault knownFacts facts) (model.onRead (readSheet sheet) (λ t. write room (evaluated (tableOf facts) t)))
     past-length =
         let long : sheetLength sheet ≡ true = rw (le-leb 1 (length sheet) some-words, le-leb (length sheet) 4096 few) in
-        ap (λ b. model.unlessLong b (model.unlessFault (tableFault knownFacts facts) (model.onRead (readSheet (productSets .value) sheet) (λ t. model.write productSets room (evaluated productSets (tableOf facts) t))))) long
+        ap (λ b. model.unlessLong b (model.unlessFault (tableFault knownFacts facts) (model.onRead (readSheet sheet) (λ t. write room (evaluated (tableOf facts) t))))) long
 
-    by-sheet : (q : Parsed (Policy ℕ)) → readSheet (productSets .value) sheet ≡ q → tableFault knownFacts facts ≡ none → Cases
+    by-sheet : (q : Parsed (Policy Outcome)) → readSheet sheet ≡ q → tableFault knownFacts facts ≡ none → Cases
     by-sheet (refuse n) e f =
         refuses n
-        (past-length ∙ ap (λ o. model.unlessFault o (model.onRead (readSheet (productSets .value) sheet) (λ t. model.write productSets room (evaluated productSets (tableOf facts) t)))) f
-        ∙ ap (λ q. model.onRead q (λ t. model.write productSets room (evaluated productSets (tableOf facts) t))) e)
+        (past-length ∙ ap (λ o. model.unlessFault o (model.onRead (readSheet sheet) (λ t. write room (evaluated (tableOf facts) t)))) f
+        ∙ ap (λ q. model.onRead q (λ t. write room (evaluated (tableOf facts) t))) e)
         (ap (λ o. checked o sheet facts) f ∙ ap (λ q. decided q facts) e)
     by-sheet (got t vs) e f =
-        let reads : readSheet (productSets .value) sheet ≡ got t [] = e ∙ ap (got t) (sheet-whole sheet t vs e) in
-        writes (evalPolicy productSets (tableOf facts) t) (read productSets (tableOf facts) t []) (encodeR (productSets .number) (evaluated productSets (tableOf facts) t))
+        let reads : readSheet sheet ≡ got t [] = e ∙ ap (got t) (sheet-whole sheet t vs e) in
+        writes (evalPolicy (tableOf facts) t) (read (tableOf facts) t []) (encodeR (evaluated (tableOf facts) t))
         (evaluate-products sheet facts t room reads f enough)
         (evaluate-products-back sheet (tableOf facts) t reads)
         (ap (λ o. checked o sheet facts) f ∙ ap (λ q. decided q facts) e)
 
     by-table : (o : Option ℕ) → tableFault knownFacts facts ≡ o → Cases
-    by-table none e = by-sheet (readSheet (productSets .value) sheet) refl e
+    by-table none e = by-sheet (readSheet sheet) refl e
     by-table (some n) e =
         refuses n
-        (past-length ∙ ap (λ o. model.unlessFault o (model.onRead (readSheet (productSets .value) sheet) (λ t. model.write productSets room (evaluated productSets (tableOf facts) t)))) e)
+        (past-length ∙ ap (λ o. model.unlessFault o (model.onRead (readSheet sheet) (λ t. write room (evaluated (tableOf facts) t)))) e)
         (ap (λ o. checked o sheet facts) e)
 
     pub cases : Cases
@@ -91,7 +90,7 @@ module _ (sheet facts : List ℕ) (room : ℕ) where
         let z : _≡_ {A = ℕ} 0 1 = cc in
         absurd (omega arith)
 
-    pub list-written : {out out′ : List ℕ} {k : ℕ} → r ≡ Written n → Cases → ListedAs (λ bytes. Wrote bytes out out′ k) (readRecord (productSets .value) (take n after)) → Wrote Text out out′ k
+    pub list-written : {out out′ : List ℕ} {k : ℕ} → r ≡ Written n → Cases → ListedAs (λ bytes. Wrote bytes out out′ k) (readRecord (take n after)) → Wrote Text out out′ k
     list-written q (refuses m e t) w =
         let same : Written n ≡ Refused m = sym q ∙ a .answer-is ∙ ap answerOf e in
         let z : _≡_ {A = ℕ} 0 1 = cc in
@@ -99,7 +98,7 @@ module _ (sheet facts : List ℕ) (room : ℕ) where
     list-written {out} {out′} {k} q (writes d l ws e y t) w =
         let same : n ≡ length ws = ap writtenOf (sym q ∙ a .answer-is ∙ ap answerOf e) in
         let front : take n after ≡ ws = ap (take n) (a .output-is ∙ ap (λ x. model.afterwards x before) e) ∙ take-at ws (drop (length ws) before) n (sym same) in
-        wrote-as (sym t) (listed-resolved (take n after) out out′ k d l [] (ap (readRecord (productSets .value)) front ∙ y) w)
+        wrote-as (sym t) (listed-resolved (take n after) out out′ k d l [] (ap readRecord front ∙ y) w)
 
     -- The record's words are all there.
     pub words-within : r ≡ Written n → Cases → n ≤ length after

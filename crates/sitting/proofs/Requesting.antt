@@ -2,15 +2,16 @@
 use mathlib.Core.Path.{_≡_, refl, sym, _∙_, ap}
 use mathlib.Core.Bool.{Bool, true, false, _&&_}
 use mathlib.Core.List.{List}
-use Prim.Native.Nat.{ℕ, _+_, _*_, _≤_, _<_}
+use Prim.Native.Nat.{ℕ, _*_, _≤_, _<_}
 use native.Mathlib.Omega.{arith}
 use borrow.Author.Tests.{le-leb, lt-leb, ltb-true, ltb-false}
 use lib.Dec.{ltb, leb}
-use lib.ListN.{length, take, drop, length-drop}
+use lib.ListN.{length, take}
 use Rattle.model.specs.Facts.{tableBytes, knownFacts, tableFault}
-use Rattle.model.specs.Reading.{Parsed, refuse, got}
+use Rattle.model.specs.Reading.{refuse, got}
 use Rattle.model.specs.Listing.{refusedText, numberFrom, wordsFrom, bytesFrom, checked, onBytes, unlessRefused, sitting}
-use Rattle.listing.specs.Inputs.{WordsRead, number-short, words-short, bytes-short, bytes-there}
+use Rattle.listing.specs.Inputs.{WordsRead}
+use Rattle.listing.specs.InputLaws.{number-short, words-short, bytes-short, bytes-there}
 use Rattle.sitting.specs.Requests.{fromTable}
 
 abbrev fromWords : ℕ → List ℕ → List ℕ

@@ -1,24 +1,25 @@
 // The program `sitting`: reads a request from standard input, decides it and writes its listing.
-use calls::Answer;
+use answer::Answer;
 use libc::STDIN_FILENO;
 use libc::STDOUT_FILENO;
-ghost use mathlib.Core.Path.{_≡_};
+use policy_model::SHEET_WORDS;
 ghost use Prim.Native.Nat.{_≤_};
 ghost use lib.ListN.{length, drop};
 ghost use Rattle.model.specs.Facts.{knownFacts, tableFault};
+ghost use Rattle.model.specs.Reading.{sheetWords};
 ghost use Rattle.model.specs.Listing.{checked, sitting as Listing·sitting};
 ghost use Rattle.sitting.specs.Requests.{fromTable};
 ghost use Rattle.listing.specs.Texts.{Wrote, listingRoom};
 
 // A request that is read whole takes no more bytes than this: a word count, 4,096 words, a table length and 256 bytes. Later bytes are ignored.
-const REQUEST: usize = 16644;
+const REQUEST: usize = 2 + 4 * SHEET_WORDS + 2 + facts::TABLE_BYTES;
 
-// The record of any sheet fits: three times 4,096 words plus 513.
-const RECORD: usize = 12801;
+// The record of any sheet fits: three times its words plus 513.
+const RECORD: usize = 3 * SHEET_WORDS + 513;
 
 // Lists what is decided of a sheet with a table, each in its range.
 fn list_decision(sheet: &[u32], facts: &[u8], out: &mut [u8]) -> usize
-    requires { ⌜ (1 ≤ length (now sheet)) × (length (now sheet) ≤ 4096) × (listingRoom ≤ length (now out)) ⌝ }
+    requires { ⌜ (1 ≤ length (now sheet)) × (length (now sheet) ≤ sheetWords) × (listingRoom ≤ length (now out)) ⌝ }
     ensures { λ r. ⌜ Wrote (checked (tableFault knownFacts (now (facts .entry))) (now (sheet .entry)) (now (facts .entry))) (now (out .entry)) (now (out .exit)) r ⌝ }
 {
     let mut record = [0u32; RECORD];
@@ -30,14 +31,14 @@ fn list_decision(sheet: &[u32], facts: &[u8], out: &mut [u8]) -> usize
 
 // Lists a request whose words were read, from the table's length on, at `at`.
 fn list_table(sheet: &[u32], input: &[u8], at: usize, out: &mut [u8]) -> usize
-    requires { ⌜ (1 ≤ length (now sheet)) × (length (now sheet) ≤ 4096) × (at ≤ length (now input)) × (listingRoom ≤ length (now out)) ⌝ }
+    requires { ⌜ (1 ≤ length (now sheet)) × (length (now sheet) ≤ sheetWords) × (at ≤ length (now input)) × (listingRoom ≤ length (now out)) ⌝ }
     ensures { λ r. ⌜ Wrote (fromTable (now (sheet .entry)) (drop at (now (input .entry)))) (now (out .entry)) (now (out .exit)) r ⌝ }
 {
     if input.len() - at < 2 {
         return listing::list_refusal(6, out);
     }
     let size = listing::number_at(input, at) as usize;
-    if size > 256 {
+    if size > facts::TABLE_BYTES {
         return listing::list_refusal(2, out);
     }
     let start = at + 2;
@@ -60,10 +61,10 @@ fn list_request(input: &[u8], out: &mut [u8]) -> usize
     if count == 0 {
         return listing::list_refusal(1, out);
     }
-    if count > 4096 {
+    if count > SHEET_WORDS {
         return listing::list_refusal(1, out);
     }
-    let mut sheet = [0u32; 4096];
+    let mut sheet = [0u32; SHEET_WORDS];
     if listing::read_words(input, 2, count, &mut sheet) {
         return list_table(&sheet[..count], input, 2 + 4 * count, out);
     }

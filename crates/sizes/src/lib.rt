@@ -4,7 +4,7 @@ ghost use mathlib.Core.Path.{_≡_};
 ghost use Prim.Native.Nat.{_+_, _≤_, min};
 ghost use Rattle.sizes.specs.Laid.{tooMany, capped};
 
-pub const LIMIT: usize = 16384;
+pub const LIMIT: usize = policy_model::RECORD_WORDS;
 
 // Both sizes together.
 pub fn plus(a: usize, b: usize) -> usize

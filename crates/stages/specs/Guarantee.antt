@@ -10,14 +10,13 @@ use Rattle.model.specs.Facts.{Table, tableOf, knownFacts, tableFault}
 use Rattle.model.specs.Outcome.{productSets}
 use Rattle.model.specs.Decision.{products}
 use Rattle.model.specs.Policy.{Policy}
-use Rattle.model.specs.Evaluate.{evalPolicy}
-use Rattle.model.specs.Record.{tree, evaluated, reduced, completed}
-use Rattle.model.specs.Reading.{got, readSheet, readRecord}
+use Rattle.model.specs.Record.{tree, evaluated, completed}
+use Rattle.model.specs.Reading.{got}
 use Rattle.model.specs.Calls as model
-use Rattle.model.specs.Calls.{evaluate, partialEvaluate, narrowResidual, completeResidual}
-use Rattle.calls.specs.declared.Answer.{Answer}
-use Rattle.calls.specs.declared.Answer.the-variants.{Written, Refused}
-use Rattle.calls.specs.Answers.{Answered, answerOf, writtenOf}
+use Rattle.model.specs.Products.{Outcome, evalPolicy, reduced, readSheet, readRecord, evaluate, narrowResidual, completeResidual}
+use Rattle.answer.specs.declared.Answer.{Answer}
+use Rattle.answer.specs.declared.Answer.the-variants.{Written, Refused}
+use Rattle.answer.specs.Answers.{Answered, answerOf, writtenOf}
 use Rattle.staging.specs.Chain.{AllOf, run}
 use Rattle.staging.specs.Statement as staging
 use Rattle.staging.specs.Statement.{Call, AgreesOn, Settled, Staged}
@@ -57,26 +56,26 @@ same-tables (model.wrote ws) P Ps before after r h = ap (λ x. ifAccepted x P Ps
 after-runs : (ss : List Run) (given : List ℕ) → NarrowedAll given ss → staging.after productSets given (map callOf ss) ≡ recordAfter given ss
 after-runs [] given h = refl
 after-runs (s ∷ ss) given h =
-    ap (λ v. staging.after productSets v (map callOf ss)) (same-next (narrowResidual productSets given (s .facts) (length (s .before))) given (s .before) (s .after) (s .answer) (h .0))
+    ap (λ v. staging.after productSets v (map callOf ss)) (same-next (narrowResidual given (s .facts) (length (s .before))) given (s .before) (s .after) (s .answer) (h .0))
     ∙ after-runs ss (handedOn given (s .answer) (s .after)) (h .1)
 
 tables-run : (ss : List Run) (given : List ℕ) → NarrowedAll given ss → staging.accepted productSets given (map callOf ss) ≡ tablesOf ss
 tables-run [] given h = refl
 tables-run (s ∷ ss) given h =
-    let a = narrowResidual productSets given (s .facts) (length (s .before)) in
+    let a = narrowResidual given (s .facts) (length (s .before)) in
     ap (λ v. staging.ifWrote a (tableOf (s .facts)) (staging.accepted productSets v (map callOf ss))) (same-next a given (s .before) (s .after) (s .answer) (h .0))
     ∙ ap (staging.ifWrote a (tableOf (s .facts))) (tables-run ss (handedOn given (s .answer) (s .after)) (h .1))
     ∙ same-tables a (tableOf (s .facts)) (tablesOf ss) (s .before) (s .after) (s .answer) (h .0)
 
 -- ---- the theorem
-module _ (sheet known : List ℕ) (t : Policy ℕ) (reads : readSheet (productSets .value) sheet ≡ got t []) (knows : tableFault knownFacts known ≡ none) where
-  evaluated-run : (s : Run) (n : ℕ) → s .facts ≡ known → Evaluated sheet s → s .answer ≡ Written n → ResolvedWith (products (evalPolicy productSets (tableOf known) t)) (take n (s .after))
+module _ (sheet known : List ℕ) (t : Policy Outcome) (reads : readSheet sheet ≡ got t []) (knows : tableFault knownFacts known ≡ none) where
+  evaluated-run : (s : Run) (n : ℕ) → s .facts ≡ known → Evaluated sheet s → s .answer ≡ Written n → ResolvedWith (products (evalPolicy (tableOf known) t)) (take n (s .after))
   evaluated-run s n e h q =
-      let wrote : evaluate productSets sheet known (length (s .before)) ≡ model.wrote (take n (s .after)) = ap (λ f. evaluate productSets sheet f (length (s .before))) (sym e) ∙ wrote-words h n q in
+      let wrote : evaluate sheet known (length (s .before)) ≡ model.wrote (take n (s .after)) = ap (λ f. evaluate sheet f (length (s .before))) (sym e) ∙ wrote-words h n q in
       record {
         decided = evaluated productSets (tableOf known) t;
-        reads = ap (readRecord (productSets .value)) (evaluate-products-wrote sheet known t (length (s .before)) (take n (s .after)) reads wrote) ∙ evaluate-products-back sheet (tableOf known) t reads;
-        decision = evalPolicy productSets (tableOf known) t;
+        reads = ap readRecord (evaluate-products-wrote sheet known t (length (s .before)) (take n (s .after)) reads wrote) ∙ evaluate-products-back sheet (tableOf known) t reads;
+        decision = evalPolicy (tableOf known) t;
         resolves = refl;
         same = refl;
       }
@@ -95,10 +94,10 @@ module _ (sheet known : List ℕ) (t : Policy ℕ) (reads : readSheet (productSe
     end-is : staging.after productSets Given (map callOf steps) ≡ recordAfter Given steps
     end-is = after-runs steps Given later
 
-    completes : (s : Run) → s .facts ≡ known → completeResidual productSets (recordAfter Given steps) (s .facts) (length (s .before)) ≡ completeResidual productSets (staging.after productSets Given (map callOf steps)) known (length (s .before))
-    completes s e = ap₂ (λ v f. completeResidual productSets v f (length (s .before))) (sym end-is) e
+    completes : (s : Run) → s .facts ≡ known → completeResidual (recordAfter Given steps) (s .facts) (length (s .before)) ≡ completeResidual (staging.after productSets Given (map callOf steps)) known (length (s .before))
+    completes s e = ap₂ (λ v f. completeResidual v f (length (s .before))) (sym end-is) e
 
-    completed-run : (s : Run) (m : ℕ) → s .facts ≡ known → Completed (recordAfter Given steps) s → s .answer ≡ Written m → ResolvedWith (products (evalPolicy productSets (tableOf known) t)) (take m (s .after))
+    completed-run : (s : Run) (m : ℕ) → s .facts ≡ known → Completed (recordAfter Given steps) s → s .answer ≡ Written m → ResolvedWith (products (evalPolicy (tableOf known) t)) (take m (s .after))
     completed-run s m e h q =
         record {
           decided = completed productSets (tableOf known) (staged .last);
@@ -111,21 +110,21 @@ module _ (sheet known : List ℕ) (t : Policy ℕ) (reads : readSheet (productSe
     guaranteed-of : Guaranteed sheet known t first Given steps
     guaranteed-of = record {
       residual = staged .last;
-      reads = sym (ap (readRecord (productSets .value)) end-is) ∙ staged .read-back;
-      by-the-rules = staged .by-the-rules ∙ ap (run productSets (reduced productSets (tableOf (first .facts)) t)) (tables-run steps Given later);
+      reads = sym (ap readRecord end-is) ∙ staged .read-back;
+      by-the-rules = staged .by-the-rules ∙ ap (run productSets (reduced (tableOf (first .facts)) t)) (tables-run steps Given later);
       settled-first = staged .settled-first;
       settled-later = subst (AllOf (Settled (tree (staged .last)))) (tables-run steps Given later) (staged .settled-later);
       completed = completed-run;
       evaluated = evaluated-run;
-      room-evaluate = λ s e h a. accepted-if a _ (ap (λ f. evaluate productSets sheet f (length (s .before))) e ∙ staged .room-evaluate (length (s .before)) h);
+      room-evaluate = λ s e h a. accepted-if a _ (ap (λ f. evaluate sheet f (length (s .before))) e ∙ staged .room-evaluate (length (s .before)) h);
       room-reduce = λ s f h a. accepted-if a _ (staged .room-reduce (length (s .before)) (s .facts) h f);
-      room-narrow = λ s f h a. accepted-if a _ (ap (λ v. narrowResidual productSets v (s .facts) (length (s .before))) (sym end-is) ∙ staged .room-narrow (length (s .before)) (s .facts) h f);
+      room-narrow = λ s f h a. accepted-if a _ (ap (λ v. narrowResidual v (s .facts) (length (s .before))) (sym end-is) ∙ staged .room-narrow (length (s .before)) (s .facts) h f);
       room-complete = λ s e h a. accepted-if a _ (completes s e ∙ staged .room-complete (length (s .before)) h);
     }
 
 -- For every accepted sheet and known table, every accepted run of `partial_evaluate` on the sheet, and every list of runs of `narrow_residual` from its record on:
 -- if the reduction's table and every accepted one agree with the known table, demand 3 holds of the words that the calls left.
-pub guaranteed : (sheet known : List ℕ) (t : Policy ℕ) → readSheet (productSets .value) sheet ≡ got t [] → tableFault knownFacts known ≡ none
+pub guaranteed : (sheet known : List ℕ) (t : Policy Outcome) → readSheet sheet ≡ got t [] → tableFault knownFacts known ≡ none
     → (first : Run) (n : ℕ) (steps : List Run) → Reduced sheet first → first .answer ≡ Written n → NarrowedAll (take n (first .after)) steps
     → AgreesOn t (tableOf known) (tableOf (first .facts)) → AllOf (AgreesOn t (tableOf known)) (tablesOf steps)
     → Guaranteed sheet known t first (take n (first .after)) steps

@@ -1,1 +1,27 @@
-// The staged guarantee of what the calls return, in specs/: this crate has no code.
+// The staged guarantee of what the calls return, in specs/. The functions say that the runs it speaks of are the calls' own.
+use answer::Answer;
+ghost use Rattle.stages.specs.Runs.{runOf, Evaluated, Reduced, Narrowed, Completed};
+
+pub fn evaluated(sheet: &[u32], facts: &[u8], out: &mut [u32]) -> Answer
+    ensures { λ r. ⌜ Evaluated (now (sheet .entry)) (runOf (now (facts .entry)) (now (out .entry)) (now (out .exit)) r) ⌝ }
+{
+    calls::evaluate(sheet, facts, out)
+}
+
+pub fn reduced(sheet: &[u32], facts: &[u8], out: &mut [u32]) -> Answer
+    ensures { λ r. ⌜ Reduced (now (sheet .entry)) (runOf (now (facts .entry)) (now (out .entry)) (now (out .exit)) r) ⌝ }
+{
+    calls::partial_evaluate(sheet, facts, out)
+}
+
+pub fn narrowed(given: &[u32], facts: &[u8], out: &mut [u32]) -> Answer
+    ensures { λ r. ⌜ Narrowed (now (given .entry)) (runOf (now (facts .entry)) (now (out .entry)) (now (out .exit)) r) ⌝ }
+{
+    calls::narrow_residual(given, facts, out)
+}
+
+pub fn completed(given: &[u32], facts: &[u8], out: &mut [u32]) -> Answer
+    ensures { λ r. ⌜ Completed (now (given .entry)) (runOf (now (facts .entry)) (now (out .entry)) (now (out .exit)) r) ⌝ }
+{
+    calls::complete_residual(given, facts, out)
+}

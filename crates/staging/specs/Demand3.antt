@@ -23,8 +23,8 @@ use Rattle.laws.specs.Each.{Each, Agrees}
 use Rattle.laws.specs.Names.{each-of, of-each}
 use Rattle.laws.specs.Form.{FormD, Form, Forms, depth}
 use Rattle.laws.specs.Lengths.{length-encodeR}
-use Rattle.laws.specs.ReadBack.{Facts, back-R}
-use Rattle.laws.specs.ReadForm.{OkSheet, ok-sheet}
+use Rattle.laws.specs.ReadBack.{back-R}
+use Rattle.laws.specs.ReadForm.{Named, OkSheet, ok-sheet}
 use Rattle.laws.specs.Products.{Lawful, Written, lawfulProducts, InRange, writtenProducts}
 use Rattle.staging.specs.SizeLaws.{most}
 use Rattle.staging.specs.ConsultedLaws.{consultedFacts, log-length}
@@ -56,7 +56,7 @@ module _ {O : Type 0} (G : O → Type 0) where
     short-Ts pnil h = refl
     short-Ts (pcons t ts) h = and-is (short t) (shorts ts) (short-T t (h .0)) (short-Ts ts (h .1))
 
-facts-of : (l : Consulted) → Every (λ f. f < 1024) (consultedFacts l) → Facts l
+facts-of : (l : Consulted) → Every (λ f. f < 1024) (consultedFacts l) → Named l
 facts-of [] h = tt
 facts-of (e ∷ l) h = (h .0, facts-of l (h .1))
 

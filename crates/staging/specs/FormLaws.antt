@@ -14,6 +14,7 @@ use Rattle.model.specs.Policy.{Grant, Policy, permit, deny, grant, all, any, or
 use Rattle.model.specs.Evaluate.{evalGrant, firstOf, firstDeny, allEnd, allFrom, anyEnd, anyFrom, evalPolicy, evalPolicies}
 use Rattle.model.specs.Partial.{ReducedCondition, known, pendingC, reduceHas, flipR, ConditionWalk, stopped, through, stepAllC, stepAnyC, endAllC, endAnyC, reduceCondition, reduceConditionAll, reduceConditionAny, ReducedPolicy, resolved, pending, asResidual, arms, kept, AllWalk, stop, go, stepAll, AnyWalk, parts, stepAny, reduceGrant, reduceOrElse, endAll, endAny, reducePolicy, reduceAll, reduceAny}
 use Rattle.model.specs.Writing.{countC, count}
+use Rattle.model.specs.Reading.{obligationCount}
 use Rattle.laws.specs.Lists.{Below, every-append, unite-distinct, unite-every}
 use Rattle.laws.specs.Size.{wordsC}
 use Rattle.laws.specs.Form.{FormC, FormCs, IfThere, FormF, FormO, FormP, FormN, FormD, FormG, Form, Forms, depthC, depthCs, depth, depths}
@@ -230,7 +231,7 @@ module _ (L : Outcomes) (G : L .O → Type 0) (meets : (a b : L .O) → G a → 
       (pick-has (FormP G) (L .same o (q .outcome)) q (combined o []) k (meets (p .outcome) (q .outcome) (h .0) (k .0), (tt, tt), tt, few))
 
   form-unite : (os ps : List ℕ) → FormO os → FormO ps → FormO (unionObligations os ps)
-  form-unite os ps h k = (unite-distinct os ps (h .0), unite-every (λ o. o < 64) os ps (h .1) (k .1))
+  form-unite os ps h k = (unite-distinct os ps (h .0), unite-every (λ o. o < obligationCount) os ps (h .1) (k .1))
 
   form-joinP : (p q : Permit (L .O)) → FormP G p → FormP G q → FormP G (joinPermit L p q)
   form-joinP p q h k =

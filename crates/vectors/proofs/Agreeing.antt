@@ -1,11 +1,11 @@
 -- From what was read, expected and given to whether they agree. Assumes nothing.
-use mathlib.Core.Path.{_≡_, refl, sym, _∙_, ap, ap₂, subst}
+use mathlib.Core.Path.{_≡_, sym, _∙_, ap, ap₂, subst}
 use mathlib.Core.Bool.{Bool, true, false, _&&_}
 use mathlib.Core.List.{List, _++_}
 use Prim.Native.Nat.{ℕ, _<_, _≤_}
 use borrow.Author.Tests.{le-leb, lt-leb}
 use lib.Dec.{leb}
-use lib.ListN.{length, take, drop}
+use lib.ListN.{take, drop}
 use Rattle.listing.specs.Inputs.{wordsIn}
 use Rattle.vectors.specs.declared.Reply.{Reply}
 use Rattle.vectors.specs.Words.{sameWords, marks}

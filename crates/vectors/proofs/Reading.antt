@@ -1,17 +1,16 @@
 -- What the readers give, in the words of the stored answer; what a proved call gives, in those of its reply. Assumes nothing.
 use mathlib.Core.Path.{_≡_, refl, sym, _∙_, ap, ap₂}
 use mathlib.Core.Bool.{Bool, true, false, cond, _&&_}
-use mathlib.Core.List.{List, [], _∷_, _++_, append-nil}
+use mathlib.Core.List.{List, _++_, append-nil}
 use Prim.Native.Nat.{ℕ, _+_, _*_, _<_, _≤_}
 use native.Mathlib.Omega.{arith}
 use borrow.Author.Tests.{le-leb, lt-leb, leb-true}
-use lib.Dec.{eqb, leb}
+use lib.Dec.{leb}
 use lib.ListN.{length, take, drop, take-append-drop}
 use lib.Seq.{drop-length}
-use Rattle.model.specs.Reading.{refuse, got}
-use Rattle.model.specs.Listing.{wordsFrom}
-use Rattle.listing.specs.Texts.{firsts}
-use Rattle.listing.specs.Inputs.{WordsRead, wordsIn, words-there}
+use Rattle.laws.specs.FieldAt.{firsts}
+use Rattle.listing.specs.Inputs.{WordsRead, wordsIn}
+use Rattle.listing.specs.InputLaws.{words-there}
 use Rattle.vectors.specs.Stored.{wholeSize, sizeOf, Whole}
 
 -- A list whose every place was stored.

@@ -6,8 +6,9 @@ use native.Mathlib.Omega.{arith}
 use lib.ListN.{length, getD}
 use Rattle.model.specs.Required.{oneBit, Asked}
 use Rattle.model.specs.Calls as model
-use Rattle.calls.specs.declared.Answer.{Answer}
-use Rattle.calls.specs.Answers.{Answered, numberOf, writtenOf, number-of, written-of}
+use Rattle.answer.specs.declared.Answer.{Answer}
+use Rattle.answer.specs.Answers.{Answered, numberOf, writtenOf}
+use Rattle.answer.specs.AnswerLaws.{number-of, written-of}
 use Rattle.questions.specs.declared.Told.{Told}
 use Rattle.questions.specs.Answers.{asked}
 use Rattle.vectors.specs.declared.Reply.{Reply}

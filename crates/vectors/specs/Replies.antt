@@ -3,9 +3,9 @@ use mathlib.Core.Path.{_≡_}
 use mathlib.Core.List.{List, [], _∷_}
 use Prim.Native.Nat.{ℕ}
 use lib.ListN.{length, getD}
-use Rattle.model.specs.Outcome.{productSets}
-use Rattle.model.specs.Calls.{Answer, numberOf, writtenOf, afterwards, evaluate, partialEvaluate, narrowResidual, completeResidual}
-use Rattle.model.specs.Required.{oneBit, Required, requiredFacts, requiredResidualFacts, Asked, isPermitConstant, isDenyConstant, carriesObligation}
+use Rattle.model.specs.Calls.{Answer, numberOf, writtenOf, afterwards}
+use Rattle.model.specs.Required.{oneBit, Required, Asked}
+use Rattle.model.specs.Products.{evaluate, partialEvaluate, narrowResidual, completeResidual, requiredFacts, requiredResidualFacts, isPermitConstant, isDenyConstant, carriesObligation}
 use Rattle.vectors.specs.declared.Reply.{Reply}
 use Rattle.vectors.specs.Words.{setWords}
 
@@ -30,15 +30,15 @@ nothing before = record { number = 0; value = 0; output = before }
 -- The calls, by their number in a stored answer.
 abbrev pub replies : List ℕ → List ℕ → List ℕ → List Replies
 replies words table before =
-    writing (evaluate productSets words table (length before)) before
-    ∷ writing (partialEvaluate productSets words table (length before)) before
-    ∷ writing (narrowResidual productSets words table (length before)) before
-    ∷ writing (completeResidual productSets words table (length before)) before
-    ∷ requiring (requiredFacts productSets words) before
-    ∷ requiring (requiredResidualFacts productSets words) before
-    ∷ asking (isPermitConstant productSets words) before
-    ∷ asking (isDenyConstant productSets words) before
-    ∷ asking (carriesObligation productSets words) before
+    writing (evaluate words table (length before)) before
+    ∷ writing (partialEvaluate words table (length before)) before
+    ∷ writing (narrowResidual words table (length before)) before
+    ∷ writing (completeResidual words table (length before)) before
+    ∷ requiring (requiredFacts words) before
+    ∷ requiring (requiredResidualFacts words) before
+    ∷ asking (isPermitConstant words) before
+    ∷ asking (isDenyConstant words) before
+    ∷ asking (carriesObligation words) before
     ∷ []
 
 unfoldable pub replyTo : ℕ → List ℕ → List ℕ → List ℕ → Replies

@@ -1,16 +1,16 @@
 // Replays the original's stored answers on the proved calls, and says how many differ.
 // Standard input: a line that says how they were made, then the stored answers. Of each seven 16-bit numbers (call, room, table bytes, words, number,
 // value, answer words), the table, the words, and the words that stand first in the output afterwards; all most significant byte first.
-use calls::Answer;
+use answer::Answer;
 use questions::Told;
 use required::Required;
 ghost use mathlib.Core.Path.{_≡_};
 ghost use mathlib.Core.List.{_++_};
 ghost use Prim.Native.Nat.{_+_, _*_, _^_, _<_, _≤_};
 ghost use lib.ListN.{length, drop};
-ghost use Rattle.model.specs.Outcome.{productSets};
-ghost use Rattle.model.specs.Required.{oneBit, requiredFacts, requiredResidualFacts};
-ghost use Rattle.calls.specs.Answers.{numberOf as Calls·numberOf, writtenOf};
+ghost use Rattle.model.specs.Required.{oneBit};
+ghost use Rattle.model.specs.Products.{requiredFacts, requiredResidualFacts};
+ghost use Rattle.answer.specs.Answers.{numberOf as Answer·numberOf, writtenOf};
 ghost use Rattle.required.specs.Answers.{numberOf, countOf};
 ghost use Rattle.questions.specs.Answers.{asked};
 ghost use Rattle.listing.specs.Inputs.{wordsIn};
@@ -92,7 +92,7 @@ fn put_set(set: &[u64], out: &mut [u32])
 // ---- the proved calls
 
 fn written(answer: Answer) -> Reply
-    ensures { λ r. ⌜ (r .number ≡ Calls·numberOf answer) × (r .value ≡ writtenOf answer) ⌝ }
+    ensures { λ r. ⌜ (r .number ≡ Answer·numberOf answer) × (r .value ≡ writtenOf answer) ⌝ }
 {
     match answer {
         Answer::Written(words) => Reply {
@@ -137,7 +137,7 @@ fn said(told: Told) -> Reply
 }
 
 fn sheet_facts(sheet: &[u32], out: &mut [u32]) -> Reply
-    ensures { λ r. ⌜ Replied (requiring (requiredFacts productSets (now (sheet .entry))) (now (out .entry))) (now (out .exit)) r ⌝ }
+    ensures { λ r. ⌜ Replied (requiring (requiredFacts (now (sheet .entry))) (now (out .entry))) (now (out .exit)) r ⌝ }
 {
     let mut set = [42405u64; 16];
     let reply = counted(required::required_facts(sheet, &mut set));
@@ -146,7 +146,7 @@ fn sheet_facts(sheet: &[u32], out: &mut [u32]) -> Reply
 }
 
 fn record_facts(words: &[u32], out: &mut [u32]) -> Reply
-    ensures { λ r. ⌜ Replied (requiring (requiredResidualFacts productSets (now (words .entry))) (now (out .entry))) (now (out .exit)) r ⌝ }
+    ensures { λ r. ⌜ Replied (requiring (requiredResidualFacts (now (words .entry))) (now (out .entry))) (now (out .exit)) r ⌝ }
 {
     let mut set = [42405u64; 16];
     let reply = counted(required::required_residual_facts(words, &mut set));
@@ -178,9 +178,9 @@ fn answer_to(call: usize, words: &[u32], table: &[u8], out: &mut [u32]) -> Reply
 {
     match call {
         0 => written(calls::evaluate(words, table, out)),
-        1 => written(partial::partial_evaluate(words, table, out)),
-        2 => written(partial::narrow_residual(words, table, out)),
-        3 => written(completion::complete_residual(words, table, out)),
+        1 => written(calls::partial_evaluate(words, table, out)),
+        2 => written(calls::narrow_residual(words, table, out)),
+        3 => written(calls::complete_residual(words, table, out)),
         _ => told_by(call, words, table, out),
     }
 }
@@ -374,11 +374,14 @@ fn print(name: &[u8], tally: Tally) {
     io::write_all(1, b"\n");
 }
 
+// A stored size is a number of 16 bits.
+const SIZES: usize = 65536;
+
 // The line of a call.
 fn replay(cases: &[u8], call: usize, name: &[u8]) {
-    let mut words = [0u32; 65536];
-    let mut expected = [0u32; 65536];
-    let mut out = [0u32; 65536];
+    let mut words = [0u32; SIZES];
+    let mut expected = [0u32; SIZES];
+    let mut out = [0u32; SIZES];
     print(
         name,
         tally_of(cases, call, &mut words, &mut expected, &mut out),

@@ -3,8 +3,9 @@ use mathlib.Core.Path.{_≡_, _∙_, ap, ap₂}
 use mathlib.Core.List.{List}
 use Prim.Native.Nat.{ℕ}
 use Rattle.model.specs.Calls as model
-use Rattle.calls.specs.declared.Answer.{Answer}
-use Rattle.calls.specs.Answers.{numberOf, writtenOf, Answered, number-of, written-of}
+use Rattle.answer.specs.declared.Answer.{Answer}
+use Rattle.answer.specs.Answers.{numberOf, writtenOf, Answered}
+use Rattle.answer.specs.AnswerLaws.{number-of, written-of}
 use Rattle.vierskof.specs.Answers.{returned, Writes}
 
 pub writes : {a : model.Answer} {before after : List ℕ} {r : Answer} {n : ℕ} → Answered a before after r → n ≡ returned (numberOf r) (writtenOf r) → Writes a before after n

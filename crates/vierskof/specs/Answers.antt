@@ -2,8 +2,7 @@
 use mathlib.Core.Path.{_≡_}
 use mathlib.Core.List.{List}
 use Prim.Native.Nat.{ℕ, _+_, _*_, _^_}
-use Rattle.model.specs.Required.{Required}
-use Rattle.model.specs.Required.{oneBit, Asked}
+use Rattle.model.specs.Required.{Required, oneBit, Asked}
 use Rattle.model.specs.Calls.{Answer, numberOf, writtenOf, afterwards}
 use Rattle.required.specs.Answers.{setAfter}
 

@@ -1,15 +1,12 @@
 // The exported C interface. A slice passes as a pointer and an element count. A call returns one number: that of the refusal times 2^32, or 0
 // when it is accepted, and the call's value.
-use calls::Answer;
+use answer::Answer;
 use questions::Told;
 use required::Required;
-ghost use Rattle.model.specs.Outcome.{productSets};
-ghost use Rattle.model.specs.Required.{requiredFacts, requiredResidualFacts};
-ghost use Rattle.model.specs.Required.{isPermitConstant, isDenyConstant, carriesObligation};
-ghost use Rattle.model.specs.Calls.{evaluate, partialEvaluate, narrowResidual, completeResidual};
+ghost use Rattle.model.specs.Products.{evaluate, requiredFacts, requiredResidualFacts, isPermitConstant, isDenyConstant, carriesObligation, partialEvaluate, narrowResidual, completeResidual};
 ghost use mathlib.Core.Path.{_≡_};
 ghost use lib.ListN.{length};
-ghost use Rattle.calls.specs.Answers.{numberOf as Calls·numberOf, writtenOf};
+ghost use Rattle.answer.specs.Answers.{numberOf as Answer·numberOf, writtenOf};
 ghost use Rattle.required.specs.Answers.{numberOf, countOf};
 ghost use Rattle.questions.specs.Answers.{asked};
 ghost use Rattle.vierskof.specs.Answers.{Requires, Writes, returned};
@@ -17,7 +14,7 @@ ghost use Rattle.vierskof.specs.Answers.{said};
 
 // The number of the refusal and the words written, as one number.
 fn written(answer: Answer) -> u64
-    ensures { λ r. ⌜ r ≡ returned (Calls·numberOf answer) (writtenOf answer) ⌝ }
+    ensures { λ r. ⌜ r ≡ returned (Answer·numberOf answer) (writtenOf answer) ⌝ }
 {
     match answer {
         Answer::Written(words) => words as u64,
@@ -38,7 +35,7 @@ fn counted(facts: Required) -> u64
 // Decides a sheet with a known table, and writes the record.
 #[no_mangle]
 pub extern "C" fn vierskof_evaluate(sheet: &[u32], facts: &[u8], out: &mut [u32]) -> u64
-    ensures { λ r. ⌜ Writes (evaluate productSets (now (sheet .entry)) (now (facts .entry)) (length (now (out .entry)))) (now (out .entry)) (now (out .exit)) r ⌝ }
+    ensures { λ r. ⌜ Writes (evaluate (now (sheet .entry)) (now (facts .entry)) (length (now (out .entry)))) (now (out .entry)) (now (out .exit)) r ⌝ }
 {
     written(calls::evaluate(sheet, facts, out))
 }
@@ -46,31 +43,31 @@ pub extern "C" fn vierskof_evaluate(sheet: &[u32], facts: &[u8], out: &mut [u32]
 // Reduces a sheet with a table that may leave facts open, and writes the record.
 #[no_mangle]
 pub extern "C" fn vierskof_partial_evaluate(sheet: &[u32], facts: &[u8], out: &mut [u32]) -> u64
-    ensures { λ r. ⌜ Writes (partialEvaluate productSets (now (sheet .entry)) (now (facts .entry)) (length (now (out .entry)))) (now (out .entry)) (now (out .exit)) r ⌝ }
+    ensures { λ r. ⌜ Writes (partialEvaluate (now (sheet .entry)) (now (facts .entry)) (length (now (out .entry)))) (now (out .entry)) (now (out .exit)) r ⌝ }
 {
-    written(partial::partial_evaluate(sheet, facts, out))
+    written(calls::partial_evaluate(sheet, facts, out))
 }
 
 // Narrows a record by a table of further facts, and writes the record that results.
 #[no_mangle]
 pub extern "C" fn vierskof_narrow_residual(residual: &[u32], facts: &[u8], out: &mut [u32]) -> u64
-    ensures { λ r. ⌜ Writes (narrowResidual productSets (now (residual .entry)) (now (facts .entry)) (length (now (out .entry)))) (now (out .entry)) (now (out .exit)) r ⌝ }
+    ensures { λ r. ⌜ Writes (narrowResidual (now (residual .entry)) (now (facts .entry)) (length (now (out .entry)))) (now (out .entry)) (now (out .exit)) r ⌝ }
 {
-    written(partial::narrow_residual(residual, facts, out))
+    written(calls::narrow_residual(residual, facts, out))
 }
 
 // Completes a record with a known table, and writes the record that results.
 #[no_mangle]
 pub extern "C" fn vierskof_complete_residual(residual: &[u32], facts: &[u8], out: &mut [u32]) -> u64
-    ensures { λ r. ⌜ Writes (completeResidual productSets (now (residual .entry)) (now (facts .entry)) (length (now (out .entry)))) (now (out .entry)) (now (out .exit)) r ⌝ }
+    ensures { λ r. ⌜ Writes (completeResidual (now (residual .entry)) (now (facts .entry)) (length (now (out .entry)))) (now (out .entry)) (now (out .exit)) r ⌝ }
 {
-    written(completion::complete_residual(residual, facts, out))
+    written(calls::complete_residual(residual, facts, out))
 }
 
 // The facts that a sheet names: their count, and their set in `set`, sixteen numbers, fact 0 the top bit of the first.
 #[no_mangle]
 pub extern "C" fn vierskof_required_facts(sheet: &[u32], set: &mut [u64]) -> u64
-    ensures { λ r. ⌜ Requires (requiredFacts productSets (now (sheet .entry))) (now (set .entry)) (now (set .exit)) r ⌝ }
+    ensures { λ r. ⌜ Requires (requiredFacts (now (sheet .entry))) (now (set .entry)) (now (set .exit)) r ⌝ }
 {
     counted(required::required_facts(sheet, set))
 }
@@ -78,7 +75,7 @@ pub extern "C" fn vierskof_required_facts(sheet: &[u32], set: &mut [u64]) -> u64
 // The same of a record's tree.
 #[no_mangle]
 pub extern "C" fn vierskof_required_residual_facts(residual: &[u32], set: &mut [u64]) -> u64
-    ensures { λ r. ⌜ Requires (requiredResidualFacts productSets (now (residual .entry))) (now (set .entry)) (now (set .exit)) r ⌝ }
+    ensures { λ r. ⌜ Requires (requiredResidualFacts (now (residual .entry))) (now (set .entry)) (now (set .exit)) r ⌝ }
 {
     counted(required::required_residual_facts(residual, set))
 }
@@ -96,7 +93,7 @@ fn told(answer: Told) -> u64
 // Whether a record's tree is a permit: 1 if its top node is 6 or 12.
 #[no_mangle]
 pub extern "C" fn vierskof_is_permit_constant(residual: &[u32]) -> u64
-    ensures { λ r. ⌜ r ≡ said (isPermitConstant productSets (now (residual .entry))) ⌝ }
+    ensures { λ r. ⌜ r ≡ said (isPermitConstant (now (residual .entry))) ⌝ }
 {
     told(questions::is_permit_constant(residual))
 }
@@ -104,7 +101,7 @@ pub extern "C" fn vierskof_is_permit_constant(residual: &[u32]) -> u64
 // Whether it is a deny: 1 if its top node is 7 or 13.
 #[no_mangle]
 pub extern "C" fn vierskof_is_deny_constant(residual: &[u32]) -> u64
-    ensures { λ r. ⌜ r ≡ said (isDenyConstant productSets (now (residual .entry))) ⌝ }
+    ensures { λ r. ⌜ r ≡ said (isDenyConstant (now (residual .entry))) ⌝ }
 {
     told(questions::is_deny_constant(residual))
 }
@@ -112,7 +109,7 @@ pub extern "C" fn vierskof_is_deny_constant(residual: &[u32]) -> u64
 // Whether it carries an obligation: 1 if any 8 or 12 in it has obligations.
 #[no_mangle]
 pub extern "C" fn vierskof_carries_obligation(residual: &[u32]) -> u64
-    ensures { λ r. ⌜ r ≡ said (carriesObligation productSets (now (residual .entry))) ⌝ }
+    ensures { λ r. ⌜ r ≡ said (carriesObligation (now (residual .entry))) ⌝ }
 {
     told(questions::carries_obligation(residual))
 }

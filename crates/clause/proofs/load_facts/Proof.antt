@@ -21,11 +21,14 @@ returns-2 c = list-past _ _ _ _ (c .if2 .taken)
 sub-if3 : tie.Need-sub-if3 Inv-loop μ-loop
 sub-if3 c = search needs
 
-add-if3 : tie.Need-add-if3 Inv-loop μ-loop
-add-if3 c = search needs
+cast-entry-words : tie.Need-cast-entry-words Inv-loop μ-loop
+cast-entry-words c = search needs
+
+entry-words-requires : tie.Need-entry-words-requires Inv-loop μ-loop
+entry-words-requires c κs = search needs
 
 returns-3 : tie.Need-returns-3 Inv-loop μ-loop
-returns-3 c = list-cut _ _ _ _ (c .if3 .taken)
+returns-3 c = list-cut _ _ _ _ (omega (arith, c .if3 .taken, c .before .entry-words .ensures))
 
 loop-holds : tie.Need-loop-holds Inv-loop μ-loop
 loop-holds c = load-none _ _ _ _
@@ -63,7 +66,8 @@ load-facts-spec =
     returns
     returns-2
     sub-if3
-    add-if3
+    cast-entry-words
+    entry-words-requires
     returns-3
     loop-holds
     unpack-entry-requires

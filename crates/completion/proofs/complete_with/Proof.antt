@@ -1,4 +1,5 @@
 -- `completion::complete_with` meets its contract. Assumes nothing.
+use native.Mathlib.Omega.{arith}
 use Rattle.condition.proofs.Listing.{no-facts}
 use Rattle.completion.proofs.Completing.{completes}
 use borrow.Author.Needs.{needs}
@@ -18,7 +19,13 @@ eval-policy-requires : tie.Need-eval-policy-requires
 eval-policy-requires c κs = search needs
 
 put-record-requires : tie.Need-put-record-requires
-put-record-requires c κs = search needs
+put-record-requires c κs =
+    let buf = c .before .before .before .before .before in
+    let entries2 = buf .before .before .before in
+    let eval = entries2 .before in
+    let entries = eval .before .before .before .before .before .before in
+    let start = entries .before .before .before .before .before .before .before .before .before .before in
+    (eval .eval-policy .ensures .few, omega (arith, start .pre .3, buf .buf .given), omega (arith, start .pre .5 .1, entries .entries .given, entries2 .entries2 .given), start .pre .4)
 
 same-length : tie.Need-same-length
 same-length c = search needs
@@ -38,7 +45,7 @@ returns c =
     let eval = put .before .before .before .before .before .before .before .before .before .before in
     let load = eval .before .before .before .before .before .before .before in
     let start = load .before .before .before .before .before .before .before .before .before in
-    completes (load .load-consulted .ensures) (no-facts _) (start .pre .1) (start .pre .2) (start .pre .6) (eval .eval-policy .ensures) (put .put-record .ensures)
+    completes (load .load-consulted .ensures) (no-facts _) (start .pre .1) (start .pre .2) (start .pre .5 .0) (eval .eval-policy .ensures) (put .put-record .ensures)
 
 pub complete-with-spec : {M : Type 1} → statement M
 complete-with-spec =

@@ -31,8 +31,8 @@ returns c = load-cut _ _ _ _ _ (c .before .loop-test .taken) (c .if1 .taken) (c 
 unpack-entry-requires : tie.Need-unpack-entry-requires Inv-loop μ-loop
 unpack-entry-requires c κs = search needs
 
-cast-record : tie.Need-cast-record Inv-loop μ-loop
-cast-record c = search needs
+cast-field : tie.Need-cast-field Inv-loop μ-loop
+cast-field c = search needs
 
 entry-presence-requires : tie.Need-entry-presence-requires Inv-loop μ-loop
 entry-presence-requires c κs = search needs
@@ -51,7 +51,7 @@ loop-again c =
     let call = c .before .before .before .before in
     let unpack = call .before .before .before .before in
     let turn = unpack .before .before in
-    load-more _ _ _ _ _ _ _ _ _ (turn .loop-test .taken) (turn .before .loop .inv) (unpack .unpack-entry .ensures) refl (call .before .entry-presence .ensures) (call .«record» .ensures) (search needs) (search needs)
+    load-more _ _ _ _ _ _ _ _ _ (turn .loop-test .taken) (turn .before .loop .inv) (unpack .unpack-entry .ensures) refl (call .before .entry-presence .ensures .seen) (call .«record» .ensures) (search needs) (search needs)
 
 same-length-3 : tie.Need-same-length-3 Inv-loop μ-loop
 same-length-3 c = search needs
@@ -74,7 +74,7 @@ load-consulted-spec =
     same-length-2
     returns
     unpack-entry-requires
-    cast-record
+    cast-field
     entry-presence-requires
     record-requires
     add-i

@@ -52,7 +52,7 @@ returns-2 c =
     let read = recorded .before .before .before in
     rw (c .answer2 .ensures)
     (has-answer (tableOf (now (read .before .before .before .before .before .before .before .before .args .facts))) _ _ _ _ _
-    (read .before .present2 .ensures) refl (rw (read .of .ensures) at (recorded .record-unless .ensures)))
+    (read .before .present2 .ensures) refl (rw (read .of .ensures .seen) at (recorded .record-unless .ensures)))
 
 pub eval-has-spec : {M : Type 1} → statement M
 eval-has-spec =

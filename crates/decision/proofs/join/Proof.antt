@@ -1,24 +1,24 @@
 -- `decision::join` meets its contract, by which of the two outcomes the union equals. Assumes nothing.
-use mathlib.Core.Path.{_≡_, _∙_, ap₂}
+use mathlib.Core.Path.{_≡_, sym, _∙_}
 use native.Mathlib.Omega.{arith}
 use borrow.Author.Needs.{needs}
 use Rattle.model.specs.Outcome.{productSets}
-use Rattle.decision.proofs.Folding.{join-first, join-second, join-both, join-unobliged, join-neither}
+use Rattle.decision.proofs.Folding.{join-of, join-first, join-second, join-both, join-unobliged, join-neither}
 use Rattle.decision.proofs.join.Statement.{statement}
 use Rattle.decision.proofs.join.Tie as tie
 
 -- The result's outcome.
-outcome-is : (c : tie.After-join) → c .join .result .bits ≡ productSets .join (c .before .before .before .before .before .args .sofar .outcome) (c .before .before .before .before .before .args .incoming .outcome)
-outcome-is c = c .join .ensures ∙ ap₂ (productSets .join) (c .before .before .products .ensures) (c .before .products2 .ensures)
-
-products-requires : tie.Need-products-requires
-products-requires c κs = search needs
-
-products-requires-2 : tie.Need-products-requires-2
-products-requires-2 c κs = search needs
+outcome-is : (c : tie.After-join) → c .join .result .bits ≡ productSets .join (c .before .before .before .args .sofar .outcome) (c .before .before .before .args .incoming .outcome)
+outcome-is c = let start = c .before .before .before in c .join .ensures ∙ join-of (start .args .sofar .outcome) (start .args .incoming .outcome)
 
 join-requires : tie.Need-join-requires
 join-requires c κs = search needs
+
+same-requires : tie.Need-same-requires
+same-requires c κs = search needs
+
+same-requires-2 : tie.Need-same-requires-2
+same-requires-2 c κs = search needs
 
 unobliged-requires : tie.Need-unobliged-requires
 unobliged-requires c κs = search needs
@@ -28,6 +28,9 @@ unite-requires c κs = search needs
 
 with-united-requires : tie.Need-with-united-requires
 with-united-requires c κs = search needs
+
+same-requires-3 : tie.Need-same-requires-3
+same-requires-3 c κs = search needs
 
 keep-requires : tie.Need-keep-requires
 keep-requires c κs = search needs
@@ -44,20 +47,20 @@ same-length c = search needs
 returns : tie.Need-returns
 returns c =
     let second = c .before .before in
-    let first = second .before .before .before in
-    join-unobliged _ _ _ _ _ (outcome-is (first .before .before .before)) (omega (arith, first)) (first .if1 .taken) (second .if2 .taken) (c .before .unobliged .ensures (c .if3 .taken))
+    let first = second .before .before in
+    join-unobliged _ _ _ _ _ (outcome-is (first .before .before)) (omega (arith, first)) (sym (first .before .same .ensures) ∙ first .if1 .taken) (sym (second .before .same2 .ensures) ∙ second .if2 .taken) (c .before .unobliged .ensures (c .if3 .taken))
 
 returns-2 : tie.Need-returns-2
 returns-2 c =
     let united = c .before .before .before in
     let second = united .before .before .before .before in
-    let first = second .before .before .before in
-    join-both _ _ _ _ _ (outcome-is (first .before .before .before)) _ _ _ (c .with-united .ensures) (united .unite .ensures) (first .if1 .taken) (second .if2 .taken)
+    let first = second .before .before in
+    join-both _ _ _ _ _ (outcome-is (first .before .before)) _ _ _ (c .with-united .ensures) (united .unite .ensures) (sym (first .before .same .ensures) ∙ first .if1 .taken) (sym (second .before .same2 .ensures) ∙ second .if2 .taken)
 
 returns-3 : tie.Need-returns-3
 returns-3 c =
-    let first = c .before .before .before in
-    join-first _ _ _ _ _ (outcome-is (first .before .before .before)) (omega (arith, first)) (first .if1 .taken) (c .if2 .left)
+    let first = c .before .before in
+    join-first _ _ _ _ _ (outcome-is (first .before .before)) (omega (arith, first)) (sym (first .before .same .ensures) ∙ first .if1 .taken) (sym (c .before .same2 .ensures) ∙ c .if2 .left)
 
 same-length-2 : tie.Need-same-length-2
 same-length-2 c = search needs
@@ -66,8 +69,8 @@ returns-4 : tie.Need-returns-4
 returns-4 c =
     let kept = c .before .before in
     let second = kept .before .before in
-    let first = second .before .before .before in
-    join-second _ _ _ _ _ (outcome-is (first .before .before .before)) _ _ (omega (arith, first)) (kept .keep .ensures) (first .if1 .left) (second .if4 .taken)
+    let first = second .before .before in
+    join-second _ _ _ _ _ (outcome-is (first .before .before)) _ _ (omega (arith, first)) (kept .keep .ensures) (sym (first .before .same .ensures) ∙ first .if1 .left) (sym (second .before .same3 .ensures) ∙ second .if4 .taken)
 
 same-length-3 : tie.Need-same-length-3
 same-length-3 c = search needs
@@ -76,19 +79,20 @@ returns-5 : tie.Need-returns-5
 returns-5 c =
     let united = c .before .before .before in
     let second = united .before .before in
-    let first = second .before .before .before in
-    join-neither _ _ _ _ _ (outcome-is (first .before .before .before)) _ _ _ (c .with-united2 .ensures) (united .unite2 .ensures) (first .if1 .left) (second .if4 .left)
+    let first = second .before .before in
+    join-neither _ _ _ _ _ (outcome-is (first .before .before)) _ _ _ (c .with-united2 .ensures) (united .unite2 .ensures) (sym (first .before .same .ensures) ∙ first .if1 .left) (sym (second .before .same3 .ensures) ∙ second .if4 .left)
 
 pub join-spec : {M : Type 1} → statement M
 join-spec =
     tie.close
     (tie.spec
-    products-requires
-    products-requires-2
     join-requires
+    same-requires
+    same-requires-2
     unobliged-requires
     unite-requires
     with-united-requires
+    same-requires-3
     keep-requires
     unite-requires-2
     with-united-requires-2

@@ -1,4 +1,4 @@
--- `decision::keep` meets its contract. The loop's invariant: the first bytes are those from 64 on, which are as they were. Assumes nothing.
+-- `decision::keep` meets its contract. The loop's invariant: the first bytes are those from the second room on, which are as they were. Assumes nothing.
 use Prim.Native.Nat.{_-_}
 use native.Mathlib.Omega.{arith}
 use borrow.Author.Needs.{needs}
@@ -7,10 +7,10 @@ use Rattle.decision.proofs.keep.Statement.{statement}
 use Rattle.decision.proofs.keep.Tie as tie
 
 abbrev Inv-loop : tie.InvT-loop
-Inv-loop incoming buf₀ count at₀ buf at = Keeping (incoming .count) buf₀ buf at
+Inv-loop incoming buf₀ count at₀ buf at = Keeping (incoming .united) buf₀ buf at
 
 abbrev μ-loop : tie.MeasureT-loop
-μ-loop incoming buf₀ count at₀ buf at = incoming .count - at
+μ-loop incoming buf₀ count at₀ buf at = incoming .united - at
 
 loop-holds : tie.Need-loop-holds Inv-loop μ-loop
 loop-holds c = keep-none _ _

@@ -1,11 +1,11 @@
 -- `decision::obligation_at` meets its contract: a shift by 8 bits for each place leaves the field lowest. Assumes nothing.
-use mathlib.Core.Path.{_≡_, sym, _∙_, ap}
-use Prim.Native.Nat.{_+_, _-_, _*_, _/_, _%_, _^_}
+use mathlib.Core.Path.{refl, sym}
+use Prim.Native.Nat.{_+_, _/_}
 use native.Mathlib.Omega.{arith}
 use borrow.Author.Needs.{needs}
-use lib.ListN.{drop, getD, length-drop}
-use lib.Seq.{getD-drop}
-use Rattle.decision.proofs.Fields.{field-past, by-shift}
+use lib.ListN.{drop, length-drop}
+use Rattle.model.specs.Writing.{obligationBits}
+use Rattle.laws.specs.FieldAtLaws.{field-by-shift, field-past}
 use Rattle.decision.proofs.obligation_at.Statement.{statement}
 use Rattle.decision.proofs.obligation_at.Tie as tie
 
@@ -13,7 +13,7 @@ add-at : tie.Need-add-at
 add-at c = search needs
 
 returns : tie.Need-returns
-returns c = sym (field-past 8 3 (drop 2 (c .before .args .node .now)) (c .before .args .i) (omega (arith, length-drop 2 (c .before .args .node .now))))
+returns c = sym (field-past obligationBits 3 refl (drop 2 (c .before .args .node .now)) (c .before .args .i) (omega (arith, length-drop 2 (c .before .args .node .now))))
 
 mul-result : tie.Need-mul-result
 mul-result c = search needs
@@ -38,11 +38,8 @@ cast-result-2 c = search needs
 
 returns-2 : tie.Need-returns-2
 returns-2 c =
-    let node = c .before .before .args .node .now in
     let i = c .before .before .args .i in
-    let here : getD (drop 2 node) (i / 4) 0 ≡ getD node (2 + i / 4) 0 = getD-drop 2 node (i / 4) 0 in
-    ap (λ w. w / 2 ^ (24 - i % 4 * 8) % 256) (sym here)
-    ∙ by-shift (drop 2 node) i (omega (arith, c .shared-slice-known .given (2 + i / 4)))
+    field-by-shift obligationBits 3 refl (c .before .before .args .node .now) 2 i (omega (arith, c .shared-slice-known .given (2 + i / 4)))
 
 pub obligation-at-spec : {M : Type 1} → statement M
 obligation-at-spec =

@@ -1,5 +1,5 @@
 -- `decision::unobliged` meets its contract. Assumes nothing.
-use mathlib.Core.Path.{_≡_}
+use mathlib.Core.Path.{_≡_, sym, _∙_}
 use Prim.Native.Nat.{ℕ}
 use native.Mathlib.Omega.{arith}
 use borrow.Author.Needs.{needs}
@@ -14,15 +14,20 @@ returns c e = let z : _≡_ {A = ℕ} 0 1 = cc in absurd (omega arith)
 returns-2 : tie.Need-returns-2
 returns-2 c e = unobliged-past _ _ (c .before .if1 .left) (c .if2 .taken)
 
-mul-result : tie.Need-mul-result
-mul-result c = search needs
+mul-obligations-of : tie.Need-mul-obligations-of
+mul-obligations-of c = search needs
 
-shared-slice-read-result : tie.Need-shared-slice-read-result
-shared-slice-read-result c = search needs
+shared-slice-read-obligations-of : tie.Need-shared-slice-read-obligations-of
+shared-slice-read-obligations-of c = search needs
+
+obligations-of-requires : tie.Need-obligations-of-requires
+obligations-of-requires c κs = search needs
 
 returns-3 : tie.Need-returns-3
-returns-3 c e = unobliged-there _ _ (c .before .before .if1 .left) (c .before .if2 .left) (eqb-true _ _ e)
+returns-3 c e =
+    let read = c .before in
+    unobliged-there _ _ (read .before .before .if1 .left) (read .before .if2 .left) (sym (c .obligations-of .ensures) ∙ eqb-true _ _ e)
 
 pub unobliged-spec : {M : Type 1} → statement M
 unobliged-spec =
-    tie.close (tie.spec returns returns-2 mul-result shared-slice-read-result returns-3)
+    tie.close (tie.spec returns returns-2 mul-obligations-of shared-slice-read-obligations-of obligations-of-requires returns-3)

@@ -21,7 +21,7 @@ use Rattle.decisive.proofs.decisive_facts.Kinds as decisive-facts-kinds
 use Rattle.decisive.proofs.+decisive_arm+decisive_arms+decisive_facts.Lts-decisive_facts as decisive-facts-lts
 use Rattle.decisive.proofs.negated.Reads as negated-reads
 use Rattle.decisive.proofs.nothing.Reads as nothing-reads
-use Rattle.decisive.proofs.skip_conditions.Reads as skip-conditions-reads
+use Rattle.policy_model.proofs.skip_conditions.Reads as skip-conditions-reads
 use Rattle.decisive.proofs.slide.Reads as slide-reads
 use Rattle.policy_model.proofs.condition_head.Reads as condition-head-reads
 use Rattle.decisive.proofs.+decisive_arm+decisive_arms+decisive_facts.{statement}
@@ -151,7 +151,7 @@ module _ (t : ℕ) where
       let first = back .before in
       let test = first .before .before in
       passing-stop _ _ _ _ _ _ _ _ _ _ _ _ _ (first .decisive-arm .result) (test .loop-test .taken) (test .before .loop .inv) (first .decisive-arm .ensures) (back .out .given .1)
-      _ _ (record { satisfied-is = refl; next-is = c .skip-conditions .ensures; count-is = refl }) (slid .slide .ensures) (halt .if1 .taken) (omega (arith, c .before .before .out2 .given, back .out .given .1))
+      _ _ _ (c .skip-conditions .ensures) (record { satisfied-is = refl; next-is = refl; count-is = refl }) (slid .slide .ensures) (halt .if1 .taken) (omega (arith, c .before .before .out2 .given, back .out .given .1))
 
   decisive-arms-add-count : decisive-arms-lts.Need-add-count decisive-arms-calls decisive-arms-at decisive-arms.Post decisive-arms-Inv-loop decisive-arms-μ-loop
   decisive-arms-add-count c = search needs

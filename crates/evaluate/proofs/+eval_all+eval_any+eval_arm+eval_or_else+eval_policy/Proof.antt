@@ -4,22 +4,16 @@
 use borrow.Author.Needs.{needs}
 use borrow.Author.Tests.{not-true, not-false}
 use mathlib.Core.Path.{refl, sym, _∙_}
-use mathlib.Core.Bool.{false}
-use mathlib.Core.List.{[]}
-use Prim.Native.Nat.{ℕ, _+_, _*_, _≤_, _<_}
+use Prim.Native.Nat.{ℕ, _+_, _*_, _<_}
 use native.Mathlib.Omega.{arith}
-use lib.ListN.{length}
 use Rattle.model.specs.Facts.{tableOf}
-use Rattle.model.specs.Outcome.{productSets}
-use Rattle.model.specs.Consulted.{readAll}
+use Rattle.model.specs.Products.{readAll, readAny}
 use Rattle.policy_model.specs.declared.PolicyHead.the-variants.{Permit, Deny, Grant, All, Any, OrElse, PermitWithTrace, DenyWithTrace, BadKind, BadField}
 use Rattle.condition.specs.Listing.{lent}
-use Rattle.decision.specs.Meaning.{deniedAt}
-use Rattle.evaluate.specs.Evaluating.{EvaluatesBy, ArmsLeft, Passes}
+use Rattle.evaluate.specs.Evaluating.{EvaluatesBy}
 use Rattle.evaluate.proofs.Folds.{lent-folds}
 use Rattle.evaluate.proofs.Evaluating.{by-head, eval-end, eval-limit, eval-bad-kind, eval-bad-field, eval-permit, eval-permit-word, eval-deny}
-use Rattle.evaluate.proofs.Arms.{allLeft, arms-none, arms-passed, all-more, all-stop, all-node, any-node, or-permits, or-denies, Going, Leads}
-use Rattle.evaluate.proofs.Runs.{passes-none, passes-then, passes-next, any-next, joins-few, joins-left}
+use Rattle.evaluate.proofs.Arms.{ArmsLeft, allLeft, anyLeft, arms-none, arms-passed, all-more, all-stop, any-more, all-node, any-node, or-permits, or-denies, Going}
 use borrow.Fn.Kinds.{In}
 use borrow.Fn.PlainCycle.{Measures, is, falls, and}
 use Rattle.evaluate.proofs.eval_all.Reads as eval-all
@@ -40,9 +34,7 @@ use Rattle.evaluate.proofs.+eval_all+eval_any+eval_arm+eval_or_else+eva
 use Rattle.decision.proofs.denied.Reads as denied-reads
 use Rattle.evaluate.proofs.denied.Reads as denied-reads′
 use Rattle.evaluate.proofs.eval_grant.Reads as eval-grant-reads
-use Rattle.evaluate.proofs.start_any.Reads as start-any-reads
-use Rattle.evaluate.proofs.after_arm.Reads as after-arm-reads
-use Rattle.evaluate.proofs.join_short.Reads as join-short-reads
+use Rattle.evaluate.proofs.joined.Reads as joined-reads
 use Rattle.evaluate.proofs.met.Reads as met-reads
 use Rattle.evaluate.proofs.permitted.Reads as permitted-reads
 use Rattle.evaluate.proofs.stored_deny.Reads as stored-deny-reads
@@ -70,12 +62,11 @@ abbrev μ-eval-policy : Measures 5 eval-policy-kinds.ps ℕ
 abbrev eval-all-Inv-loop : eval-all-lts.InvT-loop
 eval-all-Inv-loop words at depth arms facts entries₀ seen₀ count buf₀ sofar₀ next₀ listed₀ left₀ entries seen buf sofar next listed left =
     Going
-    (Leads
-    (ArmsLeft (allLeft (tableOf facts) words sofar buf) (readAll productSets (tableOf facts)) (tableOf facts) words sofar buf next depth left (lent listed entries seen))
+    (ArmsLeft (allLeft (tableOf facts) words sofar buf) (readAll (tableOf facts)) (tableOf facts) words sofar buf next depth left (lent listed entries seen))
     (EvaluatesBy (All arms) (tableOf facts) words at depth (lent count entries₀ seen₀))
-    sofar)
     (lent count entries₀ seen₀)
     (lent listed entries seen)
+    sofar
     buf₀
     buf
 
@@ -83,17 +74,18 @@ abbrev eval-all-μ-loop : eval-all-lts.MeasureT-loop
 eval-all-μ-loop words at depth arms facts entries₀ seen₀ count buf₀ sofar₀ next₀ listed₀ left₀ entries seen buf sofar next listed left = left
 
 abbrev eval-any-Inv-loop : eval-any-lts.InvT-loop
-eval-any-Inv-loop words at depth arms facts entries₀ seen₀ count buf₀ run₀ entries seen buf run =
-    (64 * (depth + 2) ≤ length buf)
-    × Going
-    (Passes (tableOf facts) words depth run₀ buf₀ (lent (run₀ .count) entries₀ seen₀) run buf (lent (run .count) entries seen))
-    (lent (run₀ .count) entries₀ seen₀)
-    (lent (run .count) entries seen)
+eval-any-Inv-loop words at depth arms facts entries₀ seen₀ count buf₀ sofar₀ begun₀ next₀ listed₀ left₀ entries seen buf sofar begun next listed left =
+    Going
+    (ArmsLeft (anyLeft (tableOf facts) words begun sofar buf) (readAny (tableOf facts)) (tableOf facts) words sofar buf next depth left (lent listed entries seen))
+    (EvaluatesBy (Any arms) (tableOf facts) words at depth (lent count entries₀ seen₀))
+    (lent count entries₀ seen₀)
+    (lent listed entries seen)
+    sofar
     buf₀
     buf
 
 abbrev eval-any-μ-loop : eval-any-lts.MeasureT-loop
-eval-any-μ-loop words at depth arms facts entries₀ seen₀ count buf₀ run₀ entries seen buf run = run .left
+eval-any-μ-loop words at depth arms facts entries₀ seen₀ count buf₀ sofar₀ begun₀ next₀ listed₀ left₀ entries seen buf sofar begun next listed left = left
 
 module _ (t : ℕ) where
   abbrev eval-all-at : In 5 eval-all-kinds.ps
@@ -143,7 +135,8 @@ module _ (t : ℕ) where
         entries-long = refl;
         seen-long = refl;
         buf-long = refl;
-        known = record { few = omega arith; goes = λ r t end e. all-node _ _ _ _ _ _ r t _ end _ refl (c .before .before .before .before .before .before .pre .1 .0) e };
+        few = omega arith;
+        goes = λ r t end e. all-node _ _ _ _ _ _ r t _ end _ refl (c .before .before .before .before .before .before .pre .1 .0) e;
       })
 
   eval-all-sub-eval-arm : eval-all-lts.Need-sub-eval-arm eval-all-calls eval-all-at eval-all.Post eval-all-Inv-loop eval-all-μ-loop
@@ -179,7 +172,7 @@ module _ (t : ℕ) where
       let call = back .before .before .before .before .before in
       let turn = call .before .before .before .before in
       let loop = turn .before in
-      loop .loop .inv .known .goes _ _ _
+      loop .loop .inv .goes _ _ _
       (all-stop _ _ _ _ _ _ _ _ _ _ _ _ _ _ (turn .loop-test .taken) (call .eval-arm .ensures) _ (not-true _ (c .before .if1 .taken))
       (arms-passed _ _ _ _ _ _ _ _ _ _ (call .eval-arm .ensures .few) (c .skip-policies .ensures)))
 
@@ -189,7 +182,7 @@ module _ (t : ℕ) where
       let call = back .before .before .before .before .before in
       let loop = call .before .before .before .before .before in
       let start = loop .before .before .before .before .before .before .before in
-      (loop .loop .inv .known .few, call .eval-arm .ensures .few, omega (arith, back .buf .given, loop .loop .inv .buf-long, start .pre))
+      (loop .loop .inv .few, call .eval-arm .ensures .few, omega (arith, back .buf .given, loop .loop .inv .buf-long, start .pre))
 
   eval-all-loop-less : eval-all-lts.Need-loop-less eval-all-calls eval-all-at eval-all.Post eval-all-Inv-loop eval-all-μ-loop
   eval-all-loop-less c = omega arith
@@ -207,13 +200,11 @@ module _ (t : ℕ) where
         entries-long = omega (arith, back .before .before .before .before .entries .given, loop .loop .inv .entries-long);
         seen-long = omega (arith, back .before .before .seen .given, loop .loop .inv .seen-long);
         buf-long = omega (arith, c .before .buf2 .given, back .buf .given, loop .loop .inv .buf-long);
-        known = record {
-          few = meet .met .ensures .few;
-          goes = λ r t end e. loop .loop .inv .known .goes r t end
-              (all-more _ _ _ _ _ t _ r _ _ _ end _ _ (turn .loop-test .taken) (call .eval-arm .ensures) _ _ (not-false _ (permit .if1 .left))
-              (lent-folds _ _ _ _ _ _ _ _ (omega (arith, loop .loop .inv .buf-long, start .pre)) (loop .loop .inv .known .few) (omega (arith, back .buf .given, loop .loop .inv .buf-long, start .pre, call .eval-arm .ensures .few)) _
-              (meet .met .ensures .folds (not-false _ (permit .if1 .left)))) e);
-        };
+        few = meet .met .ensures .few;
+        goes = λ r t end e. loop .loop .inv .goes r t end
+            (all-more _ _ _ _ _ t _ r _ _ _ end _ _ (turn .loop-test .taken) (call .eval-arm .ensures) _ _ (not-false _ (permit .if1 .left))
+            (lent-folds _ _ _ _ _ _ _ _ (omega (arith, loop .loop .inv .buf-long, start .pre)) (loop .loop .inv .few) (omega (arith, back .buf .given, loop .loop .inv .buf-long, start .pre, call .eval-arm .ensures .few)) _
+            (meet .met .ensures .folds (not-false _ (permit .if1 .left)))) e);
       }
 
   eval-all-same-length-4 : eval-all-lts.Need-same-length-4 eval-all-calls eval-all-at eval-all.Post eval-all-Inv-loop eval-all-μ-loop
@@ -228,122 +219,73 @@ module _ (t : ℕ) where
   eval-all-returns-2 : eval-all-lts.Need-returns-2 eval-all-calls eval-all-at eval-all.Post eval-all-Inv-loop eval-all-μ-loop
   eval-all-returns-2 c =
       let loop = c .before in
-      loop .loop .inv .known .goes _ _ _ (arms-none _ _ _ _ _ _ _ _ _ _ _ (c .loop-test .left) (loop .loop .inv .known .few) refl (λ l. refl))
+      loop .loop .inv .goes _ _ _ (arms-none _ _ _ _ _ _ _ _ _ _ _ (c .loop-test .left) (loop .loop .inv .few) refl (λ l. refl))
 
   -- what `eval-any` calls
   abbrev eval-any-calls : eval-any-lts.Claims
-  eval-any-calls = (denied-reads′.Asked, denied-reads′.Learnt, eval-policy-below, eval-policy.Post, start-any-reads.Asked, start-any-reads.Learnt, eval-arm-below, eval-arm.Post, after-arm-reads.Asked, after-arm-reads.Learnt, join-short-reads.Asked, join-short-reads.Learnt)
-
-  eval-any-add-denied : eval-any-lts.Need-add-denied eval-any-calls eval-any-at eval-any.Post eval-any-Inv-loop eval-any-μ-loop
-  eval-any-add-denied c = search needs
+  eval-any-calls = (denied-reads.Asked, denied-reads.Learnt, eval-arm-below, eval-arm.Post, joined-reads.Asked, joined-reads.Learnt)
 
   eval-any-denied-requires : eval-any-lts.Need-denied-requires eval-any-calls eval-any-at eval-any.Post eval-any-Inv-loop eval-any-μ-loop
   eval-any-denied-requires c κs = search needs
 
-  eval-any-returns : eval-any-lts.Need-returns eval-any-calls eval-any-at eval-any.Post eval-any-Inv-loop eval-any-μ-loop
-  eval-any-returns c =
-      let start = c .before .before .before .before .before .before .before in
-      rw (c .denied .ensures) (any-node _ _ _ _ _ _ _ _ _ _ _ refl (start .pre .1 .0) (arms-none _ _ _ _ _ _ _ _ _ _ _ (c .before .if1 .taken) (omega arith) refl (λ l. refl)))
-
-  eval-any-add-eval-policy : eval-any-lts.Need-add-eval-policy eval-any-calls eval-any-at eval-any.Post eval-any-Inv-loop eval-any-μ-loop
-  eval-any-add-eval-policy c = search needs
-
-  eval-any-sub-eval-policy : eval-any-lts.Need-sub-eval-policy eval-any-calls eval-any-at eval-any.Post eval-any-Inv-loop eval-any-μ-loop
-  eval-any-sub-eval-policy c = search needs
-
-  eval-any-part-eval-policy-start : eval-any-lts.Need-part-eval-policy-start eval-any-calls eval-any-at eval-any.Post eval-any-Inv-loop eval-any-μ-loop
-  eval-any-part-eval-policy-start c = search needs
-
-  eval-any-part-eval-policy-end : eval-any-lts.Need-part-eval-policy-end eval-any-calls eval-any-at eval-any.Post eval-any-Inv-loop eval-any-μ-loop
-  eval-any-part-eval-policy-end c = search needs
-
-  eval-any-eval-policy-requires : eval-any-lts.Need-eval-policy-requires eval-any-calls eval-any-at eval-any.Post eval-any-Inv-loop eval-any-μ-loop
-  eval-any-eval-policy-requires c κs = search needs
-
-  eval-any-start-any-requires : eval-any-lts.Need-start-any-requires eval-any-calls eval-any-at eval-any.Post eval-any-Inv-loop eval-any-μ-loop
-  eval-any-start-any-requires c κs =
-      let back = c .before .before in
-      let call = back .before .before .before .before .before in
-      let start = call .before .before .before .before .before .before .before .before .before .before in
-      (call .eval-policy .ensures .few, omega (arith, back .buf .given, start .pre), omega (arith, call .before .before .before .before .if1 .left))
+  eval-any-add-next : eval-any-lts.Need-add-next eval-any-calls eval-any-at eval-any.Post eval-any-Inv-loop eval-any-μ-loop
+  eval-any-add-next c = search needs
 
   eval-any-loop-holds : eval-any-lts.Need-loop-holds eval-any-calls eval-any-at eval-any.Post eval-any-Inv-loop eval-any-μ-loop
   eval-any-loop-holds c =
-      let started = c .before .before in
-      let back = started .before .before .before in
-      let start = back .before .before .before .before .before .before .before .before .before .before .before .before .before .before .before in (
-        omega (arith, c .before .buf2 .given, back .buf .given, start .pre),
-        record {
-          entries-long = refl;
-          seen-long = refl;
-          buf-long = refl;
-          known = passes-none _ _ _ _ _ _ (joins-few (started .start-any .ensures [] (deniedAt 0 0)));
-        },
-      )
+      rw (c .denied .ensures)
+      (record {
+        entries-long = refl;
+        seen-long = refl;
+        buf-long = refl;
+        few = omega arith;
+        goes = λ r t end e. any-node _ _ _ _ _ _ r t _ end _ refl (c .before .before .before .before .before .before .pre .1 .0) e;
+      })
 
   eval-any-sub-eval-arm : eval-any-lts.Need-sub-eval-arm eval-any-calls eval-any-at eval-any.Post eval-any-Inv-loop eval-any-μ-loop
-  eval-any-sub-eval-arm c =
-      let loop = c .before .before .before .before in
-      omega (arith, loop .loop .inv .0)
+  eval-any-sub-eval-arm c = search needs
 
   eval-any-part-eval-arm-start : eval-any-lts.Need-part-eval-arm-start eval-any-calls eval-any-at eval-any.Post eval-any-Inv-loop eval-any-μ-loop
-  eval-any-part-eval-arm-start c =
-      let loop = c .before .before .before .before in
-      omega (arith, loop .loop .inv .0)
+  eval-any-part-eval-arm-start c = search needs
 
   eval-any-part-eval-arm-end : eval-any-lts.Need-part-eval-arm-end eval-any-calls eval-any-at eval-any.Post eval-any-Inv-loop eval-any-μ-loop
-  eval-any-part-eval-arm-end c =
-      let loop = c .before .before .before .before in
-      omega (arith, loop .loop .inv .0)
+  eval-any-part-eval-arm-end c = search needs
 
   eval-any-eval-arm-requires : eval-any-lts.Need-eval-arm-requires eval-any-calls eval-any-at eval-any.Post eval-any-Inv-loop eval-any-μ-loop
-  eval-any-eval-arm-requires c κs =
-      let loop = c .before .before .before .before .before in
-      let start = loop .before .before .before .before .before .before .before .before .before .before .before .before .before .before .before .before .before .before .before .before .before in
-      (omega (arith, start .pre .0), (omega (arith, start .pre .1 .1), omega (arith, loop .loop .inv .0), start .pre .1 .3))
+  eval-any-eval-arm-requires c κs = search needs
 
-  eval-any-after-arm-requires : eval-any-lts.Need-after-arm-requires eval-any-calls eval-any-at eval-any.Post eval-any-Inv-loop eval-any-μ-loop
-  eval-any-after-arm-requires c κs =
-      let back = c .before .before in
+  eval-any-sub-left : eval-any-lts.Need-sub-left eval-any-calls eval-any-at eval-any.Post eval-any-Inv-loop eval-any-μ-loop
+  eval-any-sub-left c = search needs
+
+  eval-any-joined-requires : eval-any-lts.Need-joined-requires eval-any-calls eval-any-at eval-any.Post eval-any-Inv-loop eval-any-μ-loop
+  eval-any-joined-requires c κs =
+      let back = c .before .before .before in
       let call = back .before .before .before .before .before in
-      let turn = call .before .before .before .before in
-      let loop = turn .before .before in
-      (loop .loop .inv .1 .known .few, call .eval-arm .ensures .few, omega (arith, back .buf3 .given, loop .loop .inv .0), omega (arith, turn .if2 .taken))
-
-  eval-any-join-short-requires : eval-any-lts.Need-join-short-requires eval-any-calls eval-any-at eval-any.Post eval-any-Inv-loop eval-any-μ-loop
-  eval-any-join-short-requires c κs =
-      let joined = c .before .before .before .before .before in
-      let back = joined .before .before .before in
-      let loop = back .before .before .before .before .before .before .before .before .before .before .before in
-      (joins-few (joined .after-arm .ensures), omega (arith, c .before .before .before .before .buf4 .given, back .buf3 .given, loop .loop .inv .0))
+      let loop = call .before .before .before .before .before in
+      let start = loop .before .before .before .before .before .before .before in
+      (loop .loop .inv .few, call .eval-arm .ensures .few, omega (arith, back .buf .given, loop .loop .inv .buf-long, start .pre))
 
   eval-any-loop-less : eval-any-lts.Need-loop-less eval-any-calls eval-any-at eval-any.Post eval-any-Inv-loop eval-any-μ-loop
-  eval-any-loop-less c =
-      let short = c .before .before .before .before .before .before in
-      let joined = short .before .before .before .before .before .before in
-      omega (arith, short .join-short .ensures 0 .fewer, joins-left (joined .after-arm .ensures), joined .before .before .before .before .before .before .before .before .before .before .before .before .if2 .taken)
+  eval-any-loop-less c = omega arith
 
   eval-any-loop-again : eval-any-lts.Need-loop-again eval-any-calls eval-any-at eval-any.Post eval-any-Inv-loop eval-any-μ-loop
   eval-any-loop-again c =
-      let short = c .before .before .before .before .before .before in
-      let joined = short .before .before .before .before .before .before in
-      let back = joined .before .before .before in
+      let join = c .before .before in
+      let back = join .before .before .before .before in
       let call = back .before .before .before .before .before in
       let turn = call .before .before .before .before in
-      let loop = turn .before .before in
-      let inv = loop .loop .inv .1 in (
-        omega (arith, c .before .buf5 .given, short .before .before .before .before .before .buf4 .given, back .buf3 .given, loop .loop .inv .0),
-        record {
-          entries-long = omega (arith, c .before .before .before .before .before .entries3 .given, back .before .before .before .before .entries2 .given, inv .entries-long);
-          seen-long = omega (arith, c .before .before .before .seen3 .given, back .before .before .seen2 .given, inv .seen-long);
-          buf-long = omega (arith, c .before .buf5 .given, short .before .before .before .before .before .buf4 .given, back .buf3 .given, inv .buf-long);
-          known = passes-then _ _ _ (inv .known)
-              (passes-then _ _ _
-              (passes-next _ _ _ _ _ _ _ _ _ _ _ _ _ (turn .if2 .taken) (omega (arith, loop .loop .inv .0)) (inv .known .few) (omega (arith, back .buf3 .given, loop .loop .inv .0, call .eval-arm .ensures .few))
-              (call .eval-arm .ensures) (joined .after-arm .ensures))
-              (short .join-short .ensures _));
-        },
-      )
+      let loop = turn .before in
+      let start = loop .before .before .before .before .before .before .before in
+      record {
+        entries-long = omega (arith, back .before .before .before .before .entries .given, loop .loop .inv .entries-long);
+        seen-long = omega (arith, back .before .before .seen .given, loop .loop .inv .seen-long);
+        buf-long = omega (arith, c .before .buf2 .given, back .buf .given, loop .loop .inv .buf-long);
+        few = join .joined .ensures .few;
+        goes = λ r t end e. loop .loop .inv .goes r t end
+            (any-more _ _ _ _ _ t _ r _ _ _ end _ _ (turn .loop-test .taken) (call .eval-arm .ensures) (loop .loop .begun) _ _
+            (lent-folds _ _ _ _ _ _ _ _ (omega (arith, loop .loop .inv .buf-long, start .pre)) (loop .loop .inv .few) (omega (arith, back .buf .given, loop .loop .inv .buf-long, start .pre, call .eval-arm .ensures .few)) _
+            (join .joined .ensures)) e);
+      }
 
   eval-any-same-length : eval-any-lts.Need-same-length eval-any-calls eval-any-at eval-any.Post eval-any-Inv-loop eval-any-μ-loop
   eval-any-same-length c = search needs
@@ -354,18 +296,10 @@ module _ (t : ℕ) where
   eval-any-same-length-3 : eval-any-lts.Need-same-length-3 eval-any-calls eval-any-at eval-any.Post eval-any-Inv-loop eval-any-μ-loop
   eval-any-same-length-3 c = search needs
 
-  eval-any-returns-2 : eval-any-lts.Need-returns-2 eval-any-calls eval-any-at eval-any.Post eval-any-Inv-loop eval-any-μ-loop
-  eval-any-returns-2 c =
-      let loop = c .before .before .before in
-      let started = loop .before .before .before in
-      let back = started .before .before .before in
-      let call = back .before .before .before .before .before in
-      let start = call .before .before .before .before .before .before .before .before .before .before in
-      let none = length (start .args .words .now) in
-      any-node _ _ _ _ _ _ _ _ (start .args .buf .now) _ _ refl (start .pre .1 .0)
-      (any-next _ _ _ _ _ _ _ false (deniedAt none none) _ _ _ _ _ _ _ (call .before .before .before .before .if1 .left) (omega (arith, start .pre)) (omega arith)
-      (omega (arith, back .buf .given, start .pre, call .eval-policy .ensures .few)) (call .eval-policy .ensures) (started .start-any .ensures _ _) _ _ _
-      (loop .loop .inv .1 .known .goes _ _ _ (arms-none _ _ _ _ _ _ _ _ _ _ _ (c .before .if2 .left) (loop .loop .inv .1 .known .few) refl (λ l. refl))))
+  eval-any-returns : eval-any-lts.Need-returns eval-any-calls eval-any-at eval-any.Post eval-any-Inv-loop eval-any-μ-loop
+  eval-any-returns c =
+      let loop = c .before in
+      loop .loop .inv .goes _ _ _ (arms-none _ _ _ _ _ _ _ _ _ _ _ (c .loop-test .left) (loop .loop .inv .few) refl (λ l. refl))
 
   -- what `eval-arm` calls
   abbrev eval-arm-calls : eval-arm-lts.Claims
@@ -677,28 +611,21 @@ pub +eval-all+eval-any+eval-arm+eval-or-else+eval-policy-spec : {M : Type 1} →
     (eval-all-same-length-6 t)
     (eval-all-returns-2 t))
     (λ t. eval-any-lts.spec (eval-any-calls t) (eval-any-at t) eval-any.Post eval-any-Inv-loop eval-any-μ-loop
-    (eval-any-add-denied t)
     (eval-any-denied-requires t)
-    (eval-any-returns t)
-    (eval-any-add-eval-policy t)
-    (eval-any-sub-eval-policy t)
-    (eval-any-part-eval-policy-start t)
-    (eval-any-part-eval-policy-end t)
-    (eval-any-eval-policy-requires t)
-    (eval-any-start-any-requires t)
+    (eval-any-add-next t)
     (eval-any-loop-holds t)
     (eval-any-sub-eval-arm t)
     (eval-any-part-eval-arm-start t)
     (eval-any-part-eval-arm-end t)
     (eval-any-eval-arm-requires t)
-    (eval-any-after-arm-requires t)
-    (eval-any-join-short-requires t)
+    (eval-any-sub-left t)
+    (eval-any-joined-requires t)
     (eval-any-loop-less t)
     (eval-any-loop-again t)
     (eval-any-same-length t)
     (eval-any-same-length-2 t)
     (eval-any-same-length-3 t)
-    (eval-any-returns-2 t))
+    (eval-any-returns t))
     (λ t. eval-arm-lts.spec (eval-arm-calls t) (eval-arm-at t) eval-arm.Post
     (eval-arm-denied-requires t)
     (eval-arm-returns t)

@@ -1,6 +1,5 @@
 -- `evaluate::stored_deny` meets its contract: by whether its words end early. Assumes nothing.
 use native.Mathlib.Omega.{arith}
-use mathlib.Core.Path.{refl}
 use Rattle.condition.specs.Listing.{lent}
 use Rattle.evaluate.proofs.Evaluating.{deny-short, deny-stored}
 use borrow.Author.Needs.{needs}
@@ -21,20 +20,17 @@ returns c =
 add-third : tie.Need-add-third
 add-third c = search needs
 
-mul-facts : tie.Need-mul-facts
-mul-facts c = search needs
+mul-entry-words : tie.Need-mul-entry-words
+mul-entry-words c = search needs
 
-shared-slice-read-facts : tie.Need-shared-slice-read-facts
-shared-slice-read-facts c = search needs
+shared-slice-read-entry-words : tie.Need-shared-slice-read-entry-words
+shared-slice-read-entry-words c = search needs
 
-cast-facts : tie.Need-cast-facts
-cast-facts c = search needs
+entry-words-requires : tie.Need-entry-words-requires
+entry-words-requires c κs = search needs
 
 add-size : tie.Need-add-size
 add-size c = search needs
-
-add-size-2 : tie.Need-add-size-2
-add-size-2 c = search needs
 
 sub-if2 : tie.Need-sub-if2
 sub-if2 c = search needs
@@ -44,19 +40,23 @@ denied-requires-2 c κs = search needs
 
 returns-2 : tie.Need-returns-2
 returns-2 c =
-    let start = c .before .before .before .before .before in
-    λ hidden denied o depth T entries seen buf deep. rw (c .denied2 .ensures) (deny-short T _ _ depth (start .pre) deep hidden denied o (lent _ entries seen) buf _ (omega arith) (c .before .if2 .taken))
+    let facts = c .before .before in
+    let start = facts .before .before .before .before in
+    λ hidden denied o depth T entries seen buf deep. rw (c .denied2 .ensures)
+    (deny-short T _ _ depth (start .pre) deep hidden denied o (lent _ entries seen) buf _ (omega arith) (omega (arith, c .before .if2 .taken, facts .entry-words .ensures)))
 
 denied-by-requires : tie.Need-denied-by-requires
 denied-by-requires c κs = search needs
 
-add-t13 : tie.Need-add-t13
-add-t13 c = search needs
+add-t9 : tie.Need-add-t9
+add-t9 c = search needs
 
 returns-3 : tie.Need-returns-3
 returns-3 c =
-    let start = c .before .before .before .before .before in
-    λ hidden denied o depth T entries seen buf deep. rw (c .denied-by .ensures) (deny-stored T _ _ depth (start .pre) deep hidden denied o (lent _ entries seen) buf _ _ refl)
+    let facts = c .before .before in
+    let start = facts .before .before .before .before in
+    λ hidden denied o depth T entries seen buf deep. rw (c .denied-by .ensures)
+    (deny-stored T _ _ depth (start .pre) deep hidden denied o (lent _ entries seen) buf _ _ (omega (arith, facts .entry-words .ensures)))
 
 pub stored-deny-spec : {M : Type 1} → statement M
 stored-deny-spec =
@@ -66,14 +66,13 @@ stored-deny-spec =
     denied-requires
     returns
     add-third
-    mul-facts
-    shared-slice-read-facts
-    cast-facts
+    mul-entry-words
+    shared-slice-read-entry-words
+    entry-words-requires
     add-size
-    add-size-2
     sub-if2
     denied-requires-2
     returns-2
     denied-by-requires
-    add-t13
+    add-t9
     returns-3)

@@ -1,6 +1,5 @@
 -- `evaluate::stored_permit` meets its contract: by whether its words end early. Assumes nothing.
 use native.Mathlib.Omega.{arith}
-use mathlib.Core.Path.{refl}
 use Rattle.condition.specs.Listing.{lent}
 use Rattle.evaluate.proofs.Evaluating.{permit-short, permit-stored}
 use borrow.Author.Needs.{needs}
@@ -18,26 +17,23 @@ returns c =
     let start = c .before .before .before in
     λ depth T entries seen buf deep. rw (c .denied .ensures) (permit-short T _ _ depth (start .pre) deep _ _ (lent _ entries seen) buf _ (omega arith) (omega arith))
 
-mul-facts : tie.Need-mul-facts
-mul-facts c = search needs
-
-shared-slice-read-facts : tie.Need-shared-slice-read-facts
-shared-slice-read-facts c = search needs
-
-cast-facts : tie.Need-cast-facts
-cast-facts c = search needs
+obligation-words-requires : tie.Need-obligation-words-requires
+obligation-words-requires c κs = search needs
 
 add-size : tie.Need-add-size
 add-size c = search needs
 
+mul-entry-words : tie.Need-mul-entry-words
+mul-entry-words c = search needs
+
+shared-slice-read-entry-words : tie.Need-shared-slice-read-entry-words
+shared-slice-read-entry-words c = search needs
+
+entry-words-requires : tie.Need-entry-words-requires
+entry-words-requires c κs = search needs
+
 add-size-2 : tie.Need-add-size-2
 add-size-2 c = search needs
-
-add-size-3 : tie.Need-add-size-3
-add-size-3 c = search needs
-
-add-size-4 : tie.Need-add-size-4
-add-size-4 c = search needs
 
 sub-if2 : tie.Need-sub-if2
 sub-if2 c = search needs
@@ -47,19 +43,25 @@ denied-requires-2 c κs = search needs
 
 returns-2 : tie.Need-returns-2
 returns-2 c =
-    let start = c .before .before .before .before .before in
-    λ depth T entries seen buf deep. rw (c .denied2 .ensures) (permit-short T _ _ depth (start .pre) deep _ _ (lent _ entries seen) buf _ (omega arith) (c .before .if2 .taken))
+    let facts = c .before .before in
+    let held = facts .before .before in
+    let start = held .before .before .before in
+    λ depth T entries seen buf deep. rw (c .denied2 .ensures)
+    (permit-short T _ _ depth (start .pre) deep _ _ (lent _ entries seen) buf _ (omega arith) (omega (arith, c .before .if2 .taken, facts .entry-words .ensures, held .obligation-words .ensures)))
 
 permitted-by-requires : tie.Need-permitted-by-requires
 permitted-by-requires c κs = search needs
 
-add-t18 : tie.Need-add-t18
-add-t18 c = search needs
+add-t12 : tie.Need-add-t12
+add-t12 c = search needs
 
 returns-3 : tie.Need-returns-3
 returns-3 c =
-    let start = c .before .before .before .before .before in
-    λ depth T entries seen buf deep. rw (c .permitted-by .ensures) (permit-stored T _ _ depth (start .pre) deep _ _ (lent _ entries seen) buf _ _ refl)
+    let facts = c .before .before in
+    let held = facts .before .before in
+    let start = held .before .before .before in
+    λ depth T entries seen buf deep. rw (c .permitted-by .ensures)
+    (permit-stored T _ _ depth (start .pre) deep _ _ (lent _ entries seen) buf _ _ (omega (arith, facts .entry-words .ensures, held .obligation-words .ensures)))
 
 pub stored-permit-spec : {M : Type 1} → statement M
 stored-permit-spec =
@@ -68,16 +70,15 @@ stored-permit-spec =
     add-second
     denied-requires
     returns
-    mul-facts
-    shared-slice-read-facts
-    cast-facts
+    obligation-words-requires
     add-size
+    mul-entry-words
+    shared-slice-read-entry-words
+    entry-words-requires
     add-size-2
-    add-size-3
-    add-size-4
     sub-if2
     denied-requires-2
     returns-2
     permitted-by-requires
-    add-t18
+    add-t12
     returns-3)

@@ -5,7 +5,7 @@ use native.Mathlib.Omega.{arith}
 use borrow.Author.Needs.{needs}
 use lib.ListN.{drop}
 use Rattle.model.specs.Reading.{got}
-use Rattle.listing.specs.Inputs.{number-two}
+use Rattle.listing.specs.InputLaws.{number-two}
 use Rattle.listing.proofs.number_at.Statement.{statement}
 use Rattle.listing.proofs.number_at.Tie as tie
 

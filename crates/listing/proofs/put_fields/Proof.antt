@@ -6,9 +6,10 @@ use Prim.Native.Nat.{ℕ, _+_, _-_, _<_, _≤_}
 use native.Mathlib.Numerals.{add-one}
 use native.Mathlib.Omega.{arith}
 use borrow.Author.Needs.{needs}
-use lib.ListN.{length, length-append, length-take, length-drop}
+use lib.ListN.{length, drop, length-append, length-take, length-drop}
 use Rattle.model.specs.Listing.{text}
-use Rattle.listing.specs.Texts.{Wrote, widthOf, mostOf, fieldAt, fieldText, fieldsText}
+use Rattle.laws.specs.FieldAt.{fieldAt}
+use Rattle.listing.specs.Texts.{Wrote, widthOf, mostOf, fieldText, fieldsText}
 use Rattle.listing.specs.Writers.{copied, wrote-as, wrote-then}
 use Rattle.listing.specs.ListTexts.{fields-none, fields-one, fields-more, length-field, length-fields}
 use Rattle.listing.proofs.Lists.{room-left}
@@ -18,7 +19,7 @@ use Rattle.listing.proofs.put_fields.Tie as tie
 abbrev Inv-loop : tie.InvT-loop
 Inv-loop words at count kind out₀ n₀ i₀ out n i =
     (0 < i) × (i ≤ count) × (length out ≡ length out₀) × (n ≡ length (fieldsText kind words at i))
-    × ((before : List ℕ) → Wrote (fieldText kind (fieldAt (widthOf kind) words at 0)) before out₀ n₀ → Wrote (fieldsText kind words at i) before out n)
+    × ((before : List ℕ) → Wrote (fieldText kind (fieldAt (widthOf kind) (drop at words) 0)) before out₀ n₀ → Wrote (fieldsText kind words at i) before out n)
 
 abbrev μ-loop : tie.MeasureT-loop
 μ-loop words at count kind out₀ n₀ i₀ out n i = count - i

@@ -1,13 +1,15 @@
 -- `listing::put_presence` meets its contract: by the presence. Assumes nothing.
 use mathlib.Core.Path.{sym, ap}
 use mathlib.Core.List.{_∷_}
-use Rattle.model.specs.Facts.{presence}
 use Rattle.model.specs.Listing.{text, presenceText}
+use Rattle.facts.specs.Answers.{presenceOf}
 use Rattle.listing.specs.Writers.{copied, wrote-as}
-use Rattle.listing.proofs.Fields.{other-presence}
 use borrow.Author.Needs.{needs}
 use Rattle.listing.proofs.put_presence.Statement.{statement}
 use Rattle.listing.proofs.put_presence.Tie as tie
+
+enum-told : tie.Need-enum-told
+enum-told c = search needs
 
 slice-aggregate-copy : tie.Need-slice-aggregate-copy
 slice-aggregate-copy c = search needs
@@ -15,11 +17,17 @@ slice-aggregate-copy c = search needs
 copy-requires : tie.Need-copy-requires
 copy-requires c κs = search needs
 
+enum-told-2 : tie.Need-enum-told-2
+enum-told-2 c = search needs
+
 slice-aggregate-copy-2 : tie.Need-slice-aggregate-copy-2
 slice-aggregate-copy-2 c = search needs
 
 copy-requires-2 : tie.Need-copy-requires-2
 copy-requires-2 c κs = search needs
+
+enum-told-3 : tie.Need-enum-told-3
+enum-told-3 c = search needs
 
 slice-aggregate-copy-3 : tie.Need-slice-aggregate-copy-3
 slice-aggregate-copy-3 c = search needs
@@ -33,7 +41,7 @@ same-length c = search needs
 returns : tie.Need-returns
 returns c =
     let put = c .before .before .copy .ensures in
-    wrote-as (ap (λ p. 61 ∷ presenceText (presence p)) (sym (c .before .before .before .before .before .match .keys1))) (copied (text "=absent") (put .0) (put .1))
+    wrote-as (ap (λ p. 61 ∷ presenceText (presenceOf p)) (sym (c .before .before .before .before .before .enum-told .given .1))) (copied (text "=absent") (put .0) (put .1))
 
 same-length-2 : tie.Need-same-length-2
 same-length-2 c = search needs
@@ -41,7 +49,7 @@ same-length-2 c = search needs
 returns-2 : tie.Need-returns-2
 returns-2 c =
     let put = c .before .before .copy2 .ensures in
-    wrote-as (ap (λ p. 61 ∷ presenceText (presence p)) (sym (c .before .before .before .before .before .match .keys2))) (copied (text "=present") (put .0) (put .1))
+    wrote-as (ap (λ p. 61 ∷ presenceText (presenceOf p)) (sym (c .before .before .before .before .before .enum-told2 .given .1))) (copied (text "=present") (put .0) (put .1))
 
 same-length-3 : tie.Need-same-length-3
 same-length-3 c = search needs
@@ -49,17 +57,19 @@ same-length-3 c = search needs
 returns-3 : tie.Need-returns-3
 returns-3 c =
     let put = c .before .before .copy3 .ensures in
-    let rest = c .before .before .before .before .before .match .rest in
-    wrote-as (ap (λ p. 61 ∷ presenceText p) (other-presence _ (rest .0 .1) (rest .1))) (copied (text "=unknown") (put .0) (put .1))
+    wrote-as (ap (λ p. 61 ∷ presenceText (presenceOf p)) (sym (c .before .before .before .before .before .enum-told3 .given .1))) (copied (text "=unknown") (put .0) (put .1))
 
 pub put-presence-spec : {M : Type 1} → statement M
 put-presence-spec =
     tie.close
     (tie.spec
+    enum-told
     slice-aggregate-copy
     copy-requires
+    enum-told-2
     slice-aggregate-copy-2
     copy-requires-2
+    enum-told-3
     slice-aggregate-copy-3
     copy-requires-3
     same-length

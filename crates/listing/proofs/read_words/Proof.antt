@@ -8,9 +8,10 @@ use borrow.Author.Needs.{needs}
 use lib.ListN.{length, take, drop, set, length-drop, length-set}
 use lib.Seq.{take-at, drop-at}
 use Rattle.model.specs.Reading.{got}
-use Rattle.listing.specs.Texts.{firsts}
-use Rattle.listing.specs.ListTexts.{length-firsts}
-use Rattle.listing.specs.Inputs.{wordIn, wordsIn, words-short, words-there}
+use Rattle.laws.specs.FieldAt.{firsts}
+use Rattle.laws.specs.FieldAtLaws.{length-firsts}
+use Rattle.listing.specs.Inputs.{wordIn, wordsIn}
+use Rattle.listing.specs.InputLaws.{words-short, words-there}
 use Rattle.listing.proofs.Words.{store-next}
 use Rattle.listing.proofs.read_words.Statement.{statement}
 use Rattle.listing.proofs.read_words.Tie as tie

@@ -3,7 +3,8 @@ use mathlib.Core.Path.{refl}
 use Prim.Native.Nat.{_-_}
 use native.Mathlib.Omega.{arith}
 use lib.ListN.{take, drop}
-use Rattle.packing.specs.Written.{Sofar, sofar-none, sofar-more, sofar-all}
+use Rattle.packing.specs.Written.{Sofar}
+use Rattle.packing.specs.WrittenLaws.{sofar-none, sofar-more, sofar-all}
 use Rattle.packing.proofs.Parts.{part-long, part-word}
 use borrow.Author.Needs.{needs}
 use Rattle.packing.proofs.copy_words.Statement.{statement}

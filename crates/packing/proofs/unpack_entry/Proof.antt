@@ -1,7 +1,9 @@
 -- `packing::unpack_entry` meets its contract: a shift leaves the field lowest. Assumes nothing.
+use mathlib.Core.Path.{refl}
 use Prim.Native.Nat.{_+_, _/_}
 use native.Mathlib.Omega.{arith}
-use Rattle.packing.proofs.Parts.{entry-by-shift}
+use Rattle.model.specs.Writing.{entryBits}
+use Rattle.laws.specs.FieldAtLaws.{field-by-shift}
 use borrow.Author.Needs.{needs}
 use Rattle.packing.proofs.unpack_entry.Statement.{statement}
 use Rattle.packing.proofs.unpack_entry.Tie as tie
@@ -33,7 +35,7 @@ cast-result-2 c = search needs
 returns : tie.Need-returns
 returns c =
     let start = c .before .args in
-    entry-by-shift (start .words .now) (start .at) (start .index) (omega (arith, c .shared-slice-known .given (start .at + start .index / 2)))
+    field-by-shift entryBits 1 refl (start .words .now) (start .at) (start .index) (omega (arith, c .shared-slice-known .given (start .at + start .index / 2)))
 
 pub unpack-entry-spec : {M : Type 1} → statement M
 unpack-entry-spec =

@@ -28,7 +28,7 @@ use Rattle.partial_condition.proofs.+reduce_arm+reduce_arms+reduce_cond
 use Rattle.partial_condition.proofs.reduce_condition_any.Reads as reduce-condition-any
 use Rattle.partial_condition.proofs.reduce_condition_any.Kinds as reduce-condition-any-kinds
 use Rattle.partial_condition.proofs.+reduce_arm+reduce_arms+reduce_condition+reduce_condition_all+reduce_condition_any.Lts-reduce_condition_any as reduce-condition-any-lts
-use Rattle.condition.proofs.skip_conditions.Reads as skip-conditions-reads
+use Rattle.policy_model.proofs.skip_conditions.Reads as skip-conditions-reads
 use Rattle.partial_condition.proofs.decides.Reads as decides-reads
 use Rattle.partial_condition.proofs.ended.Reads as ended-reads
 use Rattle.partial_condition.proofs.heed.Reads as heed-reads
@@ -56,11 +56,11 @@ abbrev μ-reduce-condition-any : Measures 5 reduce-condition-any-kinds.ps ℕ
 μ-reduce-condition-any κs a = a .1 .1 .0 * 4 + 3
 
 abbrev reduce-arms-Inv-loop : reduce-arms-lts.InvT-loop
-reduce-arms-Inv-loop words at depth arms stop facts entries₀ seen₀ count out₀ held₀ next₀ listed₀ left₀ entries seen out held next listed left =
-    Going stop (tableOf facts) words at depth arms (lent count entries₀ seen₀) out₀ (lent listed entries seen) out held next left
+reduce-arms-Inv-loop words at depth arms any facts entries₀ seen₀ count out₀ kept₀ next₀ listed₀ left₀ entries seen out held next listed left =
+    Going any (tableOf facts) words at depth arms (lent count entries₀ seen₀) out₀ (lent listed entries seen) out held next left
 
 abbrev reduce-arms-μ-loop : reduce-arms-lts.MeasureT-loop
-reduce-arms-μ-loop words at depth arms stop facts entries₀ seen₀ count out₀ held₀ next₀ listed₀ left₀ entries seen out held next listed left = left
+reduce-arms-μ-loop words at depth arms any facts entries₀ seen₀ count out₀ kept₀ next₀ listed₀ left₀ entries seen out held next listed left = left
 
 module _ (t : ℕ) where
   abbrev reduce-arm-at : In 5 reduce-arm-kinds.ps

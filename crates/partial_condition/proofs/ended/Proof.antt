@@ -11,11 +11,11 @@ known-requires c κs = search needs
 returns : tie.Need-returns
 returns c = rw (c .known .ensures) (ends-none _ _ _ _ _ (c .before .if1 .taken))
 
-left-requires : tie.Need-left-requires
-left-requires c κs = search needs
+pending-requires : tie.Need-pending-requires
+pending-requires c κs = search needs
 
 returns-2 : tie.Need-returns-2
-returns-2 c = rw (c .left .ensures) (ends-alone _ _ _ _ _ (omega arith) (omega arith))
+returns-2 c = rw (c .pending .ensures) (ends-alone _ _ _ _ _ (omega arith) (omega arith))
 
 lead-requires : tie.Need-lead-requires
 lead-requires c κs = search needs
@@ -23,8 +23,8 @@ lead-requires c κs = search needs
 put-first-requires : tie.Need-put-first-requires
 put-first-requires c κs = search needs
 
-left-requires-2 : tie.Need-left-requires-2
-left-requires-2 c κs = search needs
+pending-requires-2 : tie.Need-pending-requires-2
+pending-requires-2 c κs = search needs
 
 same-length : tie.Need-same-length
 same-length c = search needs
@@ -33,7 +33,7 @@ returns-3 : tie.Need-returns-3
 returns-3 c =
     let put = c .before .before .before in
     let lead = put .before .before in
-    rw (c .left2 .ensures)
+    rw (c .pending2 .ensures)
     (ends-list _ _ _ _ _ _ _ (lead .before .if2 .left) (omega arith) (lead .lead .ensures) (put .put-first .ensures))
 
 pub ended-spec : {M : Type 1} → statement M
@@ -42,10 +42,10 @@ ended-spec =
     (tie.spec
     known-requires
     returns
-    left-requires
+    pending-requires
     returns-2
     lead-requires
     put-first-requires
-    left-requires-2
+    pending-requires-2
     same-length
     returns-3)

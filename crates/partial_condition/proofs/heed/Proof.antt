@@ -18,8 +18,8 @@ returns-2 c = rw (c .plus .ensures) (heeds-first _ _ _ (omega arith) (omega arit
 move-up-requires : tie.Need-move-up-requires
 move-up-requires c κs = search needs
 
-held-more-requires : tie.Need-held-more-requires
-held-more-requires c κs = search needs
+kept-more-requires : tie.Need-kept-more-requires
+kept-more-requires c κs = search needs
 
 same-length : tie.Need-same-length
 same-length c = search needs
@@ -28,15 +28,15 @@ returns-3 : tie.Need-returns-3
 returns-3 c =
     let move = c .before .before .before in
     let second = move .before .before in
-    rw (c .held-more .ensures) (heeds-second _ _ _ (omega arith) (omega arith) (not-false _ (second .before .before .before .before .if1 .left)) (omega arith) _ (second .if3 .taken) (move .move-up .ensures))
+    rw (c .kept-more .ensures) (heeds-second _ _ _ (omega arith) (omega arith) (not-false _ (second .before .before .before .before .if1 .left)) (omega arith) _ (second .if3 .taken) (move .move-up .ensures))
 
-held-more-requires-2 : tie.Need-held-more-requires-2
-held-more-requires-2 c κs = search needs
+kept-more-requires-2 : tie.Need-kept-more-requires-2
+kept-more-requires-2 c κs = search needs
 
 returns-4 : tie.Need-returns-4
 returns-4 c =
     let other = c .before in
-    rw (c .held-more2 .ensures) (heeds-more _ _ _ (omega arith) (omega arith) (not-false _ (other .before .before .before .before .if1 .left)) (omega arith) (other .before .before .if2 .left) (other .if3 .left))
+    rw (c .kept-more2 .ensures) (heeds-more _ _ _ (omega arith) (omega arith) (not-false _ (other .before .before .before .before .if1 .left)) (omega arith) (other .before .before .if2 .left) (other .if3 .left))
 
 pub heed-spec : {M : Type 1} → statement M
 heed-spec =
@@ -46,8 +46,8 @@ heed-spec =
     plus-requires
     returns-2
     move-up-requires
-    held-more-requires
+    kept-more-requires
     same-length
     returns-3
-    held-more-requires-2
+    kept-more-requires-2
     returns-4)

@@ -11,14 +11,14 @@ put-first-requires c κs = search needs
 plus-requires : tie.Need-plus-requires
 plus-requires c κs = search needs
 
-left-requires : tie.Need-left-requires
-left-requires c κs = search needs
+pending-requires : tie.Need-pending-requires
+pending-requires c κs = search needs
 
 same-length : tie.Need-same-length
 same-length c = search needs
 
 returns : tie.Need-returns
-returns c = rw (c .left .ensures, c .before .plus .ensures) (negates-left _ _ _ (c .before .before .before .before .before .before .if1 .taken) (omega arith) (c .before .before .before .before .put-first .ensures))
+returns c = rw (c .pending .ensures, c .before .plus .ensures) (negates-left _ _ _ (c .before .before .before .before .before .before .if1 .taken) (omega arith) (c .before .before .before .before .put-first .ensures))
 
 known-requires : tie.Need-known-requires
 known-requires c κs = search needs
@@ -32,7 +32,7 @@ negated-spec =
     (tie.spec
     put-first-requires
     plus-requires
-    left-requires
+    pending-requires
     same-length
     returns
     known-requires

@@ -36,8 +36,8 @@ add-put-first c = search needs
 put-first-requires : tie.Need-put-first-requires
 put-first-requires c κs = search needs
 
-left-requires : tie.Need-left-requires
-left-requires c κs = search needs
+pending-requires : tie.Need-pending-requires
+pending-requires c κs = search needs
 
 same-length : tie.Need-same-length
 same-length c = search needs
@@ -50,7 +50,7 @@ returns c =
     let call = c .before .before .before .before .before in
     let told = call .before .before .before in
     rw (c .known .ensures)
-    (has-absent _ _ _ _ _ _ _ (sym (told .before .before .of .ensures) ∙ ap presenceOf (told .enum-told .given .1)) (call .«record» .ensures))
+    (has-absent _ _ _ _ _ _ _ (sym (told .before .before .of .ensures .seen) ∙ ap presenceOf (told .enum-told .given .1)) (call .«record» .ensures))
 
 same-length-3 : tie.Need-same-length-3
 same-length-3 c = search needs
@@ -63,7 +63,7 @@ returns-2 c =
     let call = c .before .before .before .before .before in
     let told = call .before .before .before in
     rw (c .known2 .ensures)
-    (has-present _ _ _ _ _ _ _ (sym (told .before .before .of .ensures) ∙ ap presenceOf (told .enum-told2 .given .1)) (call .record2 .ensures))
+    (has-present _ _ _ _ _ _ _ (sym (told .before .before .of .ensures .seen) ∙ ap presenceOf (told .enum-told2 .given .1)) (call .record2 .ensures))
 
 same-length-5 : tie.Need-same-length-5
 same-length-5 c = search needs
@@ -72,8 +72,8 @@ returns-3 : tie.Need-returns-3
 returns-3 c =
     let put = c .before .before .before in
     let told = put .before .before in
-    rw (c .left .ensures)
-    (has-unknown _ _ _ _ _ (told .before .before .before .before .before .before .before .args .out .now) _ (sym (told .before .before .of .ensures) ∙ ap presenceOf (told .enum-told3 .given .1)) (put .put-first .ensures))
+    rw (c .pending .ensures)
+    (has-unknown _ _ _ _ _ (told .before .before .before .before .before .before .before .args .out .now) _ (sym (told .before .before .of .ensures .seen) ∙ ap presenceOf (told .enum-told3 .given .1)) (put .put-first .ensures))
 
 pub reduce-has-spec : {M : Type 1} → statement M
 reduce-has-spec =
@@ -89,7 +89,7 @@ reduce-has-spec =
     enum-told-3
     add-put-first
     put-first-requires
-    left-requires
+    pending-requires
     same-length
     same-length-2
     returns

@@ -21,8 +21,8 @@ lead-requires c κs = search needs
 put-list-requires : tie.Need-put-list-requires
 put-list-requires c κs = search needs
 
-left-requires : tie.Need-left-requires
-left-requires c κs = search needs
+pending-requires : tie.Need-pending-requires
+pending-requires c κs = search needs
 
 same-length : tie.Need-same-length
 same-length c = search needs
@@ -41,7 +41,7 @@ returns-2 c =
     let put = c .before .before .before in
     let head = put .before .before .before in
     let nodes = head .before .before .before .before .before .before .before in
-    end-pending (nodes .with-first-deny .ensures) (head .lead .ensures) (put .put-list .ensures) (omega arith) (omega arith) (not-false _ (nodes .before .before .before .before .if1 .left)) (c .left .ensures)
+    end-pending (nodes .with-first-deny .ensures) (head .lead .ensures) (put .put-list .ensures) (omega arith) (omega arith) (not-false _ (nodes .before .before .before .before .if1 .left)) (c .pending .ensures)
 
 pub end-list-spec : {M : Type 1} → statement M
 end-list-spec =
@@ -52,7 +52,7 @@ end-list-spec =
     with-first-deny-requires
     lead-requires
     put-list-requires
-    left-requires
+    pending-requires
     same-length
     same-length-2
     same-length-3

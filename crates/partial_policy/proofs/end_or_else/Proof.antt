@@ -1,5 +1,4 @@
 -- `partial_policy::end_or_else` meets its contract. Assumes nothing.
-use mathlib.Core.Path.{_≡_}
 use native.Mathlib.Omega.{arith}
 use Rattle.partial_policy.proofs.Ending.{or-else-put}
 use borrow.Author.Needs.{needs}

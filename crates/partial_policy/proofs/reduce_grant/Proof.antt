@@ -1,16 +1,16 @@
 -- `partial_policy::reduce_grant` meets its contract: by whether its words end early, and by what its condition reduces to. Assumes nothing.
 use mathlib.Core.Path.{refl}
 use native.Mathlib.Omega.{arith}
-use Rattle.partial_policy.proofs.Nodes.{grant-short, grant-pending, grant-permits, grant-denies}
+use Rattle.partial_policy.proofs.Nodes.{grant-short, grant-pending, grant-decides, grant-by-word}
 use borrow.Author.Needs.{needs}
 use Rattle.partial_policy.proofs.reduce_grant.Statement.{statement}
 use Rattle.partial_policy.proofs.reduce_grant.Tie as tie
 
-add-own : tie.Need-add-own
-add-own c = search needs
+before-condition-in-requires : tie.Need-before-condition-in-requires
+before-condition-in-requires c κs = search needs
 
-add-own-2 : tie.Need-add-own-2
-add-own-2 c = search needs
+cast-own : tie.Need-cast-own
+cast-own c = search needs
 
 sub-if1 : tie.Need-sub-if1
 sub-if1 c = search needs
@@ -23,8 +23,10 @@ resolved-requires c κs = search needs
 
 returns : tie.Need-returns
 returns c =
-    let start = c .before .before .before .before .before .before .before .before in
-    λ hidden buf room. rw (c .resolved .ensures, c .before .denied .ensures) (grant-short _ _ _ _ hidden _ _ (start .pre .0) (start .pre .1) _ _ buf room _ (omega arith) (omega arith) (c .before .before .if1 .taken))
+    let found = c .before .before .before in
+    let start = found .before .before .before .before .before .before in
+    λ hidden n o buf room. rw (c .resolved .ensures, c .before .denied .ensures)
+    (grant-by-word hidden n o (grant-short _ _ _ _ hidden _ _ _ (start .pre .0) (start .pre .1) (found .before-condition-in .ensures) _ _ buf room _ (omega arith) (omega arith) (c .before .before .if1 .taken)))
 
 lay-words-requires : tie.Need-lay-words-requires
 lay-words-requires c κs = search needs
@@ -53,8 +55,8 @@ reduce-condition-requires c κs = search needs
 plus-requires : tie.Need-plus-requires
 plus-requires c κs = search needs
 
-left-requires : tie.Need-left-requires
-left-requires c κs = search needs
+pending-requires : tie.Need-pending-requires
+pending-requires c κs = search needs
 
 same-length : tie.Need-same-length
 same-length c = search needs
@@ -69,14 +71,20 @@ returns-2 : tie.Need-returns-2
 returns-2 c =
     let call = c .before .before .before .before .before .before .before .before .before in
     let own = call .before .before .before .before .before .before .before in
-    let start = own .before .before .before .before .before .before .before .before in
-    λ hidden buf room. rw (c .left .ensures) (grant-pending _ _ _ _ hidden _ _ (start .pre .0) (start .pre .1) _ _ _ _ buf room _ (call .reduce-condition .ensures) _ _ _ _ (c .before .before .if2 .taken) (own .lay-words .ensures) (call .before .before .before .before .tail-from .ensures) (omega (arith, c .before .before .before .before .out2 .given)) (c .before .plus .ensures) refl)
+    let found = own .before .before .before in
+    let start = found .before .before .before .before .before .before in
+    λ hidden n o buf room. rw (c .pending .ensures)
+    (grant-by-word hidden n o
+    (grant-pending _ _ _ _ hidden _ _ _ (start .pre .0) (start .pre .1) (found .before-condition-in .ensures) _ _ _ _ buf room _ (call .reduce-condition .ensures) _ _ _ _ (c .before .before .if2 .taken) (own .lay-words .ensures) (call .before .before .before .before .tail-from .ensures) (omega (arith, c .before .before .before .before .out2 .given)) (c .before .plus .ensures) refl))
 
-permitted-by-requires : tie.Need-permitted-by-requires
-permitted-by-requires c κs = search needs
+outcome-in-requires : tie.Need-outcome-in-requires
+outcome-in-requires c κs = search needs
 
-resolved-requires-2 : tie.Need-resolved-requires-2
-resolved-requires-2 c κs = search needs
+cast-outcome : tie.Need-cast-outcome
+cast-outcome c = search needs
+
+granted-requires : tie.Need-granted-requires
+granted-requires c κs = search needs
 
 same-length-4 : tie.Need-same-length-4
 same-length-4 c = search needs
@@ -89,37 +97,18 @@ same-length-6 c = search needs
 
 returns-3 : tie.Need-returns-3
 returns-3 c =
-    let call = c .before .before .before .before .before .before .before .before .before .before in
-    let start = call .before .before .before .before .before .before .before .before .before .before .before .before .before .before .before in
-    λ hidden buf room. rw (c .resolved2 .ensures, c .before .permitted-by .ensures) (grant-permits _ _ _ _ hidden _ _ (start .pre .0) (start .pre .1) _ _ _ _ buf room _ (call .reduce-condition .ensures) (c .before .before .before .if2 .left) (c .before .before .if3 .taken))
-
-denied-by-requires : tie.Need-denied-by-requires
-denied-by-requires c κs = search needs
-
-resolved-requires-3 : tie.Need-resolved-requires-3
-resolved-requires-3 c κs = search needs
-
-same-length-7 : tie.Need-same-length-7
-same-length-7 c = search needs
-
-same-length-8 : tie.Need-same-length-8
-same-length-8 c = search needs
-
-same-length-9 : tie.Need-same-length-9
-same-length-9 c = search needs
-
-returns-4 : tie.Need-returns-4
-returns-4 c =
-    let call = c .before .before .before .before .before .before .before .before .before .before in
-    let start = call .before .before .before .before .before .before .before .before .before .before .before .before .before .before .before in
-    λ hidden buf room. rw (c .resolved3 .ensures, c .before .denied-by .ensures) (grant-denies _ _ _ _ hidden _ _ (start .pre .0) (start .pre .1) _ _ _ _ buf room _ (call .reduce-condition .ensures) (c .before .before .before .if2 .left) (c .before .before .if3 .left))
+    let call = c .before .before .before .before .before .before .before .before .before in
+    let found = call .before .before .before .before .before .before .before .before .before .before in
+    let start = found .before .before .before .before .before .before in
+    λ hidden n o buf room. rw (c .granted .ensures, c .before .outcome-in .ensures)
+    (grant-by-word hidden n o (grant-decides _ _ _ _ hidden _ _ _ (start .pre .0) (start .pre .1) (found .before-condition-in .ensures) _ _ _ _ buf room _ (call .reduce-condition .ensures) (c .before .before .if2 .left)))
 
 pub reduce-grant-spec : {M : Type 1} → statement M
 reduce-grant-spec =
     tie.close
     (tie.spec
-    add-own
-    add-own-2
+    before-condition-in-requires
+    cast-own
     sub-if1
     denied-requires
     resolved-requires
@@ -133,20 +122,15 @@ reduce-grant-spec =
     part-reduce-condition-end
     reduce-condition-requires
     plus-requires
-    left-requires
+    pending-requires
     same-length
     same-length-2
     same-length-3
     returns-2
-    permitted-by-requires
-    resolved-requires-2
+    outcome-in-requires
+    cast-outcome
+    granted-requires
     same-length-4
     same-length-5
     same-length-6
-    returns-3
-    denied-by-requires
-    resolved-requires-3
-    same-length-7
-    same-length-8
-    same-length-9
-    returns-4)
+    returns-3)

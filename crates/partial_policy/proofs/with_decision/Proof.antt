@@ -10,8 +10,8 @@ keep-node-requires c κs = search needs
 fold-next-requires : tie.Need-fold-next-requires
 fold-next-requires c κs = search needs
 
-with-resolved-requires : tie.Need-with-resolved-requires
-with-resolved-requires c κs = search needs
+arms-with-requires : tie.Need-arms-with-requires
+arms-with-requires c κs = search needs
 
 same-length : tie.Need-same-length
 same-length c = search needs
@@ -27,7 +27,7 @@ returns c =
     let fold = c .before .before .before in
     let keep = fold .before .before .before .before .before .before .before .before in
     let start = keep .before .before .before .before .before .before .before .before .before in
-    rw (c .with-resolved .ensures) (decision-added (start .pre .0) (keep .keep-node .ensures) (fold .fold-next .ensures .0) (fold .fold-next .ensures .1))
+    decision-added (start .pre .0) (keep .keep-node .ensures) (fold .fold-next .ensures .0) (fold .fold-next .ensures .1) (c .arms-with .ensures)
 
 pub with-decision-spec : {M : Type 1} → statement M
 with-decision-spec =
@@ -35,7 +35,7 @@ with-decision-spec =
     (tie.spec
     keep-node-requires
     fold-next-requires
-    with-resolved-requires
+    arms-with-requires
     same-length
     same-length-2
     same-length-3

@@ -1,6 +1,5 @@
 -- `partial_policy::with_first_deny` meets its contract. Assumes nothing.
 use mathlib.Core.Path.{refl}
-use native.Mathlib.Omega.{arith}
 use borrow.Author.Tests.{not-true, not-false}
 use Rattle.partial_policy.proofs.Ending.{end-every, end-unbegun, end-permits, end-denies}
 use borrow.Author.Needs.{needs}

@@ -5,7 +5,8 @@ use denote.Ref.{now}
 use borrow.Author.Needs.{needs}
 use borrow.Author.Tests.{eq-eqb, ne-eqb}
 use lib.ListN.{drop, length-drop}
-use Rattle.policy_model.specs.Plain.{plainGrant, plain-short, three-here}
+use Rattle.policy_model.specs.Plain.{plainGrant}
+use Rattle.policy_model.specs.PlainLaws.{plain-short, three-here}
 use Rattle.policy_model.proofs.plain_grant.Statement.{statement}
 use Rattle.policy_model.proofs.plain_grant.Tie as tie
 

@@ -9,7 +9,8 @@ use Rattle.policy_model.specs.declared.PolicyHead.the-variants.{Permit}
 use Rattle.policy_model.specs.Answers.{checked}
 use Rattle.policy_model.specs.Heads.{policyNode}
 use Rattle.policy_model.specs.HeadLaws.{permit-word}
-use Rattle.policy_model.specs.Plain.{plainGrant, plain-inside}
+use Rattle.policy_model.specs.Plain.{plainGrant}
+use Rattle.policy_model.specs.PlainLaws.{plain-inside}
 use Rattle.policy_model.proofs.Policies.{by-head, plain-passed}
 use Rattle.policy_model.proofs.short_policy.Statement.{statement}
 use Rattle.policy_model.proofs.short_policy.Tie as tie

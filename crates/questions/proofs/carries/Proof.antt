@@ -1,20 +1,21 @@
 -- `questions::carries` meets its contract: the loop's invariant is that so many policies are to come, one of which has an obligation exactly if the tree has,
 -- and that they are few enough to be counted; the measure is what is left of the words. Assumes nothing.
 use mathlib.Core.Path.{sym, _∙_}
-use Prim.Native.Nat.{ℕ, _+_, _-_, _*_, _≤_}
+use Prim.Native.Nat.{_+_, _-_, _*_, _≤_}
 use native.Mathlib.Omega.{arith}
 use denote.Ref.{now}
 use borrow.Author.Needs.{needs}
 use lib.ListN.{length, drop}
 use Rattle.model.specs.Policy.{Policy}
 use Rattle.model.specs.Required.{obliges}
+use Rattle.model.specs.Products.{Outcome}
 use Rattle.questions.specs.Answers.{Stands}
 use Rattle.questions.proofs.Walking.{Open, no-more, none-left, goes-on, has-one, open-on, open-tree}
 use Rattle.questions.proofs.carries.Statement.{statement}
 use Rattle.questions.proofs.carries.Tie as tie
 
 abbrev Inv-loop : tie.InvT-loop
-Inv-loop words at next₀ left₀ next left = ((t : Policy ℕ) → Stands words at t → Open left (drop next words) (obliges t)) × (left ≤ 1 + 4294967296 * next)
+Inv-loop words at next₀ left₀ next left = ((t : Policy Outcome) → Stands words at t → Open left (drop next words) (obliges t)) × (left ≤ 1 + 4294967296 * next)
 
 abbrev μ-loop : tie.MeasureT-loop
 μ-loop words at next₀ left₀ next left = length words - next

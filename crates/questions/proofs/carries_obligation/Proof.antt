@@ -23,7 +23,7 @@ returns c =
     says _ obliges _ _ _ _ (told .before .before .tree-of .ensures) (told .tree .given .1) (c .carries .ensures)
 
 returns-2 : tie.Need-returns-2
-returns-2 c = says-refused _ obliges _ _ _ (c .before .before .before .tree-of .ensures) (c .before .number .given .1)
+returns-2 c = says-refused _ obliges _ _ (c .before .before .before .tree-of .ensures) (c .before .number .given .1)
 
 pub carries-obligation-spec : {M : Type 1} → statement M
 carries-obligation-spec = tie.close (tie.spec tree-of-requires enum-known-tree carries-requires enum-known-number returns returns-2)

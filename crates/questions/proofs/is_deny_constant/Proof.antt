@@ -27,7 +27,7 @@ returns c =
     says _ denyOnTop _ _ _ _ (told .before .before .tree-of .ensures) (told .tree .given .1) (deny-says _ _ _ _ (kind .top-kind .ensures) (c .either .ensures))
 
 returns-2 : tie.Need-returns-2
-returns-2 c = says-refused _ denyOnTop _ _ _ (c .before .before .before .tree-of .ensures) (c .before .number .given .1)
+returns-2 c = says-refused _ denyOnTop _ _ (c .before .before .before .tree-of .ensures) (c .before .number .given .1)
 
 pub is-deny-constant-spec : {M : Type 1} → statement M
 is-deny-constant-spec =

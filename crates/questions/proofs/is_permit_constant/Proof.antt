@@ -27,7 +27,7 @@ returns c =
     says _ permitOnTop _ _ _ _ (told .before .before .tree-of .ensures) (told .tree .given .1) (permit-says _ _ _ _ (kind .top-kind .ensures) (c .either .ensures))
 
 returns-2 : tie.Need-returns-2
-returns-2 c = says-refused _ permitOnTop _ _ _ (c .before .before .before .tree-of .ensures) (c .before .number .given .1)
+returns-2 c = says-refused _ permitOnTop _ _ (c .before .before .before .tree-of .ensures) (c .before .number .given .1)
 
 pub is-permit-constant-spec : {M : Type 1} → statement M
 is-permit-constant-spec =

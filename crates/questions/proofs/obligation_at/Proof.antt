@@ -9,16 +9,23 @@ use Rattle.questions.specs.Nodes.{obligationAt}
 use Rattle.questions.proofs.obligation_at.Statement.{statement}
 use Rattle.questions.proofs.obligation_at.Tie as tie
 
+obligations-of-requires : tie.Need-obligations-of-requires
+obligations-of-requires c κs = search needs
+
 returns : tie.Need-returns
 unfolding obligationAt
-returns c = rw (eq-eqb _ 0 (c .if1 .taken))
+returns c = rw (eq-eqb _ 0 (sym (c .before .obligations-of .ensures) ∙ c .if1 .taken))
 
 either-requires : tie.Need-either-requires
 either-requires c κs = search needs
 
 returns-2 : tie.Need-returns-2
 unfolding obligationAt
-returns-2 c = c .either .ensures ∙ sym (ap (λ b. cond b false (eqb (c .before .before .args .word / 268435456) 8 || eqb (c .before .before .args .word / 268435456) 12)) (ne-eqb _ 0 (c .before .if1 .left)))
+returns-2 c =
+    let counted = c .before .before in
+    let kind = counted .before .args .word / 268435456 in
+    let some = ne-eqb _ 0 (λ e. c .before .if1 .left (counted .obligations-of .ensures ∙ e)) in
+    c .either .ensures ∙ sym (ap (λ b. cond b false (eqb kind 8 || eqb kind 12)) some)
 
 pub obligation-at-spec : {M : Type 1} → statement M
-obligation-at-spec = tie.close (tie.spec returns either-requires returns-2)
+obligation-at-spec = tie.close (tie.spec obligations-of-requires returns either-requires returns-2)

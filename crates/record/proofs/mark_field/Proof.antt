@@ -3,8 +3,6 @@ use native.Mathlib.Omega.{arith}
 use borrow.Author.Needs.{needs}
 use Rattle.record.proofs.mark_field.Statement.{statement}
 use Rattle.record.proofs.mark_field.Tie as tie
-use Rattle.record.proofs.mark_field.Reads as reads
-use Rattle.record.proofs.mark_field.Lts as lts
 
 cast-result : tie.Need-cast-result
 cast-result c = search needs

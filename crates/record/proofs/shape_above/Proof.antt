@@ -3,8 +3,6 @@ use native.Mathlib.Omega.{arith}
 use borrow.Author.Needs.{needs}
 use Rattle.record.proofs.shape_above.Statement.{statement}
 use Rattle.record.proofs.shape_above.Tie as tie
-use Rattle.record.proofs.shape_above.Reads as reads
-use Rattle.record.proofs.shape_above.Lts as lts
 
 add-result : tie.Need-add-result
 add-result c = search needs

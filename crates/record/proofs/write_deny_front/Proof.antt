@@ -4,15 +4,10 @@ use mathlib.Core.Path.{refl, ap₂}
 use mathlib.Core.List.{[], _∷_}
 use Prim.Native.Nat.{_+_, _*_}
 use native.Mathlib.Omega.{arith}
-use Rattle.packing.specs.Written.{written-none, written-next, written-same}
+use Rattle.packing.specs.WrittenLaws.{written-none, written-next, written-same}
 use borrow.Author.Needs.{needs}
 use Rattle.record.proofs.write_deny_front.Statement.{statement}
 use Rattle.record.proofs.write_deny_front.Tie as tie
-use Rattle.record.proofs.write_deny_front.Reads as reads
-use Rattle.record.proofs.write_deny_front.Lts as lts
-use Rattle.record.proofs.denied_field.Reads as denied-field-reads
-use Rattle.record.proofs.mark_field.Reads as mark-field-reads
-use Rattle.record.proofs.shape_above.Reads as shape-above-reads
 
 denied-field-requires : tie.Need-denied-field-requires
 denied-field-requires c κs = search needs
@@ -59,7 +54,7 @@ returns c =
     let room = start .pre .1 in (
       refl,
       written-same (written-next (written-next (written-next (written-none (args .out .now)) _ (omega (arith, room))) _ (omega (arith, room))) _ (omega (arith, room)))
-          (ap₂ (λ x y. x ∷ y ∷ args .facts ∷ []) (omega (arith, head, denied)) (ap₂ (λ x y. x * 65536 + y) (c .before .mark-field .ensures .0) (c .mark-field2 .ensures .0))),
+          (ap₂ (λ x y. x ∷ y ∷ args .count ∷ []) (omega (arith, head, denied)) (ap₂ (λ x y. x * 65536 + y) (c .before .mark-field .ensures .0) (c .mark-field2 .ensures .0))),
     )
 
 pub write-deny-front-spec : {M : Type 1} → statement M

@@ -1,15 +1,11 @@
 -- `record::write_deny_with_trace` meets its contract: the front, and then the facts into the tail. Assumes nothing.
 use native.Mathlib.Omega.{arith}
-use Rattle.packing.specs.Written.{written-lent}
+use Rattle.packing.specs.WrittenLaws.{written-lent}
 use Rattle.record.specs.Nodes.{denyFront}
 use Rattle.record.proofs.Parts.{deny-packed}
 use borrow.Author.Needs.{needs}
 use Rattle.record.proofs.write_deny_with_trace.Statement.{statement}
 use Rattle.record.proofs.write_deny_with_trace.Tie as tie
-use Rattle.record.proofs.write_deny_with_trace.Reads as reads
-use Rattle.record.proofs.write_deny_with_trace.Lts as lts
-use Rattle.packing.proofs.pack_entries.Reads as pack-entries-reads
-use Rattle.record.proofs.write_deny_front.Reads as write-deny-front-reads
 
 write-deny-front-requires : tie.Need-write-deny-front-requires
 write-deny-front-requires c κs = search needs
@@ -41,7 +37,7 @@ returns c =
     let front = c .before .before .before .before .before .before .write-deny-front .ensures in
     let facts = c .before .before .pack-entries .ensures in (
       omega (arith, front .0, facts .0),
-      deny-packed (args .denied) (args .hidden) (args .label) (args .reason) (args .named) (args .facts .now) (c .before .before .before .before .before .before .before .before .before .before .pre .0) (written-lent {words = denyFront (args .denied) (args .hidden) (args .label) (args .reason) (args .named)} (front .1) (facts .1)),
+      deny-packed (args .denied) (args .hidden) (args .label) (args .reason) (args .count) (args .facts .now) (c .before .before .before .before .before .before .before .before .before .before .pre .0) (written-lent {words = denyFront (args .denied) (args .hidden) (args .label) (args .reason) (args .count)} (front .1) (facts .1)),
     )
 
 pub write-deny-with-trace-spec : {M : Type 1} → statement M

@@ -1,14 +1,10 @@
 -- `record::write_front` meets its contract: the lead, and then the entries into the tail. Assumes nothing.
 use native.Mathlib.Omega.{arith}
-use Rattle.packing.specs.Written.{written-lent}
+use Rattle.packing.specs.WrittenLaws.{written-lent}
 use Rattle.record.proofs.Parts.{front-packed}
 use borrow.Author.Needs.{needs}
 use Rattle.record.proofs.write_front.Statement.{statement}
 use Rattle.record.proofs.write_front.Tie as tie
-use Rattle.record.proofs.write_front.Reads as reads
-use Rattle.record.proofs.write_front.Lts as lts
-use Rattle.packing.proofs.pack_entries.Reads as pack-entries-reads
-use Rattle.record.proofs.write_lead.Reads as write-lead-reads
 
 write-lead-requires : tie.Need-write-lead-requires
 write-lead-requires c κs = search needs

@@ -1,12 +1,10 @@
 -- `record::write_lead` meets its contract: by the flag. Assumes nothing.
 use mathlib.Core.Path.{refl}
 use native.Mathlib.Omega.{arith}
-use Rattle.packing.specs.Written.{written-none, written-next}
+use Rattle.packing.specs.WrittenLaws.{written-none, written-next}
 use borrow.Author.Needs.{needs}
 use Rattle.record.proofs.write_lead.Statement.{statement}
 use Rattle.record.proofs.write_lead.Tie as tie
-use Rattle.record.proofs.write_lead.Reads as reads
-use Rattle.record.proofs.write_lead.Lts as lts
 
 cast-out : tie.Need-cast-out
 cast-out c = search needs

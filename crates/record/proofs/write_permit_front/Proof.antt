@@ -3,13 +3,10 @@ use mathlib.Core.Path.{refl, ap, ap₂}
 use mathlib.Core.List.{[], _∷_}
 use Prim.Native.Nat.{_+_, _*_}
 use native.Mathlib.Omega.{arith}
-use Rattle.packing.specs.Written.{written-none, written-next, written-same}
+use Rattle.packing.specs.WrittenLaws.{written-none, written-next, written-same}
 use borrow.Author.Needs.{needs}
 use Rattle.record.proofs.write_permit_front.Statement.{statement}
 use Rattle.record.proofs.write_permit_front.Tie as tie
-use Rattle.record.proofs.write_permit_front.Reads as reads
-use Rattle.record.proofs.write_permit_front.Lts as lts
-use Rattle.record.proofs.mark_field.Reads as mark-field-reads
 
 cast-out : tie.Need-cast-out
 cast-out c = search needs
@@ -49,7 +46,7 @@ returns c =
     let start = c .before .before in (
       refl,
       written-same (written-next (written-next (written-none (start .args .out .now)) _ (omega arith)) _ (omega arith))
-          (ap₂ (λ x y. x ∷ y ∷ []) (omega arith) (ap (λ x. x * 65536 + start .args .facts) (c .mark-field .ensures .0))),
+          (ap₂ (λ x y. x ∷ y ∷ []) (omega arith) (ap (λ x. x * 65536 + start .args .count) (c .mark-field .ensures .0))),
     )
 
 pub write-permit-front-spec : {M : Type 1} → statement M

@@ -1,16 +1,11 @@
 -- `record::write_permit_with_trace` meets its contract: the front, and then the obligations and the facts, each into the tail. Assumes nothing.
 use native.Mathlib.Omega.{arith}
-use Rattle.packing.specs.Written.{written-lent}
+use Rattle.packing.specs.WrittenLaws.{written-lent}
 use Rattle.record.specs.Nodes.{permitFront}
 use Rattle.record.proofs.Parts.{permit-packed}
 use borrow.Author.Needs.{needs}
 use Rattle.record.proofs.write_permit_with_trace.Statement.{statement}
 use Rattle.record.proofs.write_permit_with_trace.Tie as tie
-use Rattle.record.proofs.write_permit_with_trace.Reads as reads
-use Rattle.record.proofs.write_permit_with_trace.Lts as lts
-use Rattle.packing.proofs.pack_entries.Reads as pack-entries-reads
-use Rattle.packing.proofs.pack_obligations.Reads as pack-obligations-reads
-use Rattle.record.proofs.write_permit_front.Reads as write-permit-front-reads
 
 write-permit-front-requires : tie.Need-write-permit-front-requires
 write-permit-front-requires c κs = search needs
@@ -30,8 +25,8 @@ part-pack-obligations-end c = search needs
 pack-obligations-requires : tie.Need-pack-obligations-requires
 pack-obligations-requires c κs = search needs
 
-add-listed : tie.Need-add-listed
-add-listed c = search needs
+add-next : tie.Need-add-next
+add-next c = search needs
 
 mul-pack-entries : tie.Need-mul-pack-entries
 mul-pack-entries c = search needs
@@ -62,8 +57,8 @@ returns c =
     let obligations = c .before .before .before .before .before .before .pack-obligations .ensures in
     let facts = c .before .before .pack-entries .ensures in (
       omega (arith, front .0, obligations .0, facts .0),
-      permit-packed (args .outcome) (args .held) (args .named) (args .label) (args .obligations .now) (args .facts .now) (start .pre .0) (start .pre .2)
-          (written-lent (written-lent {words = permitFront (args .outcome) (args .held) (args .label) (args .named)} (front .1) (obligations .1)) (facts .1)),
+      permit-packed (args .outcome) (args .held) (args .count) (args .label) (args .obligations .now) (args .facts .now) (start .pre .0) (start .pre .2)
+          (written-lent (written-lent {words = permitFront (args .outcome) (args .held) (args .label) (args .count)} (front .1) (obligations .1)) (facts .1)),
     )
 
 pub write-permit-with-trace-spec : {M : Type 1} → statement M
@@ -76,7 +71,7 @@ write-permit-with-trace-spec =
     part-pack-obligations-start
     part-pack-obligations-end
     pack-obligations-requires
-    add-listed
+    add-next
     mul-pack-entries
     sub-pack-entries
     part-pack-entries-start

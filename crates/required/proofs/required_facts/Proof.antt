@@ -1,7 +1,8 @@
 -- `required::required_facts` meets its contract: by the check of the sheet. Assumes nothing.
 use mathlib.Core.Path.{sym, _∙_, ap}
 use Rattle.model.specs.Outcome.{productSets}
-use Rattle.model.specs.Reading.{readSheet}
+use Rattle.model.specs.Products.{readSheet}
+use Rattle.laws.specs.Numbers.{sheet-numbered}
 use Rattle.policy_model.specs.Answers.{sheetRefusal}
 use Rattle.required.proofs.Sheets.{accepted, refused}
 use borrow.Author.Needs.{needs}
@@ -43,7 +44,7 @@ returns-2 c =
     let told = empty .before .before .before in
     let check = told .before .before in
     let sheet = check .before .before .before .args .sheet .now in
-    refused _ (readSheet (productSets .value) sheet) _ _ (ap sheetRefusal (sym (told .number .given .1)) ∙ check .check-sheet .ensures) (empty .no-facts .ensures)
+    refused _ (readSheet sheet) _ _ (sheet-numbered (productSets .value) sheet) (ap sheetRefusal (sym (told .number .given .1)) ∙ check .check-sheet .ensures) (empty .no-facts .ensures)
 
 pub required-facts-spec : {M : Type 1} → statement M
 required-facts-spec =

@@ -1,7 +1,9 @@
 -- `required::required_residual_facts` meets its contract: by the check of the record. Assumes nothing.
 use mathlib.Core.Path.{sym, _∙_, ap}
 use Rattle.model.specs.Outcome.{productSets}
-use Rattle.model.specs.Reading.{recordLength, readLead, readRecord}
+use Rattle.model.specs.Reading.{recordLength}
+use Rattle.model.specs.Products.{readLead, readRecord}
+use Rattle.laws.specs.Numbers.{record-numbered}
 use Rattle.policy_model.specs.Answers.{recordLead}
 use Rattle.required.proofs.Records.{record-tree, pending-record, resolved-record, refused-record}
 use borrow.Author.Needs.{needs}
@@ -38,7 +40,7 @@ returns c =
     let told = empty .before .before in
     let check = told .before .before in
     let words = check .before .before .before .args .words .now in
-    resolved-record _ _ _ _ (recordLength words) (readLead (productSets .value) words) (ap recordLead (sym (told .enum-told .given .1)) ∙ check .check-record .ensures) (empty .no-facts .ensures)
+    resolved-record _ _ _ _ (recordLength words) (readLead words) (ap recordLead (sym (told .enum-told .given .1)) ∙ check .check-record .ensures) (empty .no-facts .ensures)
 
 same-length-2 : tie.Need-same-length-2
 same-length-2 c = search needs
@@ -49,7 +51,7 @@ returns-2 c =
     let told = facts .before .before .before in
     let check = told .before .before in
     let words = check .before .before .before .args .words .now in
-    pending-record _ _ _ _ words (recordLength words) (readLead (productSets .value) words) _ (record-tree words) (ap recordLead (sym (told .tree .given .1)) ∙ check .check-record .ensures) (facts .facts-at .ensures)
+    pending-record _ _ _ _ words (recordLength words) (readLead words) _ (record-tree words) (ap recordLead (sym (told .tree .given .1)) ∙ check .check-record .ensures) (facts .facts-at .ensures)
 
 same-length-3 : tie.Need-same-length-3
 same-length-3 c = search needs
@@ -60,7 +62,7 @@ returns-3 c =
     let told = empty .before .before .before in
     let check = told .before .before in
     let words = check .before .before .before .args .words .now in
-    refused-record _ (readRecord (productSets .value) words) _ _ (ap recordLead (sym (told .number .given .1)) ∙ check .check-record .ensures) (empty .no-facts2 .ensures)
+    refused-record _ (readRecord words) _ _ (record-numbered (productSets .value) words) (ap recordLead (sym (told .number .given .1)) ∙ check .check-record .ensures) (empty .no-facts2 .ensures)
 
 pub required-residual-facts-spec : {M : Type 1} → statement M
 required-residual-facts-spec =

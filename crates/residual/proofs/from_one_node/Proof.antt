@@ -12,7 +12,7 @@ use Rattle.residual.proofs.from_one_node.Tie as tie
 not-so : {G : Type 0} → false ≡ true → G
 not-so e = let z : _≡_ {A = ℕ} 0 1 = cc in absurd (omega arith)
 
-by-fields : (p : Bool) (o c h n : ℕ) → p ≡ true → n ≡ 0 → h ≡ c → _≡_ {A = Decision} (record { permit = p; outcome = o; clause = c; held = h; count = n }) (permittedAt o c c 0)
+by-fields : (p : Bool) (o c h n : ℕ) → p ≡ true → n ≡ 0 → h ≡ c → _≡_ {A = Decision} (record { permit = p; outcome = o; clause = c; obligations = h; united = n }) (permittedAt o c c 0)
 by-fields p o c h n e f g = rw (e, f, g)
 
 returns : tie.Need-returns

@@ -2,7 +2,7 @@
 -- by whether its facts can be counted and whether there is room. Assumes nothing.
 use mathlib.Core.Path.{sym, _∙_}
 use native.Mathlib.Omega.{arith}
-use Rattle.policy_model.specs.Plain.{plain-inside}
+use Rattle.policy_model.specs.PlainLaws.{plain-inside}
 use Rattle.residual.proofs.Laying.{node-long, node-no-room, node-written}
 use Rattle.residual.proofs.Short.{node-bare, node-on-fact}
 use borrow.Author.Needs.{needs}

@@ -1,10 +1,10 @@
 -- `vectors::fill` meets its contract. The loop's invariant: marks stand before what stood there. The measure is what is left. Assumes nothing.
-use mathlib.Core.Path.{_≡_, refl, sym, ap, _∙_}
+use mathlib.Core.Path.{_≡_, refl, _∙_}
 use mathlib.Core.List.{_++_}
 use Prim.Native.Nat.{_+_, _-_, _≤_}
 use native.Mathlib.Omega.{arith}
 use lib.ListN.{length, drop, set, length-set}
-use Rattle.listing.specs.Texts.{firsts}
+use Rattle.laws.specs.FieldAt.{firsts}
 use Rattle.listing.proofs.Words.{store-next}
 use Rattle.vectors.specs.Words.{marks}
 use Rattle.vectors.proofs.Reading.{firsts-all}

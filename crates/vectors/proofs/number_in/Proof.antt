@@ -1,7 +1,7 @@
 -- `vectors::number_in` meets its contract: two bytes. Assumes nothing.
 use Prim.Native.Nat.{_*_}
 use native.Mathlib.Omega.{arith}
-use Rattle.listing.specs.Inputs.{number-two}
+use Rattle.listing.specs.InputLaws.{number-two}
 use borrow.Author.Needs.{needs}
 use Rattle.vectors.proofs.number_in.Statement.{statement}
 use Rattle.vectors.proofs.number_in.Tie as tie

@@ -5,7 +5,7 @@ use mathlib.Core.List.{List, _++_}
 use Prim.Native.Nat.{ℕ, _-_, _/_, _%_, _≤_}
 use native.Mathlib.Omega.{arith}
 use lib.ListN.{length, drop, getD, set as set-at, length-set}
-use Rattle.listing.specs.Texts.{firsts}
+use Rattle.laws.specs.FieldAt.{firsts}
 use borrow.Author.Tests.{eq-eqb, ne-eqb}
 use Rattle.listing.proofs.Words.{store-next}
 use Rattle.vectors.specs.Words.{halfOf, halves}

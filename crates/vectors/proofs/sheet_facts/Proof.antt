@@ -1,5 +1,6 @@
 -- `vectors::sheet_facts` meets its contract: the set as words. Assumes nothing.
 use mathlib.Core.Path.{ap, _∙_}
+use Rattle.required.specs.AnswerLaws.{sheet-counted}
 use Rattle.vectors.specs.Words.{setWords}
 use borrow.Author.Needs.{needs}
 use Rattle.vectors.proofs.sheet_facts.Statement.{statement}
@@ -27,10 +28,11 @@ returns : tie.Need-returns
 returns c =
     let args = c .before .before .before .before .before .before .before .before .before .before .before .args in
     let required = c .before .before .before .before .before .before .before .required-facts .ensures in
+    let facts = sheet-counted (args .sheet .now) required in
     let counted = c .before .before .before .before .before .counted .ensures in
     record {
-      number-is = counted .0 ∙ required .number-is;
-      value-is = counted .1 ∙ required .count-is;
+      number-is = counted .0 ∙ facts .number-is;
+      value-is = counted .1 ∙ facts .count-is;
       output-is = c .before .before .put-set .ensures ∙ ap (λ l. setWords l (args .out .now)) (required .set-is);
     }
 

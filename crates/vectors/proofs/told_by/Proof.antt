@@ -1,6 +1,7 @@
 -- `vectors::told_by` meets its contract: by the call. Assumes nothing.
 use mathlib.Core.Path.{ap}
 use native.Mathlib.Omega.{arith}
+use Rattle.questions.specs.AnswerLaws.{permit-asked, deny-asked, obligation-asked}
 use Rattle.vectors.specs.Replies.{replyTo}
 use Rattle.vectors.proofs.Replying.{told-reply, by-number, none-replied}
 use borrow.Author.Needs.{needs}
@@ -53,19 +54,19 @@ returns-3 : tie.Need-returns-3
 unfolding replyTo
 returns-3 c =
     let args = c .before .before .before .before .before .before .args in
-    by-number (args .call) 6 (args .words .now) (args .table .now) (args .out .now) (c .before .before .match .keys3) (told-reply (c .before .is-permit-constant .result) (c .before .is-permit-constant .ensures) (c .said .ensures .0) (c .said .ensures .1))
+    by-number (args .call) 6 (args .words .now) (args .table .now) (args .out .now) (c .before .before .match .keys3) (told-reply (c .before .is-permit-constant .result) (permit-asked (args .words .now) (c .before .is-permit-constant .ensures)) (c .said .ensures .0) (c .said .ensures .1))
 
 returns-4 : tie.Need-returns-4
 unfolding replyTo
 returns-4 c =
     let args = c .before .before .before .before .before .before .args in
-    by-number (args .call) 7 (args .words .now) (args .table .now) (args .out .now) (c .before .before .match .keys4) (told-reply (c .before .is-deny-constant .result) (c .before .is-deny-constant .ensures) (c .said2 .ensures .0) (c .said2 .ensures .1))
+    by-number (args .call) 7 (args .words .now) (args .table .now) (args .out .now) (c .before .before .match .keys4) (told-reply (c .before .is-deny-constant .result) (deny-asked (args .words .now) (c .before .is-deny-constant .ensures)) (c .said2 .ensures .0) (c .said2 .ensures .1))
 
 returns-5 : tie.Need-returns-5
 unfolding replyTo
 returns-5 c =
     let args = c .before .before .before .before .before .before .args in
-    by-number (args .call) 8 (args .words .now) (args .table .now) (args .out .now) (c .before .before .match .keys5) (told-reply (c .before .carries-obligation .result) (c .before .carries-obligation .ensures) (c .said3 .ensures .0) (c .said3 .ensures .1))
+    by-number (args .call) 8 (args .words .now) (args .table .now) (args .out .now) (c .before .before .match .keys5) (told-reply (c .before .carries-obligation .result) (obligation-asked (args .words .now) (c .before .carries-obligation .ensures)) (c .said3 .ensures .0) (c .said3 .ensures .1))
 
 returns-6 : tie.Need-returns-6
 returns-6 c =

@@ -1,7 +1,7 @@
 -- `vierskof::written` meets its contract: by the case of the answer. Assumes nothing.
 use mathlib.Core.Path.{ap}
 use native.Mathlib.Omega.{arith}
-use Rattle.calls.specs.Answers.{numberOf, writtenOf}
+use Rattle.answer.specs.Answers.{numberOf, writtenOf}
 use borrow.Author.Needs.{needs}
 use Rattle.vierskof.proofs.written.Statement.{statement}
 use Rattle.vierskof.proofs.written.Tie as tie

@@ -7,8 +7,6 @@ use native.Mathlib.Nat.{mod-mod}
 use borrow.Author.Needs.{needs}
 use Rattle.record.proofs.Mark.of.Statement.{statement}
 use Rattle.record.proofs.Mark.of.Tie as tie
-use Rattle.record.proofs.Mark.of.Reads as reads
-use Rattle.record.proofs.Mark.of.Lts as lts
 
 cast-t4 : tie.Need-cast-t4
 cast-t4 c = search needs

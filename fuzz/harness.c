@@ -4,7 +4,7 @@
 
 #include "calls.h"
 
-enum { NO_ROOM = 11, RESOLVED = 14, FACTS = 1024, TABLE_BYTES = 256, RECORD_WORDS = 16384 };
+enum { FACTS = 1024 };
 
 // Effects and products as one number: products under a permit, or one of these.
 enum { DENIED = 0x10000, NOTHING };
@@ -41,11 +41,11 @@ static int same(const void *one, const void *other, size_t bytes) { return bytes
 
 // A refusal has a number of the table and no value; an accepted call's value is in its range.
 static void in_range(const struct given *given, const struct answer *answer) {
-    HOLDS(answer->number <= NO_ROOM);
+    HOLDS(answer->number <= VIERSKOF_REFUSED_ROOM);
     if (answer->number) {
         HOLDS(answer->value == 0);
     } else if (writes(given->call)) {
-        HOLDS(answer->value >= 3 && answer->value <= given->room && answer->value <= RECORD_WORDS);
+        HOLDS(answer->value >= 3 && answer->value <= given->room && answer->value <= VIERSKOF_RECORD_WORDS);
     } else {
         HOLDS(answer->value <= (counts(given->call) ? FACTS : 1));
     }
@@ -122,7 +122,10 @@ static uint32_t as_record(const uint32_t *words, size_t count) {
         free(answer.out);
     }
     HOLDS(!(said[IS_PERMIT_CONSTANT] && said[IS_DENY_CONSTANT]));
-    HOLDS(number || words[0] >> 28 != RESOLVED || said[IS_PERMIT_CONSTANT] || said[IS_DENY_CONSTANT]);
+    if (number) return number;
+    bool resolved = vierskof_is_resolved(words, count);
+    HOLDS(!resolved || said[IS_PERMIT_CONSTANT] || said[IS_DENY_CONSTANT]);
+    HOLDS(vierskof_tree(words, count) < count && vierskof_permits(words, count) == (resolved && said[IS_PERMIT_CONSTANT]));
     return number;
 }
 
@@ -135,11 +138,9 @@ static struct given record_of(struct answer answer, size_t room) {
 }
 
 // A Resolved record's effect and products.
-static uint32_t decided(const uint32_t *record) {
-    HOLDS(record[0] >> 28 == RESOLVED);
-    uint32_t node = record[1 + ((record[0] & 0xFFF) + 1) / 2];
-    HOLDS(node >> 28 == 12 || node >> 28 == 13);
-    return node >> 28 == 12 ? node & 0xFFFF : DENIED;
+static uint32_t decided(const uint32_t *record, size_t words) {
+    HOLDS(vierskof_is_resolved(record, words));
+    return vierskof_permits(record, words) ? vierskof_products(record, words) : DENIED;
 }
 
 // ---- tables
@@ -176,7 +177,7 @@ static int taken(struct given given, enum call which, const uint8_t *table, size
     given.table = (uint8_t *)table;
     given.bytes = bytes;
     struct answer answer = call(given, FIRST);
-    HOLDS(answer.number == 0 || answer.number == NO_ROOM);
+    HOLDS(answer.number == 0 || answer.number == VIERSKOF_REFUSED_ROOM);
     if (answer.number == 0) {
         *record = record_of(answer, given.room);
     } else {
@@ -189,7 +190,7 @@ static int taken(struct given given, enum call which, const uint8_t *table, size
 static uint32_t end(struct given given, enum call last, const uint8_t *known, size_t bytes) {
     struct given record;
     if (!taken(given, last, known, bytes, &record)) return NOTHING;
-    uint32_t found = decided(record.words);
+    uint32_t found = decided(record.words, record.count);
     free(record.words);
     return found;
 }
@@ -203,7 +204,7 @@ static void narrowed(struct given record, const uint8_t *table, const uint8_t *k
     names_no_settled(&narrower, &given);
     uint32_t found = end(narrower, COMPLETE_RESIDUAL, known, record.bytes);
     HOLDS(found == ends || (!certain && (found == NOTHING || ends == NOTHING)));
-    if (record.words[0] >> 28 == RESOLVED) {
+    if (vierskof_is_resolved(record.words, record.count)) {
         HOLDS(narrower.count == record.count && same(narrower.words, record.words, record.count * sizeof *record.words));
     }
     free(narrower.words);
@@ -222,7 +223,7 @@ static void staged(struct given sheet, const uint8_t *first, const uint8_t *seco
 
 // An accepted sheet or record with a faultless table: with tables that leave facts open, and with the known one from the start.
 static void roads(struct given given, int sheet) {
-    given.room = sheet ? 3 * given.count + 513 : RECORD_WORDS;
+    given.room = sheet ? VIERSKOF_ROOM(given.count) : VIERSKOF_RECORD_WORDS;
     uint8_t *some = block(given.bytes), *known = block(given.bytes);
     settle(&given, 0, some);
     settle(&given, 1, known);
@@ -242,7 +243,7 @@ static void roads(struct given given, int sheet) {
 static int faultless(const struct given *given) {
     for (size_t fact = 0; fact < 4 * given->bytes; fact++)
         if (presence(given, fact) == 3) return 0;
-    return given->bytes <= TABLE_BYTES;
+    return given->bytes <= VIERSKOF_TABLE_BYTES;
 }
 
 // What holds of any answer, and of the words and the table that it was given.

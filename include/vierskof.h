@@ -1,15 +1,36 @@
 /*
- * The calls of libvierskof.a, which `rt staticlib vierskof` makes.
+ * The calls of libvierskof.a, which `rt staticlib vierskof` makes. For C99 and C++11. What sheets, records and tables look
+ * like is in docs/RULES.md: a table has two bits for each fact, fact 0 the top two of byte 0; 0 Absent, 1 Present, 2 Unknown.
  *
  * A slice passes as a pointer and an element count. A call returns one number: that of the refusal times 2^32, or 0 when
- * it is accepted, and the call's value below. A refused call leaves the output as it was. No call allocates, keeps state
- * or needs more than 256 KiB of stack, so calls on separate outputs may run at the same time.
+ * it is accepted, and the call's value below. A refused call leaves the output as it was, and its value
+ * is 0.
+ *
+ * An output, words or set, overlaps no input: a record that is written over its own input is wrong, and nothing tells.
+ * Inputs may overlap each other.
+ *
+ * No call allocates, blocks, keeps state or needs more than 256 KiB of stack, so calls on separate outputs may run at the
+ * same time.
  */
 #ifndef VIERSKOF_H
 #define VIERSKOF_H
 
+#include <stdbool.h>
 #include <stddef.h>
 #include <stdint.h>
+
+#define VIERSKOF_VERSION_MAJOR 0
+#define VIERSKOF_VERSION_MINOR 1
+#define VIERSKOF_VERSION_PATCH 0
+#define VIERSKOF_VERSION "0.1.0"
+
+#if !defined(__cplusplus)
+#define VIERSKOF_RESTRICT restrict
+#elif defined(__GNUC__) || defined(_MSC_VER)
+#define VIERSKOF_RESTRICT __restrict
+#else
+#define VIERSKOF_RESTRICT
+#endif
 
 #ifdef __cplusplus
 extern "C" {
@@ -22,33 +43,82 @@ enum {
     VIERSKOF_SET_NUMBERS = 16      /* a set of facts, fact 0 the top bit of the first number */
 };
 
+/* An output of so many words is room enough for the calls on a sheet of `words` words and on what comes of it. */
+#define VIERSKOF_ROOM(words) (3 * (size_t)(words) + 513)
+
+/* Why a call is turned back. Of several causes a call names the first in this order: 1, 2, then 3 and 4 from fact 0 on,
+   then 5 to 9 from the first word on, then 10, then 11. Later versions may have further numbers. */
+enum vierskof_cause {
+    VIERSKOF_ACCEPTED = 0,
+    VIERSKOF_REFUSED_LENGTH = 1,              /* the sheet or record has no word, or too many */
+    VIERSKOF_REFUSED_TABLE_LENGTH = 2,        /* the fact table has more than 256 bytes */
+    VIERSKOF_REFUSED_TABLE_FIELD = 3,         /* a field of the table is 3, which is no presence */
+    VIERSKOF_REFUSED_UNKNOWN_FACT = 4,        /* a fact is Unknown, where evaluating or completing needs all */
+    VIERSKOF_REFUSED_KIND = 5,                /* a node's kind may not stand where it stands */
+    VIERSKOF_REFUSED_WORDS_END = 6,           /* the words end before the record or tree is complete */
+    VIERSKOF_REFUSED_LEVEL = 7,               /* a node stands on a 33rd level */
+    VIERSKOF_REFUSED_FIELD = 8,               /* a field holds a number that it may not hold */
+    VIERSKOF_REFUSED_REPEATED_OBLIGATION = 9, /* an obligation is repeated in one list */
+    VIERSKOF_REFUSED_WORDS_AFTER_TREE = 10,   /* there are words after the tree */
+    VIERSKOF_REFUSED_ROOM = 11                /* the resulting record has no room in the output, or exceeds a limit */
+};
+
 /* The number of the refusal, 0 when the call was accepted; and the call's value. */
 static inline uint32_t vierskof_refusal(uint64_t returned) { return (uint32_t)(returned >> 32); }
 static inline uint32_t vierskof_value(uint64_t returned) { return (uint32_t)returned; }
 
-/* An output of so many words is always room enough for the calls on a sheet and on what comes of it. */
-static inline size_t vierskof_room(size_t sheet_words) { return 3 * sheet_words + 513; }
+/* Decides a sheet with a known table. Value: the words written. `out` overlaps neither `sheet` nor `facts`. */
+uint64_t vierskof_evaluate(const uint32_t *sheet, size_t words, const uint8_t *facts, size_t bytes,
+                           uint32_t *VIERSKOF_RESTRICT out, size_t room);
 
-/* Decides a sheet with a known table. Value: the words written. */
-uint64_t vierskof_evaluate(const uint32_t *sheet, size_t words, const uint8_t *facts, size_t bytes, uint32_t *out, size_t room);
+/* Reduces a sheet with a table that may leave facts open. Value: the words written. `out` overlaps neither `sheet` nor `facts`.
+   A fact past the table's end is Absent: a table of all that is not known says Unknown (2) of each fact. */
+uint64_t vierskof_partial_evaluate(const uint32_t *sheet, size_t words, const uint8_t *facts, size_t bytes,
+                                   uint32_t *VIERSKOF_RESTRICT out, size_t room);
 
-/* Reduces a sheet with a table that may leave facts open. Value: the words written. */
-uint64_t vierskof_partial_evaluate(const uint32_t *sheet, size_t words, const uint8_t *facts, size_t bytes, uint32_t *out, size_t room);
+/* Narrows a record by a table of further facts, which may leave facts open as well. Value: the words written. `out` overlaps
+   neither `record` nor `facts`: a record is not narrowed in place. */
+uint64_t vierskof_narrow_residual(const uint32_t *record, size_t words, const uint8_t *facts, size_t bytes,
+                                  uint32_t *VIERSKOF_RESTRICT out, size_t room);
 
-/* Narrows a record by a table of further facts. Value: the words written. */
-uint64_t vierskof_narrow_residual(const uint32_t *record, size_t words, const uint8_t *facts, size_t bytes, uint32_t *out, size_t room);
+/* Completes a record with a known table. Value: the words written. `out` overlaps neither `record` nor `facts`. */
+uint64_t vierskof_complete_residual(const uint32_t *record, size_t words, const uint8_t *facts, size_t bytes,
+                                    uint32_t *VIERSKOF_RESTRICT out, size_t room);
 
-/* Completes a record with a known table. Value: the words written. */
-uint64_t vierskof_complete_residual(const uint32_t *record, size_t words, const uint8_t *facts, size_t bytes, uint32_t *out, size_t room);
+/* The facts that a sheet names, or a record's tree. Value: how many. Refused: an empty set. `numbers` is 16; a set of another
+   length is left as it was. `set` doesn't overlap the words. */
+uint64_t vierskof_required_facts(const uint32_t *sheet, size_t words, uint64_t *VIERSKOF_RESTRICT set, size_t numbers);
+uint64_t vierskof_required_residual_facts(const uint32_t *record, size_t words, uint64_t *VIERSKOF_RESTRICT set, size_t numbers);
 
-/* The facts that a sheet names, or a record's tree. Value: how many. Refused: an empty set. `numbers` is 16; a set of another length is left as it was. */
-uint64_t vierskof_required_facts(const uint32_t *sheet, size_t words, uint64_t *set, size_t numbers);
-uint64_t vierskof_required_residual_facts(const uint32_t *record, size_t words, uint64_t *set, size_t numbers);
-
-/* Whether a record's tree is a permit or a deny, and whether it has obligations. Value: 0 or 1. */
+/* Whether a record's tree is a permit or a deny, and whether it has obligations. Value: 0 or 1. There is no output. */
 uint64_t vierskof_is_permit_constant(const uint32_t *record, size_t words);
 uint64_t vierskof_is_deny_constant(const uint32_t *record, size_t words);
 uint64_t vierskof_carries_obligation(const uint32_t *record, size_t words);
+
+/*
+ * Readers of a record that a call wrote or accepted. They judge nothing; of other words they say something or other, but
+ * read none past the last. Of 0 words, the value of a refused call, none is resolved or permits.
+ */
+
+/* Whether the record is decided, and doesn't wait for facts. */
+static inline bool vierskof_is_resolved(const uint32_t *record, size_t words) { return words > 0 && record[0] >> 28 == 14; }
+
+/* Where its tree begins, after the lead and the facts consulted, two a word. */
+static inline size_t vierskof_tree(const uint32_t *record, size_t words) {
+    size_t at = words > 0 ? 1 + ((record[0] & 0xFFF) + 1) / 2 : 0;
+    return at < words ? at : words;
+}
+
+/* Whether it is decided and permits. */
+static inline bool vierskof_permits(const uint32_t *record, size_t words) {
+    size_t tree = vierskof_tree(record, words);
+    return vierskof_is_resolved(record, words) && tree < words && record[tree] >> 28 == 12;
+}
+
+/* The products that it permits, product 0 the lowest bit; none where it doesn't permit. */
+static inline uint16_t vierskof_products(const uint32_t *record, size_t words) {
+    return vierskof_permits(record, words) ? (uint16_t)(record[vierskof_tree(record, words)] & 0xFFFF) : (uint16_t)0;
+}
 
 #ifdef __cplusplus
 }

@@ -3,7 +3,7 @@
 use std::path::PathBuf;
 
 use clap::{Args, Parser, Subcommand};
-use vierskof::read::Observation;
+use vierskof::{Fact, Presence};
 
 use crate::facts::{self, Bytes};
 use crate::form::Form;
@@ -81,6 +81,9 @@ pub struct Call {
     /// The form of the record that is written.
     #[arg(long, value_name = "FORM", default_value = "text")]
     pub to: Form,
+    /// Has the exit status say the effect: 0 permit, 3 deny, 4 pending.
+    #[arg(long)]
+    pub status: bool,
 }
 
 /// A document in the text form.
@@ -111,8 +114,8 @@ pub struct Facts {
     /// Facts, such as 5=present,6=absent,7=unknown; may come several times.
     ///
     /// A fact that is not named is absent in evaluate and complete, and unknown in reduce and narrow.
-    #[arg(long, value_name = "FACTS", value_delimiter = ',', value_parser = observation)]
-    pub facts: Vec<Observation>,
+    #[arg(long, value_name = "FACTS", value_delimiter = ',', value_parser = said)]
+    pub facts: Vec<(Fact, Presence)>,
     /// A file with a fact table, its bytes taken as they are.
     ///
     /// Four facts a byte, the first in the upper two bits: 0 absent, 1 present, 2 unknown. A fact past the end is absent, in every command.
@@ -123,6 +126,6 @@ pub struct Facts {
     pub table_hex: Option<Bytes>,
 }
 
-fn observation(text: &str) -> Result<Observation, String> {
-    numbers::observation(text).map_err(|due| format!("{due} is due"))
+fn said(text: &str) -> Result<(Fact, Presence), String> {
+    numbers::said(text).map_err(|due| format!("{due} is due"))
 }

@@ -22,8 +22,7 @@ pub enum Kind<'w> {
 impl<'w> Document<'w> {
     /// Reads words as a record if their first is a record's lead, and as a sheet otherwise.
     pub fn read(words: &'w [u32]) -> Result<Self, Refusal> {
-        let is_record = words.first().is_some_and(|word| word >> 28 >= 14);
-        Ok(if is_record {
+        Ok(if is_record(words) {
             Self {
                 kind: Kind::Record(Record::read(words)?),
                 facts: required_residual_facts(words)?,
@@ -53,4 +52,9 @@ impl<'w> Document<'w> {
             Kind::Record(record) => record.words(),
         }
     }
+}
+
+/// Whether words begin as a record does.
+pub fn is_record(words: &[u32]) -> bool {
+    words.first().is_some_and(|word| word >> 28 >= 14)
 }

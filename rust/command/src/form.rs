@@ -3,17 +3,21 @@
 use clap::ValueEnum;
 
 use crate::document::Document;
-use crate::text::{Fault, assemble, quoted};
+use crate::numbers::digits;
+use crate::text::{Fault, numbered, quoted};
 
 /// Words on a line of the hexadecimal form.
 const ROW: usize = 8;
+
+/// What some programs put before a text.
+const MARK: char = '\u{FEFF}';
 
 /// How words stand in a file.
 #[derive(Clone, Copy, Debug, PartialEq, Eq, ValueEnum)]
 pub enum Form {
     /// One node a line, indented under what it belongs to.
     Text,
-    /// Eight hexadecimal digits a word, with white space or commas between.
+    /// Eight hexadecimal digits a word, with white space or commas between; 0x, _ and # comments may stand in it.
     Hex,
     /// Four bytes a word, the most significant first.
     Binary,
@@ -22,25 +26,31 @@ pub enum Form {
 impl Form {
     /// The form of these bytes. Every sheet and record has a zero byte in its binary form, and no node of the text form is a hexadecimal number.
     pub fn of(bytes: &[u8]) -> Self {
-        let plain = |found: char| found.is_whitespace() || !found.is_control();
-        let text = str::from_utf8(bytes).ok();
-        let Some(text) = text.filter(|text| text.chars().all(plain)) else {
-            return Self::Binary;
-        };
-        if hex_words(text).next().is_none_or(is_hex) {
+        match str::from_utf8(bytes) {
+            Ok(text) if is_plain(text) => Self::of_text(text),
+            _ => Self::Binary,
+        }
+    }
+
+    fn of_text(text: &str) -> Self {
+        let mut words = unmarked(text).lines().flat_map(hex_words);
+        if words.next().is_none_or(is_hex) {
             Self::Hex
         } else {
             Self::Text
         }
     }
 
-    /// The words that bytes of this form say, or what is wrong with them.
-    pub fn read(self, bytes: &[u8]) -> Result<Vec<u32>, String> {
+    /// The words that bytes of this form say, and in the text form the line of each; or what is wrong with them.
+    pub fn read(self, bytes: &[u8]) -> Result<(Vec<u32>, Option<Vec<usize>>), String> {
         let said = |fault: Fault| fault.to_string();
         match self {
-            Self::Text => assemble(utf8(bytes)?).map_err(said),
-            Self::Hex => from_hex(utf8(bytes)?).map_err(said),
-            Self::Binary => from_binary(bytes),
+            Self::Text => {
+                let (words, lines) = numbered(utf8(bytes)?).map_err(said)?;
+                Ok((words, Some(lines)))
+            }
+            Self::Hex => Ok((from_hex(utf8(bytes)?).map_err(said)?, None)),
+            Self::Binary => Ok((from_binary(bytes)?, None)),
         }
     }
 
@@ -55,17 +65,73 @@ impl Form {
     }
 }
 
-fn utf8(bytes: &[u8]) -> Result<&str, String> {
-    str::from_utf8(bytes).map_err(|error| format!("no text: {error}"))
+/// What bytes look like that were taken for binary words, and perhaps are a text that can't be read. Words may look so too: it is told only of bytes that
+/// are no document's words.
+pub fn mistaken(bytes: &[u8]) -> Option<String> {
+    if [u16::from_le_bytes, u16::from_be_bytes]
+        .into_iter()
+        .filter_map(|unit| utf16(bytes, unit))
+        .any(|text| is_plain(&text) && !text.trim().is_empty())
+    {
+        return Some("a text in UTF-16, where UTF-8 is due".to_owned());
+    }
+    let text = str::from_utf8(bytes).ok()?;
+    let (at, first) = text
+        .char_indices()
+        .find(|(_, found)| !is_plain_char(*found))?;
+    let faults = text.chars().filter(|found| !is_plain_char(*found)).count();
+    // Words have more of them: of their bytes most are 0.
+    if 4 * faults >= text.len() {
+        return None;
+    }
+    let line = text[..at].matches('\n').count() + 1;
+    let found = match first {
+        '\0' => "a NUL".to_owned(),
+        other => format!("a control character ({})", other.escape_unicode()),
+    };
+    Some(format!("{found} in line {line} of a text"))
 }
 
-fn hex_words(text: &str) -> impl Iterator<Item = &str> {
+/// The text of 16-bit units, of which most of a text in Latin letters have an upper half of 0.
+fn utf16(bytes: &[u8], unit: fn([u8; 2]) -> u16) -> Option<String> {
+    let (pairs, []) = bytes.as_chunks() else {
+        return None;
+    };
+    let units: Vec<u16> = pairs.iter().copied().map(unit).collect();
+    let latin = units.iter().filter(|unit| **unit < 0x100).count();
+    let text = String::from_utf16(&units).ok()?;
+    (2 * latin > units.len()).then(|| unmarked(&text).to_owned())
+}
+
+/// Whether a text has no control character but white space.
+fn is_plain(text: &str) -> bool {
+    text.chars().all(is_plain_char)
+}
+
+fn is_plain_char(found: char) -> bool {
+    found.is_whitespace() || !found.is_control()
+}
+
+fn unmarked(text: &str) -> &str {
+    text.strip_prefix(MARK).unwrap_or(text)
+}
+
+fn utf8(bytes: &[u8]) -> Result<&str, String> {
+    let text = str::from_utf8(bytes);
+    let no_text = |error| mistaken(bytes).unwrap_or_else(|| format!("no text: {error}"));
+    Ok(unmarked(text.map_err(no_text)?))
+}
+
+/// The words of a line, without its comment.
+fn hex_words(line: &str) -> impl Iterator<Item = &str> {
     let between = |found: char| found == ',' || found.is_whitespace();
-    text.split(between).filter(|word| !word.is_empty())
+    let said = line.split('#').next().unwrap_or_default();
+    said.split(between).filter(|word| !word.is_empty())
 }
 
 fn is_hex(word: &str) -> bool {
-    word.bytes().all(|byte| byte.is_ascii_hexdigit())
+    let digits = digits(word);
+    !digits.is_empty() && digits.bytes().all(|byte| byte.is_ascii_hexdigit())
 }
 
 fn from_hex(text: &str) -> Result<Vec<u32>, Fault> {
@@ -75,8 +141,8 @@ fn from_hex(text: &str) -> Result<Vec<u32>, Fault> {
 }
 
 fn hex_word(word: &str, line: usize) -> Result<u32, Fault> {
-    let eight = word.len() == 8 && is_hex(word);
-    let value = u32::from_str_radix(word, 16).ok().filter(|_| eight);
+    let digits = Some(digits(word)).filter(|digits| digits.len() == 8 && is_hex(word));
+    let value = digits.and_then(|digits| u32::from_str_radix(&digits, 16).ok());
     value.ok_or_else(|| Fault {
         line,
         found: quoted(word),

@@ -77,9 +77,11 @@ The road in three commands
 const STATUS: &str = "
 Exit status
   0  decided: the answer stands on standard output
-  1  refused: `refused NUMBER: WHY` on standard error, and no output
+  1  refused: `refused NUMBER: WHY (WHERE)` on standard error, and no output
   2  usage: an option, a file that can't be read or written, or a fault in
-     a text, with its line";
+     a text, with its line
+  With --status the four calls end with 0 for a permit, 3 for a deny and 4
+  for a record that is still pending.";
 
 /// The long help's end.
 pub fn guide() -> String {

@@ -1,6 +1,5 @@
 //! The numbers of the field as they are typed. A reader that fails says what is due in the number's place.
 
-use vierskof::read::Observation;
 use vierskof::{Fact, Label, Obligation, Presence, Products, Reason};
 
 /// Reads one item, or says what is due.
@@ -39,15 +38,19 @@ pub fn products(text: &str) -> Result<Products, &'static str> {
         .ok_or("a set of products in four hexadecimal digits")
 }
 
-/// A fact and how it reads, such as `5=present`.
-pub fn observation(text: &str) -> Result<Observation, &'static str> {
+/// A fact and what is said of it, such as `5=present`.
+pub fn said(text: &str) -> Result<(Fact, Presence), &'static str> {
     let read = || {
         let (number, name) = text.split_once('=')?;
-        let fact = fact(number).ok()?;
-        let presence = presence(name)?;
-        Some(Observation { fact, presence })
+        Some((fact(number).ok()?, presence(name)?))
     };
     read().ok_or("a fact from 0 to 1023 with =present, =absent or =unknown")
+}
+
+/// Hexadecimal digits without what may stand among them: `0x` before them, and `_` between.
+pub fn digits(text: &str) -> String {
+    let bare = text.strip_prefix("0x").or_else(|| text.strip_prefix("0X"));
+    bare.unwrap_or(text).replace('_', "")
 }
 
 fn presence(name: &str) -> Option<Presence> {

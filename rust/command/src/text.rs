@@ -10,5 +10,5 @@ mod node;
 mod pack;
 mod show;
 
-pub use assemble::assemble;
+pub use assemble::{assemble, numbered};
 pub use line::{Fault, quoted};

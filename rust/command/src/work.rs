@@ -2,25 +2,22 @@
 
 use std::error::Error;
 use std::fmt::{self, Display, Formatter};
-use std::fs::File;
-use std::io::{self, Read};
-use std::path::Path;
+use std::io::Read;
 
+use vierskof::read::{Decision, Record};
 use vierskof::{Presence, RECORD_WORDS, Refusal};
 
 use crate::arguments::{Arguments, Call, Command, Facts, Input};
-use crate::document::{Document, Kind};
+use crate::document::Document;
 use crate::facts;
 use crate::form::Form;
-
-/// Bytes of the longest file that is read. A text of the longest record needs far less.
-const LONGEST: u64 = 16 << 20;
+use crate::given::{Due, Given, open};
 
 /// Why there is no answer.
 #[derive(Clone, Debug, PartialEq, Eq)]
 pub enum Failure {
-    /// The proved library refuses the words or the table; with a hint, if there is one.
-    Refused(Refusal, Option<&'static str>),
+    /// The proved library refuses the words or the table; with where or why, if that can be said.
+    Refused(Refusal, Option<String>),
     /// The command can't be carried out as it is given.
     Usage(String),
 }
@@ -38,9 +35,9 @@ impl Failure {
 impl Display for Failure {
     fn fmt(&self, f: &mut Formatter<'_>) -> fmt::Result {
         match self {
-            Self::Refused(refusal, hint) => {
+            Self::Refused(refusal, place) => {
                 write!(f, "refused {}: {refusal}", refusal.number())?;
-                hint.map_or(Ok(()), |hint| write!(f, " ({hint})"))
+                place.iter().try_for_each(|place| write!(f, " ({place})"))
             }
             Self::Usage(message) => write!(f, "error: {message}"),
         }
@@ -49,71 +46,88 @@ impl Display for Failure {
 
 impl Error for Failure {}
 
-impl From<Refusal> for Failure {
-    fn from(refusal: Refusal) -> Self {
-        Self::Refused(refusal, None)
+/// What a command has done.
+#[derive(Clone, Debug, PartialEq, Eq)]
+pub struct Done {
+    /// What is to be written.
+    pub bytes: Vec<u8>,
+    /// The exit status.
+    pub status: u8,
+}
+
+impl Done {
+    const fn plainly(bytes: Vec<u8>) -> Self {
+        Self { bytes, status: 0 }
     }
 }
 
 /// A proved call that writes a record.
 type Proved = for<'o> fn(&[u32], &[u8], &'o mut [u32]) -> Result<&'o [u32], Refusal>;
 
-/// Carries a command out and answers what is to be written.
-pub fn run(arguments: &Arguments) -> Result<Vec<u8>, Failure> {
+/// Carries a command out; what a file is due to hold and none is named comes from `stdin`.
+pub fn run(arguments: &Arguments, stdin: impl Read) -> Result<Done, Failure> {
+    use Presence::{Absent, Unknown};
+    use vierskof::{complete_residual, evaluate, narrow_residual, partial_evaluate};
     match &arguments.command {
-        Command::Evaluate(call) => decide(call, vierskof::evaluate, Presence::Absent),
-        Command::Reduce(call) => decide(call, vierskof::partial_evaluate, Presence::Unknown),
-        Command::Narrow(call) => decide(call, vierskof::narrow_residual, Presence::Unknown),
-        Command::Complete(call) => decide(call, vierskof::complete_residual, Presence::Absent),
-        Command::Required(input) => required(&words(input)?),
-        Command::Show(shown) => written(&words(&shown.input)?, shown.to),
-        Command::Assemble(assembled) => written(&words(&assembled.input)?, assembled.to),
+        Command::Evaluate(call) => decide(call, stdin, Due::Sheet, evaluate, Absent),
+        Command::Reduce(call) => decide(call, stdin, Due::Sheet, partial_evaluate, Unknown),
+        Command::Narrow(call) => decide(call, stdin, Due::Record, narrow_residual, Unknown),
+        Command::Complete(call) => decide(call, stdin, Due::Record, complete_residual, Absent),
+        Command::Required(input) => required(input, stdin),
+        Command::Show(shown) => rewritten(&shown.input, stdin, shown.to),
+        Command::Assemble(assembled) => rewritten(&assembled.input, stdin, assembled.to),
     }
 }
 
-fn decide(call: &Call, proved: Proved, rest: Presence) -> Result<Vec<u8>, Failure> {
-    let words = words(&call.input)?;
+fn decide(
+    call: &Call,
+    stdin: impl Read,
+    due: Due,
+    proved: Proved,
+    rest: Presence,
+) -> Result<Done, Failure> {
+    let given = Given::read(&call.input, stdin)?;
     let table = table(&call.facts, rest)?;
     let mut out = vec![0; RECORD_WORDS];
-    let record = proved(&words, &table, &mut out).map_err(|refusal| refused(refusal, &words))?;
-    written(record, call.to)
+    let record = proved(&given.words, &table, &mut out).map_err(|refusal| {
+        let fact = facts::faulty(&table, refusal);
+        fact.map_or_else(
+            || given.refused(refusal, due),
+            |fact| Failure::Refused(refusal, Some(format!("fact {fact}"))),
+        )
+    })?;
+    let document = Document::read(record).map_err(|refusal| Failure::Refused(refusal, None))?;
+    let status = if call.status { effect(record) } else { 0 };
+    Ok(Done {
+        bytes: call.to.write(&document),
+        status,
+    })
 }
 
-/// The failure of a call on these words. Whole ones that are refused for a kind are a sheet where a record is due, or a record where a sheet is.
-fn refused(refusal: Refusal, words: &[u32]) -> Failure {
-    let whole = Document::read(words).ok();
-    let mistaken = whole.filter(|_| refusal == Refusal::Kind);
-    let hint = mistaken.map(|document| match document.kind() {
-        Kind::Sheet(_) => "this is a sheet: evaluate and reduce take it",
-        Kind::Record(_) => "this is a record: narrow and complete take it",
-    });
-    Failure::Refused(refusal, hint)
+/// The exit status that says a record's effect.
+fn effect(record: &[u32]) -> u8 {
+    match Record::read(record).map(Record::decision) {
+        Ok(Some(Decision::Permit(_))) => 0,
+        Ok(Some(Decision::Deny(_))) => 3,
+        Ok(None) | Err(_) => 4,
+    }
 }
 
-fn required(words: &[u32]) -> Result<Vec<u8>, Failure> {
-    let document = Document::read(words)?;
+fn required(input: &Input, stdin: impl Read) -> Result<Done, Failure> {
+    let given = Given::read(input, stdin)?;
+    let document = judged(&given)?;
     let lines = document.facts().iter().map(|fact| format!("{fact}\n"));
-    Ok(lines.collect::<String>().into_bytes())
+    Ok(Done::plainly(lines.collect::<String>().into_bytes()))
 }
 
 /// Words are judged before they are written, wherever they come from.
-fn written(words: &[u32], to: Form) -> Result<Vec<u8>, Failure> {
-    let document = Document::read(words)?;
-    Ok(to.write(&document))
+fn rewritten(input: &Input, stdin: impl Read, to: Form) -> Result<Done, Failure> {
+    let given = Given::read(input, stdin)?;
+    Ok(Done::plainly(to.write(&judged(&given)?)))
 }
 
-fn words(input: &Input) -> Result<Vec<u32>, Failure> {
-    let file = input.file.as_path();
-    let (name, bytes) = if file == Path::new("-") {
-        ("standard input".to_owned(), read(io::stdin()))
-    } else {
-        (file.display().to_string(), open(file))
-    };
-    let words = bytes.and_then(|bytes| {
-        let form = input.from.unwrap_or_else(|| Form::of(&bytes));
-        form.read(&bytes)
-    });
-    words.map_err(|message| Failure::Usage(format!("{name}: {message}")))
+fn judged(given: &Given) -> Result<Document<'_>, Failure> {
+    Document::read(&given.words).map_err(|refusal| given.refused(refusal, Due::Either))
 }
 
 fn table(facts: &Facts, rest: Presence) -> Result<Vec<u8>, Failure> {
@@ -126,18 +140,4 @@ fn table(facts: &Facts, rest: Presence) -> Result<Vec<u8>, Failure> {
     }
     let table = facts::table(&facts.facts, rest).map_err(Failure::Usage)?;
     Ok(table.as_bytes().to_vec())
-}
-
-fn open(file: &Path) -> Result<Vec<u8>, String> {
-    read(File::open(file).map_err(|error| error.to_string())?)
-}
-
-fn read(source: impl Read) -> Result<Vec<u8>, String> {
-    let mut bytes = Vec::new();
-    let read = source.take(LONGEST + 1).read_to_end(&mut bytes);
-    match read {
-        Err(error) => Err(error.to_string()),
-        Ok(length) if length as u64 > LONGEST => Err("longer than 16 MiB".to_owned()),
-        Ok(_) => Ok(bytes),
-    }
 }

@@ -37,6 +37,7 @@ use crate::{Fact, Label, Obligation, Products, Reason, Shape};
 
 /// What a grant asks of the facts.
 #[derive(Clone, Copy, Debug, PartialEq, Eq, Hash)]
+#[non_exhaustive]
 pub enum Condition<'t> {
     /// True.
     Always,
@@ -54,6 +55,7 @@ pub enum Condition<'t> {
 
 /// Who may read what.
 #[derive(Clone, Copy, Debug, PartialEq, Eq, Hash)]
+#[non_exhaustive]
 pub enum Policy<'t> {
     /// Permits its products.
     Permit(Products),
@@ -172,6 +174,10 @@ impl Policy<'_> {
     ///
     /// assert_eq!(Policy::OrElse(&Policy::Deny, &Policy::Deny).len(), Ok(3));
     /// ```
+    ///
+    /// # Errors
+    ///
+    /// Every [`Unwritable`] but [`Unwritable::Room`].
     #[expect(clippy::len_without_is_empty, reason = "every sheet has a word")]
     pub fn len(&self) -> Result<usize, Unwritable> {
         let mut counted = Output::new(&mut []);
@@ -180,6 +186,10 @@ impl Policy<'_> {
     }
 
     /// Writes the sheet to the first words of `out`, and leaves the later ones as they were.
+    ///
+    /// # Errors
+    ///
+    /// Every [`Unwritable`] may come; then nothing was written.
     pub fn write<'o>(&self, out: &'o mut [u32]) -> Result<Sheet<'o>, Unwritable> {
         let words = out.get_mut(..self.len()?).ok_or(Unwritable::Room)?;
         self.put(1, &mut Output::new(words))?;

@@ -4,7 +4,13 @@ use crate::{FactSet, Refusal, c};
 
 /// Decides a sheet with a known table: the Resolved record is the first words of `out`.
 ///
-/// Later words of `out` are left as they were, and so is all of it when the call is refused. Every [`Refusal`] may come.
+/// Later words of `out` are left as they were, and so is all of it when the call is refused.
+///
+/// # Errors
+///
+/// Every [`Refusal`] may come. [`Refusal::Room`] doesn't with an output of [`room`](crate::room) words.
+///
+/// # Examples
 ///
 /// ```
 /// use vierskof::read::{Decision, Record};
@@ -23,13 +29,25 @@ pub fn evaluate<'o>(sheet: &[u32], facts: &[u8], out: &'o mut [u32]) -> Result<&
 
 /// Reduces a sheet with a table that may leave facts Unknown: the record is the first words of `out`.
 ///
-/// The record is Resolved if what is known decides the sheet; otherwise it is Pending, and its tree is what remains to be decided. Outputs and refusals are as with [`evaluate`], but [`Refusal::UnknownFact`] never comes.
+/// The record is Resolved if what is known decides the sheet; otherwise it is Pending, and its tree is what remains to be decided. The output is as with
+/// [`evaluate`].
+///
+/// A relay that holds only some of the facts wants the table [`FactTable::unknown`](crate::FactTable::unknown) with these entered: what a table doesn't
+/// speak of is Absent, and an empty one decides the whole sheet.
+///
+/// # Errors
+///
+/// Every [`Refusal`] but [`Refusal::UnknownFact`].
+///
+/// # Examples
 ///
 /// ```
+/// use vierskof::FactTable;
+///
 /// let sheet = [0x8800_0003, 0x0000_0000, 0x2000_0005];
 /// let mut out = [0; 8];
 /// // Fact 5 is Unknown, so the grant remains.
-/// let record = vierskof::partial_evaluate(&sheet, &[0x00, 0x20], &mut out)?;
+/// let record = vierskof::partial_evaluate(&sheet, FactTable::unknown().as_bytes(), &mut out)?;
 /// assert_eq!(record, [0xF000_0000, 0x8800_0003, 0x0000_0000, 0x2000_0005]);
 /// # Ok::<(), vierskof::Refusal>(())
 /// ```
@@ -43,7 +61,13 @@ pub fn partial_evaluate<'o>(
 
 /// Narrows a record with a table of further facts: the new record is the first words of `out`.
 ///
-/// What the table leaves Unknown stays open; a Resolved record comes back equal. Outputs and refusals are as with [`partial_evaluate`].
+/// What the table leaves Unknown stays open; a Resolved record comes back equal. Output and table are as with [`partial_evaluate`].
+///
+/// # Errors
+///
+/// Every [`Refusal`] but [`Refusal::UnknownFact`].
+///
+/// # Examples
 ///
 /// ```
 /// use vierskof::read::{Record, Status};
@@ -64,7 +88,13 @@ pub fn narrow_residual<'o>(
 
 /// Completes a record with a known table: the Resolved record is the first words of `out`.
 ///
-/// A Resolved record comes back equal, whatever the table says. Outputs and refusals are as with [`evaluate`].
+/// A Resolved record comes back equal, whatever the table says. The output is as with [`evaluate`].
+///
+/// # Errors
+///
+/// Every [`Refusal`] may come.
+///
+/// # Examples
 ///
 /// ```
 /// use vierskof::read::{Decision, Record};
@@ -86,6 +116,12 @@ pub fn complete_residual<'o>(
 
 /// The facts that a sheet names: those that a Has in it carries.
 ///
+/// # Errors
+///
+/// [`Refusal::Length`], and the causes that words have, [`Refusal::Kind`] to [`Refusal::WordsAfterTree`].
+///
+/// # Examples
+///
 /// ```
 /// use vierskof::Fact;
 ///
@@ -101,6 +137,12 @@ pub fn required_facts(sheet: &[u32]) -> Result<FactSet, Refusal> {
 
 /// The facts that a record's tree names, and that it therefore waits for.
 ///
+/// # Errors
+///
+/// [`Refusal::Length`], and the causes that words have, [`Refusal::Kind`] to [`Refusal::WordsAfterTree`].
+///
+/// # Examples
+///
 /// ```
 /// let resolved = [0xE000_0000, 0xC000_0001, 0x0000_0000];
 /// assert!(vierskof::required_residual_facts(&resolved)?.is_empty());
@@ -113,6 +155,12 @@ pub fn required_residual_facts(record: &[u32]) -> Result<FactSet, Refusal> {
 
 /// Whether the top of a record's tree is a permit, stored or plain.
 ///
+/// # Errors
+///
+/// [`Refusal::Length`], and the causes that words have, [`Refusal::Kind`] to [`Refusal::WordsAfterTree`].
+///
+/// # Examples
+///
 /// ```
 /// let resolved = [0xE000_0000, 0xC000_0001, 0x0000_0000];
 /// assert_eq!(vierskof::is_permit_constant(&resolved), Ok(true));
@@ -123,6 +171,12 @@ pub fn is_permit_constant(record: &[u32]) -> Result<bool, Refusal> {
 
 /// Whether the top of a record's tree is a deny, stored or plain.
 ///
+/// # Errors
+///
+/// [`Refusal::Length`], and the causes that words have, [`Refusal::Kind`] to [`Refusal::WordsAfterTree`].
+///
+/// # Examples
+///
 /// ```
 /// let resolved = [0xE000_0000, 0xC000_0001, 0x0000_0000];
 /// assert_eq!(vierskof::is_deny_constant(&resolved), Ok(false));
@@ -132,6 +186,12 @@ pub fn is_deny_constant(record: &[u32]) -> Result<bool, Refusal> {
 }
 
 /// Whether a grant or a stored permit of a record's tree has obligations.
+///
+/// # Errors
+///
+/// [`Refusal::Length`], and the causes that words have, [`Refusal::Kind`] to [`Refusal::WordsAfterTree`].
+///
+/// # Examples
 ///
 /// ```
 /// let resolved = [0xE000_0000, 0xC010_0001, 0x0000_0000, 0x0700_0000];

@@ -8,7 +8,9 @@ use core::fmt;
 pub use set::{FactSet, FactSetIter};
 pub use table::FactTable;
 
-/// What is known of a fact.
+/// What a table says of a fact.
+///
+/// A table has a field for these three and no more. How a fact read is told by a type of its own, [`Reading`](crate::read::Reading).
 ///
 /// ```
 /// use vierskof::Presence;

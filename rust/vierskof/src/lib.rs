@@ -10,13 +10,17 @@
 //! lends. [`build`] makes a sheet's words, [`read`] gives words back as typed values, and
 //! [`FactTable`] holds what is known.
 //!
+//! No call blocks, allocates, keeps state or panics, and none needs more than 256 KiB of stack: on a
+//! thread with less, a deep or long sheet may overflow it. Calls on separate outputs may run at the
+//! same time.
+//!
 //! # In stages
 //!
 //! A field relay reduces the sheet with the facts it has, the district narrows the record with its
 //! own, and the archive completes it.
 //!
 //! ```
-//! use vierskof::Presence::{Present, Unknown};
+//! use vierskof::Presence::{Absent, Present};
 //! use vierskof::build::{Condition, Grant, Policy};
 //! use vierskof::read::{Decision, Record};
 //! use vierskof::{Fact, FactTable, Obligation, Products};
@@ -42,18 +46,18 @@
 //! // Enough for every call of the chain.
 //! const ROOM: usize = vierskof::room(32);
 //!
-//! // The relay knows that this is no curator. What it hasn't heard of, it says is Unknown.
-//! let facts = FactTable::new().with(MEMBER, Unknown).with(SIGNED, Unknown);
+//! // The relay knows that this is no curator. All else is Unknown to it.
+//! let facts = FactTable::unknown().with(CURATOR, Absent);
 //! let mut out = [0; ROOM];
 //! let relayed = vierskof::partial_evaluate(sheet.words(), facts.as_bytes(), &mut out)?;
 //!
 //! // The district has the list of members.
-//! let facts = FactTable::new().with(MEMBER, Present).with(SIGNED, Unknown);
+//! let facts = FactTable::unknown().with(MEMBER, Present);
 //! let mut out = [0; ROOM];
 //! let narrowed = vierskof::narrow_residual(relayed, facts.as_bytes(), &mut out)?;
 //! assert!(vierskof::required_residual_facts(narrowed)?.iter().eq([SIGNED]));
 //!
-//! // The archive has everything.
+//! // The archive has everything. What it doesn't say isn't so.
 //! let facts = FactTable::new().with(MEMBER, Present).with(SIGNED, Present);
 //! let mut out = [0; ROOM];
 //! let completed = vierskof::complete_residual(narrowed, facts.as_bytes(), &mut out)?;
@@ -90,7 +94,14 @@
 //! # Linking
 //!
 //! The static library is looked for in the folder that the environment variable `VIERSKOF_LIB_DIR`
-//! names. Without it the build has `rt staticlib vierskof` prove and make it.
+//! names; a relative one begins where cargo is called. Without it the build has `rt staticlib
+//! vierskof` prove and make it, which takes minutes the first time. It is for x86-64 Linux.
+//!
+//! # What may grow
+//!
+//! [`Refusal`], [`read::Reading`], [`build::Unwritable`] and the values that [`build`] takes are open
+//! lists, since later rules add to them. [`Presence`], [`Shape`] and the nodes that [`read`] gives are
+//! closed: a program that tells them apart should not compile when there is one more.
 #![no_std]
 
 mod c;

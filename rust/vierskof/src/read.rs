@@ -35,7 +35,7 @@ mod words;
 
 use core::fmt;
 
-pub use lists::{Conditions, Consulted, Facts, Obligations, Observation, Policies};
+pub use lists::{Conditions, Consulted, Facts, Obligations, Observation, Policies, Reading};
 pub use nodes::{Condition, ConditionRef, Decision, Policy, PolicyRef};
 pub use parts::{DenyWithTrace, GrantRef, PermitWithTrace};
 
@@ -60,7 +60,11 @@ pub struct Sheet<'w> {
 }
 
 impl<'w> Sheet<'w> {
-    /// Has the proved reader judge the words: it refuses for the causes 1 and 5 to 10.
+    /// Has the proved reader judge the words.
+    ///
+    /// # Errors
+    ///
+    /// [`Refusal::Length`], and the causes that words have, [`Refusal::Kind`] to [`Refusal::WordsAfterTree`].
     pub fn read(words: &'w [u32]) -> Result<Self, Refusal> {
         // Of the calls that read a sheet, the one that takes neither table nor output.
         calls::required_facts(words).map(|_| Self { words })
@@ -102,14 +106,13 @@ pub enum Status {
 /// A record's words, known to be valid.
 ///
 /// ```
-/// use vierskof::Presence;
-/// use vierskof::read::{Decision, Record, Status};
+/// use vierskof::read::{Decision, Reading, Record, Status};
 ///
 /// let words = [0xE000_0001, 0x4005_0000, 0xC000_0003, 0x0000_0001, 0x0005_0000];
 /// let record = Record::read(&words)?;
 /// assert_eq!(record.status(), Status::Resolved);
 /// let read = record.consulted().next().expect("one fact was read");
-/// assert_eq!((read.fact.number(), read.presence), (5, Presence::Present));
+/// assert_eq!((read.fact.number(), read.reading), (5, Reading::Present));
 /// let Some(Decision::Permit(permit)) = record.decision() else {
 ///     panic!("the record is a permit");
 /// };
@@ -122,7 +125,11 @@ pub struct Record<'w> {
 }
 
 impl<'w> Record<'w> {
-    /// Has the proved reader judge the words: it refuses for the causes 1 and 5 to 10.
+    /// Has the proved reader judge the words.
+    ///
+    /// # Errors
+    ///
+    /// [`Refusal::Length`], and the causes that words have, [`Refusal::Kind`] to [`Refusal::WordsAfterTree`].
     pub fn read(words: &'w [u32]) -> Result<Self, Refusal> {
         // Of the calls that read a record, one that does no more than to check it.
         calls::is_permit_constant(words).map(|_| Self { words })

@@ -10,9 +10,14 @@ use crate::numbers;
 ///
 /// A text without a line, comments aside, says no words.
 pub fn assemble(text: &str) -> Result<Vec<u32>, Fault> {
+    numbered(text).map(|(words, _)| words)
+}
+
+/// The words that a text form says, and the line of each.
+pub fn numbered(text: &str) -> Result<(Vec<u32>, Vec<usize>), Fault> {
     let mut lines = lines(text).peekable();
     let Some(first) = lines.peek().copied() else {
-        return Ok(Vec::new());
+        return Ok((Vec::new(), Vec::new()));
     };
     let mut tree = Tree::new(first);
     if let Some(kind) = record_kind(first) {
@@ -51,6 +56,8 @@ struct Open<'t> {
 #[derive(Debug)]
 struct Tree<'t> {
     words: Vec<u32>,
+    /// The line of each word.
+    lines: Vec<usize>,
     /// What the top node may be.
     top: Place,
     /// The line from which the top node is due.
@@ -63,6 +70,7 @@ impl<'t> Tree<'t> {
     const fn new(first: Line<'t>) -> Self {
         Self {
             words: Vec::new(),
+            lines: Vec::new(),
             top: Place::Policy,
             first,
             begun: false,
@@ -73,7 +81,7 @@ impl<'t> Tree<'t> {
     fn begin_record(&mut self, kind: u32, line: Line<'t>) -> Result<(), Fault> {
         self.at_margin(line)?;
         Fields::of(line).end()?;
-        self.words.push(pack::lead(kind, 0));
+        self.put(line, &[pack::lead(kind, 0)]);
         self.top = if kind == 14 {
             Place::Decision
         } else {
@@ -85,11 +93,16 @@ impl<'t> Tree<'t> {
     fn consult(&mut self, line: Line<'t>) -> Result<(), Fault> {
         self.at_margin(line)?;
         let mut fields = Fields::of(line);
-        let entries = fields.list(numbers::observation, vierskof::LIST)?;
+        let entries = fields.list(numbers::said, vierskof::LIST)?;
         fields.end()?;
         self.words[0] |= pack::count(entries.len());
-        self.words.extend(pack::consulted(&entries));
+        self.put(line, &pack::consulted(&entries));
         Ok(())
+    }
+
+    fn put(&mut self, line: Line<'t>, words: &[u32]) {
+        self.words.extend(words);
+        self.lines.resize(self.words.len(), line.number);
     }
 
     fn at_margin(&self, line: Line<'t>) -> Result<(), Fault> {
@@ -118,7 +131,7 @@ impl<'t> Tree<'t> {
             below,
             count: 0,
         });
-        self.words.extend(words);
+        self.put(line, &words);
         Ok(())
     }
 
@@ -159,10 +172,10 @@ impl<'t> Tree<'t> {
         Ok(())
     }
 
-    fn end(mut self) -> Result<Vec<u32>, Fault> {
+    fn end(mut self) -> Result<(Vec<u32>, Vec<usize>), Fault> {
         self.close(0)?;
         if self.begun {
-            Ok(self.words)
+            Ok((self.words, self.lines))
         } else {
             Err(self.first.fault("a record without a tree", &self.top.due()))
         }

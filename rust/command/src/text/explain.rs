@@ -2,7 +2,7 @@
 
 use std::fmt::{self, Display, Formatter};
 
-use vierskof::read::{Decision, DenyWithTrace, Observation, PermitWithTrace, Record};
+use vierskof::read::{Decision, DenyWithTrace, PermitWithTrace, Record};
 use vierskof::{Fact, FactSet, Label, Products, Reason};
 
 use super::show::Joined;
@@ -25,6 +25,12 @@ pub(super) fn document(document: &Document<'_>, f: &mut Formatter<'_>) -> fmt::R
 fn permitted(f: &mut Formatter<'_>, permit: PermitWithTrace<'_>) -> fmt::Result {
     writeln!(f, "# Permit: {}.", products(permit.outcome()))?;
     writeln!(f, "# Obligations: {}.", or_none(permit.obligations()))?;
+    if permit.label().is_none() && permit.facts().len() == 0 {
+        // A fold of permits has no clause of its own; nor has a plain permit, and the record doesn't say which it was.
+        return f.write_str(
+            "# Decisive facts: none, since several clauses were joined or the one that decided asks for no fact.\n",
+        );
+    }
     because(f, permit.label(), None, permit.facts())
 }
 
@@ -55,8 +61,8 @@ fn because(
 }
 
 fn consulted(f: &mut Formatter<'_>, record: Record<'_>) -> fmt::Result {
-    let entry = |Observation { fact, presence }| format!("{fact} {presence}");
-    let entries = record.consulted().map(entry);
+    let entries = record.consulted();
+    let entries = entries.map(|read| format!("{} {}", read.fact, read.reading));
     writeln!(f, "# Facts consulted: {}.", or_none(entries))
 }
 

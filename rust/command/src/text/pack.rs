@@ -1,6 +1,5 @@
 //! Nodes as document 01 packs them: fields from the most significant bit on.
 
-use vierskof::read::Observation;
 use vierskof::{Fact, Label, Obligation, Presence, Products, Reason};
 
 use super::fields::Clause;
@@ -45,8 +44,8 @@ pub fn deny_with_trace(clause: &Clause) -> Vec<u32> {
 }
 
 /// Consulted entries.
-pub fn consulted(entries: &[Observation]) -> Vec<u32> {
-    let entry = |entry: &Observation| presence(entry.presence) << 14 | fact(entry.fact);
+pub fn consulted(entries: &[(Fact, Presence)]) -> Vec<u32> {
+    let entry = |entry: &(Fact, Presence)| presence(entry.1) << 14 | fact(entry.0);
     halves(entries.iter().map(entry))
 }
 

@@ -4,8 +4,8 @@ use std::fmt::{self, Display, Formatter};
 
 use vierskof::Shape;
 use vierskof::read::{
-    Condition, ConditionRef, Conditions, DenyWithTrace, GrantRef, Observation, PermitWithTrace,
-    Policies, Policy, PolicyRef, Record, Status,
+    Condition, ConditionRef, Conditions, DenyWithTrace, GrantRef, PermitWithTrace, Policies,
+    Policy, PolicyRef, Record, Status,
 };
 
 use super::explain;
@@ -44,8 +44,8 @@ fn lead(f: &mut Formatter<'_>, record: Record<'_>) -> fmt::Result {
         Status::Resolved => "resolved\n",
         Status::Pending => "pending\n",
     })?;
-    let entry = |Observation { fact, presence }| format!("{fact}={presence}");
-    let entries = record.consulted().map(entry);
+    let entries = record.consulted();
+    let entries = entries.map(|read| format!("{}={}", read.fact, read.reading));
     if entries.len() > 0 {
         writeln!(f, "consulted {}", Joined(entries, ","))?;
     }

@@ -283,6 +283,9 @@ fn depth_is_the_proved_readers_to_judge() {
     super::accepted("assemble", nested(32));
     for levels in [33, 34, 2_500] {
         let message = failure(1, "assemble", nested(levels));
-        assert_eq!(message, "refused 7: the tree has more than 32 levels\n");
+        assert_eq!(
+            message,
+            "refused 7: the tree has more than 32 levels (line 33)\n"
+        );
     }
 }

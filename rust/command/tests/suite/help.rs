@@ -1,6 +1,7 @@
 //! What the help says holds: its examples are run as they stand.
 
 use std::env;
+use std::fs;
 use std::path::{Path, PathBuf};
 use std::process::Command;
 
@@ -13,11 +14,9 @@ const SUBCOMMANDS: [&str; 7] = [
     "evaluate", "reduce", "narrow", "complete", "required", "show", "assemble",
 ];
 
-const README: &str = include_str!("../../../../README.md");
-
 /// Runs commands as they would be pasted into a shell, with this build's command on the path.
 #[track_caller]
-fn shell(commands: &str, folder: &Path) -> String {
+pub fn shell(commands: &str, folder: &Path) -> String {
     let built = PathBuf::from(env!("CARGO_BIN_EXE_vierskof"));
     let mut path = vec![built.parent().expect("a folder").to_owned()];
     path.extend(env::split_paths(&env::var_os("PATH").expect("a path")));
@@ -57,22 +56,6 @@ fn the_road_leads_over_two_pending_records() {
     assert_eq!(shell(stages, &folder), "5\n7\n8\n5\n");
 }
 
-/// The README's commands begin with `./run`, which builds the command and hands its arguments over.
-#[test]
-fn the_readme_has_the_same_road() {
-    assert!(README.contains(&ROAD.replace("vierskof ", "./run ")));
-}
-
-#[test]
-fn the_readme_shows_what_is_printed() {
-    let (_, example) = README.split_once("\n    $ ").expect("an example");
-    let (typed, rest) = example.split_once('\n').expect("a line");
-    let printed = rest.lines().map_while(|line| line.strip_prefix("    "));
-    let printed: String = printed.flat_map(|line| [line, "\n"]).collect();
-    let shown = shell(&typed.replace("./run", "vierskof"), &folder("readme"));
-    assert_eq!(shown, printed);
-}
-
 #[test]
 fn examples_of_the_subcommands() {
     let folder = folder("examples");
@@ -100,6 +83,7 @@ fn help_tells_of_each_subcommand_and_status() {
         "\n  0  decided",
         "\n  1  refused",
         "\n  2  usage",
+        "0 for a permit, 3 for a deny and 4\n",
         "What a sheet is",
         "What a record is",
     ] {
@@ -120,4 +104,17 @@ fn help_fits_a_terminal() {
     let help = answer("--help", "");
     let guide = help.split_once("What a sheet is").expect("the guide").1;
     assert!(guide.lines().all(|line| line.chars().count() <= 80));
+}
+
+/// `./run` shows these texts where nothing is built yet. `vierskof NAME --help > rust/command/help/NAME.txt` makes one again.
+#[test]
+fn the_stored_help_is_what_is_printed() {
+    let stored = |name: &str| {
+        let file = format!(concat!(env!("CARGO_MANIFEST_DIR"), "/help/{}.txt"), name);
+        fs::read_to_string(&file).unwrap_or_else(|error| panic!("{file}: {error}"))
+    };
+    assert_eq!(answer("--help", ""), stored("vierskof"));
+    for name in SUBCOMMANDS {
+        assert_eq!(answer(&format!("{name} --help"), ""), stored(name));
+    }
 }

@@ -4,7 +4,8 @@ mod answers;
 mod faults;
 mod forms;
 mod help;
-mod round_trip;
+mod readme;
+mod run;
 mod show;
 mod statuses;
 

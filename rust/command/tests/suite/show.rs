@@ -79,10 +79,15 @@ fn permits() {
         answer("show", "E0000000 C0000000 00000000"),
         "# Permit: no product.\n\
          # Obligations: none.\n\
-         # Decisive facts: none.\n\
+         # Decisive facts: none, since several clauses were joined or the one that decided asks for no fact.\n\
          # Facts consulted: none.\n\
          resolved\n\
          permit-with-trace 0000\n"
+    );
+    let labelled = answer("show", "E0000000 C0000001 80040000");
+    assert!(
+        labelled.contains("\n# Decisive facts: none; label 4.\n"),
+        "{labelled}"
     );
     let first = |words: &str| answer("show", words).lines().next().map(str::to_owned);
     let all = first("E0000000 C000FFFF 00000000");
@@ -113,4 +118,17 @@ fn denies() {
          resolved\n\
          deny-with-trace\n"
     );
+}
+
+#[test]
+fn joined_clauses_are_told() {
+    let sheet = "any\n  grant 0001 label 1\n    has 5\n  grant 0002 label 2\n    has 6\n";
+    let shown = answer("evaluate --facts 5=present,6=present", sheet);
+    assert!(shown.starts_with("# Permit: products 0, 1.\n"), "{shown}");
+    assert!(
+        shown.contains("none, since several clauses were joined"),
+        "{shown}"
+    );
+    let one = answer("evaluate --facts 5=present", sheet);
+    assert!(one.contains("\n# Decisive facts: 5; label 1.\n"), "{one}");
 }

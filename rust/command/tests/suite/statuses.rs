@@ -2,7 +2,7 @@
 
 use std::fs::{self, File};
 use std::io::Write;
-use std::process::Stdio;
+use std::process::{Command, Stdio};
 
 use super::{accepted, answer, command, failure, folder, piped, run};
 
@@ -46,7 +46,7 @@ fn words_of_the_other_kind() {
         assert!(message.ends_with(hint), "{message}");
         let message = failure(1, call, "C0000001 00000000");
         assert!(
-            message.starts_with("refused 5: ") && !message.contains('('),
+            message.starts_with("refused 5: ") && message.ends_with("(word 1, C0000001)\n"),
             "{message}"
         );
     }
@@ -55,6 +55,81 @@ fn words_of_the_other_kind() {
         let hint = " (this is a sheet: evaluate and reduce take it)\n";
         assert!(message.ends_with(hint), "{message}");
     }
+}
+
+#[test]
+fn refusals_say_where() {
+    let arms = |arm: &str, count: usize| format!("any\n{}", arm.repeat(count));
+    let long = arms("  permit 0001\n  deny\n", 2_047) + "  any\n    deny\n    deny\n";
+    let repeated = "# Twice.\nany\n  deny\n  grant 0001 obligations 7,9,8,12,9\n    always\n";
+    let levels: Vec<String> = (0..33)
+        .map(|depth| format!("{:1$}any", "", 2 * depth))
+        .collect();
+    let deep = levels.join("\n");
+    for (arguments, input, place) in [
+        ("show", "", "there is no word"),
+        ("evaluate", "# nothing\n", "there is no word"),
+        (
+            "show",
+            &long,
+            "4098 words, where at most 4096 are due; too many from line 4097 on",
+        ),
+        (
+            "narrow",
+            &"F0000000 ".repeat(16_385),
+            "16385 words, where at most 16384 are due",
+        ),
+        ("evaluate --table-hex 0003", SHEET, "fact 7"),
+        ("evaluate --table-hex 00C2", SHEET, "fact 4"),
+        ("evaluate --table-hex 0083", SHEET, "fact 4"),
+        ("reduce --table-hex 8083", SHEET, "fact 7"),
+        ("evaluate --facts 6=unknown,5=unknown", SHEET, "fact 5"),
+        (
+            "complete --facts 1023=unknown",
+            "pending\ndeny",
+            "fact 1023",
+        ),
+        ("show", "A0000002 70000000 00000000", "word 3, 00000000"),
+        ("evaluate", "A0000002\n70000000\n", "after word 2, the last"),
+        ("show", &deep, "line 33"),
+        ("assemble", repeated, "line 4"),
+        (
+            "show",
+            "80200001 00000000 07070000 00000000",
+            "word 3, 07070000",
+        ),
+        ("show", "A0000001 70000100 70000000", "word 2, 70000100"),
+        ("show", "70000000 70000000 60000001", "word 2, 70000000"),
+        ("narrow", "F0000001 C0050000 70000000", "word 2, C0050000"),
+    ] {
+        let message = failure(1, arguments, input);
+        assert!(
+            message.ends_with(&format!(" ({place})\n")),
+            "{arguments}: {message}"
+        );
+    }
+}
+
+#[test]
+fn a_status_may_say_the_effect() {
+    let pending = answer("reduce", SHEET);
+    for (arguments, input, due) in [
+        ("evaluate --facts 5=present", SHEET, 0),
+        ("evaluate", SHEET, 3),
+        ("reduce --facts 5=absent", SHEET, 3),
+        ("reduce", SHEET, 4),
+        ("narrow --facts 6=present", &pending, 4),
+        ("narrow --facts 5=present", &pending, 0),
+        ("complete", &pending, 3),
+        ("evaluate", "permit 0000", 0),
+    ] {
+        let plain = accepted(arguments, input);
+        let output = run(&format!("{arguments} --status --to text"), input.as_bytes());
+        assert_eq!(output.status.code(), Some(due), "{arguments}");
+        assert_eq!((output.stdout, output.stderr), (plain, Vec::new()));
+    }
+    assert!(failure(1, "evaluate --status", "70000001").starts_with("refused 8: "));
+    failure(2, "show --status", SHEET);
 }
 
 #[test]
@@ -158,6 +233,32 @@ fn a_closed_pipe_is_no_fault() {
 }
 
 #[test]
+fn a_closed_standard_output_is_a_fault() {
+    let sheet = folder("closed").join("sheet");
+    fs::write(&sheet, SHEET).expect("a file");
+    let ended = |redirected: &str| {
+        let output = Command::new("sh")
+            .args([
+                "-c",
+                &format!("exec \"$0\" evaluate --status \"$1\" {redirected}"),
+            ])
+            .args([env!("CARGO_BIN_EXE_vierskof").as_ref(), sheet.as_os_str()])
+            .output()
+            .expect("the command runs");
+        (
+            output.status.code(),
+            String::from_utf8(output.stderr).expect("text"),
+        )
+    };
+    let closed = "error: standard output is closed\n".to_owned();
+    assert_eq!(ended(">&-"), (Some(2), closed));
+    assert_eq!(ended(">&- 2>&-"), (Some(2), String::new()));
+    for open in [">/dev/null", "1<>/dev/null", "<&-", "2>&-"] {
+        assert_eq!(ended(open), (Some(3), String::new()), "{open}");
+    }
+}
+
+#[test]
 fn a_full_disk_is_a_fault() {
     let full = File::options()
         .write(true)
@@ -182,7 +283,7 @@ fn no_command_at_all_is_usage() {
     let output = run("--version", b"");
     assert_eq!(output.status.code(), Some(0));
     assert!(output.stdout.starts_with(b"vierskof "));
-    let output = std::process::Command::new(env!("CARGO_BIN_EXE_vierskof"))
+    let output = Command::new(env!("CARGO_BIN_EXE_vierskof"))
         .output()
         .expect("the command runs");
     assert_eq!(output.status.code(), Some(2));

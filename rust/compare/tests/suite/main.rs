@@ -1,6 +1,8 @@
 //! Tests of the calls, the format, the listing and the generated files.
 
 mod codec;
+#[cfg(feature = "proved")]
+mod command;
 mod files;
 mod limits;
 mod listing;
@@ -8,6 +10,8 @@ mod original;
 #[cfg(feature = "proved")]
 mod proved;
 mod readings;
+#[cfg(feature = "proved")]
+mod round_trip;
 #[cfg(feature = "proved")]
 mod sitting;
 mod stages;

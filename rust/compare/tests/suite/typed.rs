@@ -96,7 +96,7 @@ const fn shape(given: vierskof::Shape) -> DenyShape {
 }
 
 fn entry(given: typed::Observation) -> Entry {
-    let presence = match given.presence {
+    let presence = match given.reading.presence() {
         vierskof::Presence::Absent => Presence::Absent,
         vierskof::Presence::Present => Presence::Present,
         vierskof::Presence::Unknown => Presence::Unknown,

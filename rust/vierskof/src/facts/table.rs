@@ -8,7 +8,13 @@ use crate::{Fact, Refusal, TABLE_BYTES};
 /// Facts in a byte.
 const FIELDS: usize = 4;
 
-/// What is known of every fact. A fact that nothing was said of is Absent, never Unknown.
+/// What is known of every fact.
+///
+/// A table speaks of its first facts, four for each byte. What comes after them is Absent too, but by silence: a fact that is entered as Absent stays in
+/// the table, which therefore keeps its length, and tables of unlike lengths are unlike.
+///
+/// [`new`](Self::new) begins with silence, as one sitting wants it: what isn't said isn't so. Whoever holds only some of the facts begins with
+/// [`unknown`](Self::unknown).
 ///
 /// ```
 /// use vierskof::{Fact, FactTable, Presence};
@@ -26,18 +32,37 @@ const FIELDS: usize = 4;
 /// ```
 #[derive(Clone, PartialEq, Eq, Hash)]
 pub struct FactTable {
+    /// All 0 from `length` on, so that equal tables are equal throughout.
     bytes: [u8; TABLE_BYTES],
-    /// Up to the last byte that isn't 0, so that tables that say the same are equal.
     length: usize,
 }
 
 impl FactTable {
-    /// A table with every fact Absent.
+    /// A table that says nothing, so that every fact is Absent.
     #[must_use]
     pub const fn new() -> Self {
         Self {
             bytes: [0; TABLE_BYTES],
             length: 0,
+        }
+    }
+
+    /// A table with every fact Unknown: what a relay begins with, to enter the facts that it holds.
+    ///
+    /// ```
+    /// use vierskof::{Fact, FactTable, Presence};
+    ///
+    /// const MEMBER: Fact = Fact::new(5).unwrap();
+    ///
+    /// let held = FactTable::unknown().with(MEMBER, Presence::Present);
+    /// assert_eq!(held.presence(Fact::MAX), Presence::Unknown);
+    /// assert_eq!(held.as_bytes().len(), 256);
+    /// ```
+    #[must_use]
+    pub const fn unknown() -> Self {
+        Self {
+            bytes: [0xAA; TABLE_BYTES],
+            length: TABLE_BYTES,
         }
     }
 
@@ -51,6 +76,10 @@ impl FactTable {
     /// assert_eq!(FactTable::from_bytes(&[0x0C]), Err(Refusal::TableField));
     /// # Ok::<(), Refusal>(())
     /// ```
+    ///
+    /// # Errors
+    ///
+    /// [`Refusal::TableLength`], and then [`Refusal::TableField`] for a field 3.
     pub fn from_bytes(given: &[u8]) -> Result<Self, Refusal> {
         let mut table = Self::new();
         let bytes = table.bytes.get_mut(..given.len());
@@ -59,23 +88,33 @@ impl FactTable {
         if given.iter().any(three) {
             return Err(Refusal::TableField);
         }
-        table.end_by(given.len());
+        table.length = given.len();
         Ok(table)
     }
 
-    /// The shortest bytes that say this table; calls take them.
+    /// The table's bytes, up to the last fact that was entered; calls take them.
     #[must_use]
     pub fn as_bytes(&self) -> &[u8] {
         self.bytes.get(..self.length).unwrap_or_default()
     }
 
-    /// Says what is known of a fact, instead of what was said before.
+    /// Says what is known of a fact, instead of what was said before. The table ends no earlier than with the byte of this fact.
+    ///
+    /// ```
+    /// use vierskof::{Fact, FactTable, Presence};
+    ///
+    /// const MEMBER: Fact = Fact::new(5).unwrap();
+    ///
+    /// let table = FactTable::new().with(MEMBER, Presence::Absent);
+    /// assert_eq!(table.as_bytes(), [0x00, 0x00]);
+    /// assert_ne!(table, FactTable::new());
+    /// ```
     pub fn set(&mut self, fact: Fact, presence: Presence) -> &mut Self {
         let (at, shift) = place(fact);
         if let Some(byte) = self.bytes.get_mut(at) {
             *byte = *byte & !(3 << shift) | presence.field() << shift;
         }
-        self.end_by(self.length.max(at + 1));
+        self.length = self.length.max(at + 1);
         self
     }
 
@@ -98,13 +137,6 @@ impl FactTable {
     #[must_use]
     pub fn is_known(&self) -> bool {
         self.bytes.iter().all(|byte| byte & 0xAA == 0)
-    }
-
-    /// Ends with the last byte that isn't 0, of which none is past the first `most`.
-    fn end_by(&mut self, most: usize) {
-        let mut bytes = self.bytes.iter().take(most);
-        let last = bytes.rposition(|&byte| byte != 0);
-        self.length = last.map_or(0, |last| last + 1);
     }
 }
 
@@ -143,12 +175,13 @@ impl FromIterator<(Fact, Presence)> for FactTable {
     }
 }
 
-/// The facts that aren't Absent.
+/// How many facts it speaks of, and those that aren't Absent.
 impl fmt::Debug for FactTable {
     fn fmt(&self, f: &mut fmt::Formatter<'_>) -> fmt::Result {
         let facts = (0..=Fact::MAX.number()).filter_map(Fact::new);
         let said = facts.map(|fact| (fact.number(), self.presence(fact)));
         let said = said.filter(|&(_, presence)| presence != Presence::Absent);
+        write!(f, "FactTable of {} ", FIELDS * self.length)?;
         f.debug_map().entries(said).finish()
     }
 }

@@ -128,18 +128,70 @@ list! {
 
 /// A fact that was read, and how it read.
 #[derive(Clone, Copy, Debug, PartialEq, Eq, Hash)]
+#[non_exhaustive]
 pub struct Observation {
     /// The fact.
     pub fact: Fact,
-    /// What was known of it.
-    pub presence: Presence,
+    /// How it read.
+    pub reading: Reading,
+}
+
+/// How a fact read when it was consulted.
+///
+/// A record may come to tell more than a table can say, so this list is open; [`presence`](Self::presence) is what any reading counts as.
+///
+/// ```
+/// use vierskof::Presence;
+/// use vierskof::read::Reading;
+///
+/// assert_eq!(Reading::Present.presence(), Presence::Present);
+/// assert_eq!(Reading::from(Presence::Absent).to_string(), "absent");
+/// ```
+#[derive(Clone, Copy, Debug, PartialEq, Eq, Hash)]
+#[non_exhaustive]
+pub enum Reading {
+    /// It wasn't so.
+    Absent,
+    /// It was so.
+    Present,
+    /// Nobody had said. No call records it; a record that came from elsewhere may hold it.
+    Unknown,
 }
 
 impl Observation {
     fn of_field(field: u32) -> Self {
         Self {
             fact: Fact::of_field(field),
-            presence: Presence::of_field(field >> 14).unwrap_or_default(),
+            reading: Presence::of_field(field >> 14).unwrap_or_default().into(),
         }
+    }
+}
+
+impl Reading {
+    /// What the rules take it for.
+    #[must_use]
+    pub const fn presence(self) -> Presence {
+        match self {
+            Self::Absent => Presence::Absent,
+            Self::Present => Presence::Present,
+            Self::Unknown => Presence::Unknown,
+        }
+    }
+}
+
+impl From<Presence> for Reading {
+    fn from(presence: Presence) -> Self {
+        match presence {
+            Presence::Absent => Self::Absent,
+            Presence::Present => Self::Present,
+            Presence::Unknown => Self::Unknown,
+        }
+    }
+}
+
+/// `absent`, `present` or `unknown`, as in listings.
+impl fmt::Display for Reading {
+    fn fmt(&self, f: &mut fmt::Formatter<'_>) -> fmt::Result {
+        self.presence().fmt(f)
     }
 }

@@ -15,7 +15,27 @@ fn a_new_table_says_nothing() {
     assert!(table.is_known());
     assert!(every_fact().all(|fact| table.presence(fact) == Presence::Absent));
     assert_eq!(table, FactTable::default());
-    assert_eq!(format!("{table:?}"), "{}");
+    assert_eq!(format!("{table:?}"), "FactTable of 0 {}");
+}
+
+#[test]
+fn an_unknown_table_leaves_every_fact_open() {
+    let table = FactTable::unknown();
+    assert!(every_fact().all(|fact| table.presence(fact) == Presence::Unknown));
+    assert!(!table.is_known());
+    let bytes = [0xAA; TABLE_BYTES];
+    assert_eq!(table.as_bytes(), bytes);
+    assert_eq!(FactTable::from_bytes(&bytes), Ok(table.clone()));
+    let all = every_fact().map(|fact| (fact, Presence::Unknown));
+    assert_eq!(all.collect::<FactTable>(), table);
+    // A relay that holds nothing leaves the whole sheet open, where an empty table decides it.
+    let sheet = [0x8800_0003, 0, 0x2000_03FF];
+    let (mut open, mut decided) = ([0; 8], [0; 8]);
+    let open = vierskof::partial_evaluate(&sheet, table.as_bytes(), &mut open);
+    assert_eq!(open, Ok(&[0xF000_0000, sheet[0], sheet[1], sheet[2]][..]));
+    let empty = FactTable::new();
+    let decided = vierskof::partial_evaluate(&sheet, empty.as_bytes(), &mut decided);
+    assert_eq!(decided.unwrap()[0], 0xE000_0001);
 }
 
 #[test]
@@ -38,7 +58,8 @@ fn fields_stand_as_the_rules_say() {
     let last = present(1_023).with(fact(1_020), Presence::Unknown);
     assert_eq!(last.as_bytes().len(), TABLE_BYTES);
     assert_eq!(last.as_bytes()[255], 0x81);
-    assert_eq!(format!("{last:?}"), "{1020: Unknown, 1023: Present}");
+    let shown = "FactTable of 1024 {1020: Unknown, 1023: Present}";
+    assert_eq!(format!("{last:?}"), shown);
 }
 
 #[test]
@@ -53,13 +74,15 @@ fn what_is_said_last_holds() {
         .set(first, Presence::Present)
         .set(last, Presence::Absent);
     assert!(table.is_known());
-    assert_eq!(table.as_bytes(), [0x40]);
+    assert_eq!(table.as_bytes()[0], 0x40);
+    assert_eq!(table.as_bytes()[1..], [0; TABLE_BYTES - 1]);
     let lower = FactTable::new()
         .with(last, Presence::Present)
         .with(first, Presence::Absent);
     assert_eq!(lower.as_bytes().len(), TABLE_BYTES);
     let twice = [(first, Presence::Unknown), (first, Presence::Present)];
-    assert_eq!(twice.into_iter().collect::<FactTable>(), table);
+    let last_said = FactTable::new().with(first, Presence::Present);
+    assert_eq!(twice.into_iter().collect::<FactTable>(), last_said);
 }
 
 #[test]
@@ -83,16 +106,27 @@ fn bytes_are_read() {
 }
 
 #[test]
-fn tables_that_say_the_same_are_equal() {
+fn a_table_keeps_its_length() {
     let short = FactTable::from_bytes(&[0x40]).expect("a table");
     let long = FactTable::from_bytes(&[0x40, 0, 0]).expect("a table");
-    assert_eq!(short, long);
-    assert_eq!(AsRef::<[u8]>::as_ref(&long), [0x40]);
+    assert_eq!(AsRef::<[u8]>::as_ref(&long), [0x40, 0, 0]);
+    assert_ne!(short, long);
+    // An Absent entered at the end is no silence, whatever comes after it.
+    let entered = FactTable::new()
+        .with(fact(0), Presence::Present)
+        .with(fact(9), Presence::Absent);
+    assert_eq!(entered, long);
+    assert_eq!(entered.with(fact(3), Presence::Absent), long);
+    let taken_back = short
+        .with(fact(9), Presence::Unknown)
+        .with(fact(9), Presence::Absent);
+    assert_eq!(taken_back, long);
+    assert_eq!(format!("{long:?}"), "FactTable of 12 {0: Present}");
 }
 
 #[test]
 fn faulty_bytes_are_refused() {
-    assert_eq!(FactTable::from_bytes(&[0; 256]), Ok(FactTable::new()));
+    assert!(FactTable::from_bytes(&[0; 256]).is_ok());
     assert_eq!(
         FactTable::from_bytes(&[0xFF; 257]),
         Err(Refusal::TableLength)

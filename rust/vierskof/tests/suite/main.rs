@@ -1,7 +1,10 @@
 //! Tests of the crate through its public interface.
 
 mod build;
+mod example;
 mod facts;
+mod header;
+mod linking;
 mod numbers;
 mod read;
 mod refusals;

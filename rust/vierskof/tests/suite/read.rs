@@ -225,7 +225,10 @@ fn the_longest_lists() {
     for (read, fact) in record.consulted().zip(&facts) {
         assert_eq!(u32::from(read.fact.number()), *fact);
         let presences = [Presence::Absent, Presence::Present, Presence::Unknown];
-        assert_eq!(read.presence, presences[(*fact % 3) as usize]);
+        let presence = presences[(*fact % 3) as usize];
+        assert_eq!(read.reading, presence.into());
+        assert_eq!(read.reading.presence(), presence);
+        assert_eq!(read.reading.to_string(), presence.to_string());
     }
     let Policy::PermitWithTrace(permit) = record.tree().node() else {
         panic!("no permit");

@@ -1,7 +1,7 @@
 //! The worked sheets A to H, built, decided and read.
 
 use vierskof::build::{Condition, Grant, Policy};
-use vierskof::read::{self, Decision, PermitWithTrace, Record, Status};
+use vierskof::read::{self, Decision, PermitWithTrace, Reading, Record, Status};
 use vierskof::{
     FactTable, Presence, Shape, complete_residual, evaluate, narrow_residual, partial_evaluate,
 };
@@ -74,11 +74,8 @@ fn d_permits_on_its_fact() {
     let expected = [0xE000_0001, 0x4005_0000, 0xC000_0003, 1, 0x0005_0000];
     assert_eq!(record, expected);
     let consulted = Record::read(&record).unwrap().consulted();
-    let present = read::Observation {
-        fact: fact(5),
-        presence: Presence::Present,
-    };
-    assert!(consulted.eq([present]));
+    let consulted = consulted.map(|read| (read.fact, read.reading));
+    assert!(consulted.eq([(fact(5), Reading::Present)]));
     assert_eq!(permit(&record).outcome(), products(3));
     assert!(permit(&record).facts().eq([fact(5)]));
 }
@@ -89,8 +86,8 @@ fn e_denies_without_it() {
     let expected = [0xE000_0001, 0x0005_0000, 0xDC00_0003, 0, 1, 0x0005_0000];
     assert_eq!(record, expected);
     let record = Record::read(&record).unwrap();
-    let consulted = record.consulted().map(|read| (read.fact, read.presence));
-    assert!(consulted.eq([(fact(5), Presence::Absent)]));
+    let consulted = record.consulted().map(|read| (read.fact, read.reading));
+    assert!(consulted.eq([(fact(5), Reading::Absent)]));
     let Some(Decision::Deny(deny)) = record.decision() else {
         panic!("{record:?} is no deny");
     };

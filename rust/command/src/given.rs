@@ -1,0 +1,172 @@
+//! Words as they were given: where they stand, and so where a refusal comes from.
+
+use std::fs::File;
+use std::io::Read;
+use std::path::Path;
+
+use vierskof::read::{Record, Sheet};
+use vierskof::{RECORD_WORDS, Refusal, SHEET_WORDS};
+
+use crate::arguments::Input;
+use crate::document::{Document, Kind, is_record};
+use crate::form::{self, Form};
+use crate::work::Failure;
+
+/// Bytes of the longest file that is read. A text of the longest record needs far less.
+const LONGEST: u64 = 16 << 20;
+
+/// What a command reads the words as.
+#[derive(Clone, Copy, Debug, PartialEq, Eq)]
+pub enum Due {
+    /// A sheet.
+    Sheet,
+    /// A record.
+    Record,
+    /// Whichever they are.
+    Either,
+}
+
+/// Words as they were given.
+#[derive(Clone, Debug)]
+pub struct Given {
+    /// Where they come from.
+    name: String,
+    /// The words.
+    pub words: Vec<u32>,
+    /// The line of each, if they were given as text.
+    lines: Option<Vec<usize>>,
+    /// What the bytes look like, if nobody said that they are binary words and they may be none.
+    mistaken: Option<String>,
+}
+
+impl Given {
+    /// The words in a file, or on standard input.
+    pub fn read(input: &Input, stdin: impl Read) -> Result<Self, Failure> {
+        let file = input.file.as_path();
+        let (name, bytes) = if file == Path::new("-") {
+            ("standard input".to_owned(), read(stdin))
+        } else {
+            (file.display().to_string(), open(file))
+        };
+        let named = |message| Failure::Usage(format!("{name}: {message}"));
+        let bytes = bytes.map_err(named)?;
+        Self::of(&bytes, input.from, &name).map_err(named)
+    }
+
+    fn of(bytes: &[u8], from: Option<Form>, name: &str) -> Result<Self, String> {
+        let form = from.unwrap_or_else(|| Form::of(bytes));
+        let guessed = form == Form::Binary && from.is_none();
+        let mistaken = guessed.then(|| form::mistaken(bytes)).flatten();
+        match form.read(bytes) {
+            Ok((words, lines)) => Ok(Self {
+                name: name.to_owned(),
+                words,
+                lines,
+                mistaken,
+            }),
+            Err(message) => Err(mistaken.unwrap_or(message)),
+        }
+    }
+
+    /// The failure that a refusal of the words is, with the place if there is one.
+    pub fn refused(&self, refusal: Refusal, due: Due) -> Failure {
+        match &self.mistaken {
+            Some(mistaken) if judged(&self.words, Due::Either).is_err() => {
+                Failure::Usage(format!("{}: {mistaken}", self.name))
+            }
+            _ => Failure::Refused(refusal, self.place(refusal, due)),
+        }
+    }
+
+    fn place(&self, refusal: Refusal, due: Due) -> Option<String> {
+        match refusal {
+            Refusal::Length => Some(self.length(due)),
+            Refusal::WordsEnd => Some(format!("after word {}, the last", self.words.len())),
+            Refusal::Kind => Some(
+                self.other(due)
+                    .map_or_else(|| self.word(self.stops(refusal, due)), ToOwned::to_owned),
+            ),
+            Refusal::Level
+            | Refusal::Field
+            | Refusal::RepeatedObligation
+            | Refusal::WordsAfterTree => Some(self.word(self.stops(refusal, due))),
+            _ => None,
+        }
+    }
+
+    /// Why no sheet or record has so many words.
+    fn length(&self, due: Due) -> String {
+        let words = self.words.len();
+        if words == 0 {
+            return "there is no word".to_owned();
+        }
+        let most = match due {
+            Due::Sheet => SHEET_WORDS,
+            Due::Either if !is_record(&self.words) => SHEET_WORDS,
+            Due::Record | Due::Either => RECORD_WORDS,
+        };
+        let lines = self.lines.as_ref().and_then(|lines| lines.get(most));
+        let from = lines.map_or_else(String::new, |line| {
+            format!("; too many from line {line} on")
+        });
+        format!("{words} words, where at most {most} are due{from}")
+    }
+
+    /// Whole words that are refused for a kind are a sheet where a record is due, or a record where a sheet is.
+    fn other(&self, due: Due) -> Option<&'static str> {
+        let document = Document::read(&self.words).ok()?;
+        match (due, document.kind()) {
+            (Due::Record, Kind::Sheet(_)) => Some("this is a sheet: evaluate and reduce take it"),
+            (Due::Sheet, Kind::Record(_)) => Some("this is a record: narrow and complete take it"),
+            _ => None,
+        }
+    }
+
+    /// Where reading stops: the last word of the shortest beginning that the proved reader refuses for the same cause. It refuses every longer one for
+    /// that cause too, and a shorter one because it ends.
+    fn stops(&self, refusal: Refusal, due: Due) -> usize {
+        let same = |words: &[u32]| judged(words, due).err() == Some(refusal);
+        let (mut shorter, mut refused) = (0, self.words.len());
+        while refused - shorter > 1 {
+            let middle = usize::midpoint(shorter, refused);
+            if same(&self.words[..middle]) {
+                refused = middle;
+            } else {
+                shorter = middle;
+            }
+        }
+        shorter
+    }
+
+    /// A word in a message: its line, or its number and digits.
+    fn word(&self, at: usize) -> String {
+        match &self.lines {
+            Some(lines) => format!("line {}", lines[at]),
+            None => format!("word {}, {:08X}", at + 1, self.words[at]),
+        }
+    }
+}
+
+/// What the proved reader says of words.
+fn judged(words: &[u32], due: Due) -> Result<(), Refusal> {
+    match due {
+        Due::Sheet => Sheet::read(words).map(|_| ()),
+        Due::Record => Record::read(words).map(|_| ()),
+        Due::Either => Document::read(words).map(|_| ()),
+    }
+}
+
+/// The bytes of a file.
+pub fn open(file: &Path) -> Result<Vec<u8>, String> {
+    read(File::open(file).map_err(|error| error.to_string())?)
+}
+
+fn read(source: impl Read) -> Result<Vec<u8>, String> {
+    let mut bytes = Vec::new();
+    let read = source.take(LONGEST + 1).read_to_end(&mut bytes);
+    match read {
+        Err(error) => Err(error.to_string()),
+        Ok(length) if length as u64 > LONGEST => Err("longer than 16 MiB".to_owned()),
+        Ok(_) => Ok(bytes),
+    }
+}

@@ -1,0 +1,23 @@
+//! What the README shows holds: its examples are run as they stand.
+
+use command::guide::ROAD;
+
+use super::{folder, help};
+
+const README: &str = include_str!("../../../../README.md");
+
+/// The README's commands begin with `./run`, which builds the command and hands its arguments over.
+#[test]
+fn the_readme_has_the_same_road() {
+    assert!(README.contains(&ROAD.replace("vierskof ", "./run ")));
+}
+
+#[test]
+fn the_readme_shows_what_is_printed() {
+    let (_, example) = README.split_once("\n    $ ").expect("an example");
+    let (typed, rest) = example.split_once('\n').expect("a line");
+    let printed = rest.lines().map_while(|line| line.strip_prefix("    "));
+    let printed: String = printed.flat_map(|line| [line, "\n"]).collect();
+    let shown = help::shell(&typed.replace("./run", "vierskof"), &folder("readme"));
+    assert_eq!(shown, printed);
+}

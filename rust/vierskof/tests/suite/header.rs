@@ -1,0 +1,58 @@
+//! The C header says what the crate says.
+
+use vierskof::{RECORD_WORDS, Refusal, SHEET_WORDS, TABLE_BYTES};
+
+const HEADER: &str = include_str!("../../../../include/vierskof.h");
+
+/// The number that a name has in the header, by a macro or an enum.
+#[track_caller]
+fn number(name: &str) -> usize {
+    let line = HEADER
+        .lines()
+        .find(|line| line.split_whitespace().any(|word| word == name));
+    let (_, rest) = line.expect(name).split_once(name).expect(name);
+    let digits = rest.trim_start_matches([' ', '=']);
+    let end = digits.find(|found: char| !found.is_ascii_digit());
+    digits[..end.unwrap_or(digits.len())].parse().expect(name)
+}
+
+#[test]
+fn each_refusal_has_its_number() {
+    for refusal in Refusal::ALL {
+        let spelled = format!("{refusal:?}")
+            .chars()
+            .fold(String::new(), |name, letter| {
+                let apart = if letter.is_uppercase() { "_" } else { "" };
+                name + apart + &letter.to_uppercase().to_string()
+            });
+        let name = format!("VIERSKOF_REFUSED{spelled}");
+        assert_eq!(number(&name), refusal.number() as usize);
+    }
+    let named = HEADER.matches("VIERSKOF_REFUSED_").count();
+    assert_eq!(named, Refusal::ALL.len());
+}
+
+#[test]
+fn limits_and_version_are_the_same() {
+    assert_eq!(number("VIERSKOF_SHEET_WORDS"), SHEET_WORDS);
+    assert_eq!(number("VIERSKOF_RECORD_WORDS"), RECORD_WORDS);
+    assert_eq!(number("VIERSKOF_TABLE_BYTES"), TABLE_BYTES);
+    assert_eq!(number("VIERSKOF_SET_NUMBERS"), 16);
+    let parts = ["MAJOR", "MINOR", "PATCH"];
+    let parts = parts.map(|part| number(&format!("VIERSKOF_VERSION_{part}")).to_string());
+    assert_eq!(parts.join("."), env!("CARGO_PKG_VERSION"));
+    let version = format!("VIERSKOF_VERSION \"{}\"", env!("CARGO_PKG_VERSION"));
+    assert!(HEADER.contains(&version));
+}
+
+/// An output is `restrict`, so that a compiler may tell of one that overlaps.
+#[test]
+fn each_output_is_restricted() {
+    let calls: Vec<&str> = HEADER.split("\nuint64_t ").skip(1).collect();
+    assert_eq!(calls.len(), 9);
+    for call in calls {
+        let (call, _) = call.split_once(");").expect("a prototype");
+        let writes = call.contains(" out,") || call.contains(" set,");
+        assert_eq!(writes, call.contains("*VIERSKOF_RESTRICT "), "{call}");
+    }
+}

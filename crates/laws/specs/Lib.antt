@@ -14,3 +14,5 @@ pub mod Products
 pub mod Folds
 pub mod Deeper
 pub mod Numbers
+pub mod PartialTable
+pub mod PartialTableLaws

@@ -21,7 +21,7 @@ mutual
 pub data ConditionEval : Type 0 where
   satisfied unsatisfied : List ℕ → ConditionEval
 
--- Has is true on Present, and names its fact.
+-- Has is true on Present alone, and names its fact, Unknown or not.
 abbrev pub evalHas : ℕ → Presence → ConditionEval
 evalHas f absent = unsatisfied (f ∷ [])
 evalHas f present = satisfied (f ∷ [])

@@ -37,15 +37,6 @@ presence (suc (suc n)) = unknown
 abbrev pub tableOf : List ℕ → Table
 tableOf bs f = presence (getD (tableFields bs) f 0)
 
--- Unknown read as Absent.
-abbrev pub settle : Presence → Presence
-settle absent = absent
-settle present = present
-settle unknown = absent
-
-abbrev pub asKnown : Table → Table
-asKnown T f = settle (T f)
-
 -- A call takes a partial table, or a known one, which holds no Unknown.
 pub data TableKind : Type 0 where
   partialFacts knownFacts : TableKind

@@ -3,7 +3,7 @@ use mathlib.Core.Bool.{Bool, true, false, not}
 use mathlib.Core.Option.{Option, none, some}
 use mathlib.Core.List.{List, [], _∷_}
 use Prim.Native.Nat.{ℕ}
-use Rattle.model.specs.Facts.{Presence, absent, present, unknown, Table, asKnown}
+use Rattle.model.specs.Facts.{Presence, absent, present, unknown, Table}
 use Rattle.model.specs.Outcome.{Outcomes}
 use Rattle.model.specs.Condition.{Condition, always, never, has, notC, allC, anyC, Conditions, cnil, ccons, ConditionEval, unlessNone, evalCondition}
 use Rattle.model.specs.Decision.{Permit, Denial, Decision, permits, denies, combined, genericDeny}
@@ -121,7 +121,7 @@ stepAny (resolved (denies d)) (parts ps first qs) = parts ps (some d) qs
 stepAny (resolved (permits p)) (parts ps first qs) = parts (p ∷ ps) first qs
 stepAny (pending q) (parts ps first qs) = parts ps first (pcons q qs)
 
--- A known grant is evaluated again with Unknown read as Absent; a pending one holds what is left of its condition.
+-- A known grant is evaluated again, from the partial table itself; a pending one holds what is left of its condition.
 abbrev pub reduceGrant : {O : Type 0} → Grant O → ConditionEval → ReducedCondition → ReducedPolicy O
 reduceGrant g v (known b) = resolved (evalGrant g v)
 reduceGrant g v (pendingC c) = pending (grant g c)
@@ -147,9 +147,9 @@ module _ (L : Outcomes) where
     pub reducePolicy : Table → Policy (L .O) → ReducedPolicy (L .O)
     reducePolicy P (permit o) = resolved (permits (combined o []))
     reducePolicy P deny = resolved (denies genericDeny)
-    reducePolicy P (grant g c) = reduceGrant g (evalCondition (asKnown P) c) (reduceCondition P c)
-    reducePolicy P (all ts) = endAll (asKnown P) (reduceAll P ts)
-    reducePolicy P (any ts) = endAny (asKnown P) (reduceAny P ts)
+    reducePolicy P (grant g c) = reduceGrant g (evalCondition P c) (reduceCondition P c)
+    reducePolicy P (all ts) = endAll P (reduceAll P ts)
+    reducePolicy P (any ts) = endAny P (reduceAny P ts)
     reducePolicy P (orElse a b) = reduceOrElse (reducePolicy P a) (reducePolicy P b)
     reducePolicy P (stored d) = resolved d
 

@@ -117,8 +117,13 @@ turns =
     ∷ row evaluates 100 [] (0xB0000000 ∷ 0x60000002 ∷ 0x60000001 ∷ []) (writes (0xE0000000 ∷ 0xC0000002 ∷ 0x0 ∷ []))
     -- with a pending primary both are kept
     ∷ row reduces 100 (0x80 ∷ []) (0xB0000000 ∷ 0x80000001 ∷ 0x0 ∷ 0x20000000 ∷ 0x60000004 ∷ []) (writes (0xF0000000 ∷ 0xB0000000 ∷ 0x80000001 ∷ 0x0 ∷ 0x20000000 ∷ 0xC0000004 ∷ 0x0 ∷ []))
-    -- a known grant names by Unknown read as Absent; Unknown is not consulted
+    -- a known grant names by the partial table itself, an Unknown fact too, which is not consulted; and so in narrowing
     ∷ row reduces 100 (0x80 ∷ []) (0x80000001 ∷ 0x0 ∷ 0x40000002 ∷ 0x20000000 ∷ 0x20000001 ∷ []) (writes (0xE0000001 ∷ 0x10000 ∷ 0xD4000001 ∷ 0x0 ∷ 0x1 ∷ 0x0 ∷ []))
+    ∷ row narrows 100 (0x80 ∷ []) (0xF0000000 ∷ 0x80000001 ∷ 0x0 ∷ 0x40000002 ∷ 0x20000000 ∷ 0x20000001 ∷ []) (writes (0xE0000001 ∷ 0x10000 ∷ 0xD4000001 ∷ 0x0 ∷ 0x1 ∷ 0x0 ∷ []))
+    -- a later arm decides, and is named, where Unknown satisfies nothing
+    ∷ row reduces 100 (0x80 ∷ []) (0x80000001 ∷ 0x0 ∷ 0x50000003 ∷ 0x20000000 ∷ 0x30000000 ∷ 0x20000001 ∷ 0x20000002 ∷ []) (writes (0xE0000001 ∷ 0x10000 ∷ 0xC0000001 ∷ 0x1 ∷ 0x10000 ∷ []))
+    -- Not of an Unknown fact is satisfied and decides: its fact alone is named, and not the Present one that made the grant known
+    ∷ row reduces 100 (0x90 ∷ []) (0x80000001 ∷ 0x0 ∷ 0x50000002 ∷ 0x30000000 ∷ 0x20000000 ∷ 0x20000001 ∷ []) (writes (0xE0000001 ∷ 0x40010000 ∷ 0xC0000001 ∷ 0x1 ∷ 0x0 ∷ []))
     -- the first prior entry stays, even where the table says otherwise
     ∷ row narrows 100 [] (0xF0000001 ∷ 0x40050000 ∷ 0x88000003 ∷ 0x0 ∷ 0x20000005 ∷ []) (writes (0xE0000001 ∷ 0x40050000 ∷ 0xDC000003 ∷ 0x0 ∷ 0x1 ∷ 0x50000 ∷ []))
     -- prior entries once each, Unknown ones too

@@ -7,7 +7,7 @@ use Prim.Native.Nat.{ℕ, _+_, _-_, _≤_, _<_, min}
 use native.Mathlib.Omega.{arith}
 use lib.ListN.{length, take, drop, getD, length-append, length-take, length-drop, drop-of-length-le}
 use lib.Seq.{drop-drop, drop-at, length-take-le}
-use Rattle.model.specs.Facts.{Table, asKnown}
+use Rattle.model.specs.Facts.{Table}
 use Rattle.model.specs.Decision.{permits, denies, genericDeny}
 use Rattle.model.specs.Decision.{Decision as Decided}
 use Rattle.model.specs.Policy.{Policy, orElse, Policies, pnil, pcons}
@@ -272,8 +272,8 @@ start-any : (w : AnyWalk Outcome) → thenAny [] none pnil w ≡ w
 start-any (parts ps first qs) = refl
 
 start-left : (every : Bool) (P : Table) (ts : Policies Outcome) → leftOf every P (walked [] none pnil) ts ≡ reducePolicy P (listOf every ts)
-start-left true P ts = ap (endAll (asKnown P)) (start-all (reduceAll P ts))
-start-left false P ts = ap (endAny (asKnown P)) (start-any (reduceAny P ts))
+start-left true P ts = ap (endAll P) (start-all (reduceAll P ts))
+start-left false P ts = ap (endAny P) (start-any (reduceAny P ts))
 
 start-read : (every : Bool) (P : Table) (ts : Policies Outcome) (l : Consulted) → walk P (listOf every ts) l ≡ readOf every P ts l
 start-read true P ts l = refl

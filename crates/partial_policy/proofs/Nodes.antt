@@ -11,7 +11,7 @@ use lib.Dec.{eqb, ltb, leb}
 use lib.ListN.{length, take, drop, getD, length-drop}
 use lib.Seq.{take-at, drop-drop}
 use Rattle.model.specs.Fields.{bits, pack}
-use Rattle.model.specs.Facts.{Presence, absent, present, unknown, Table, settle, asKnown}
+use Rattle.model.specs.Facts.{Presence, absent, present, unknown, Table}
 use Rattle.model.specs.Outcome.{productSets}
 use Rattle.model.specs.Condition.{Condition, satisfied, unsatisfied, evalHas, evalCondition}
 use Rattle.model.specs.Condition as model-condition
@@ -57,7 +57,6 @@ use Rattle.partial_condition.specs.declared.ReducedCondition.{ReducedCondition}
 use Rattle.partial_condition.specs.Reducing as condition
 use Rattle.residual.specs.Weight.{weight}
 use Rattle.partial_policy.specs.declared.ReducedPolicy.{ReducedPolicy}
-use Rattle.partial_policy.specs.Settled.{eval-settled}
 use Rattle.partial_policy.specs.WithinLaws.{within}
 use Rattle.partial_policy.specs.Reducing.{resolvedTo, leftTo, Result, ReducedTo, ReducesP, ReducesBy, ReducesConstant, SettledGrant}
 use Rattle.partial_policy.proofs.Adding.{clash}
@@ -239,20 +238,20 @@ module _ (P : Table) (W : List ℕ) (at depth : ℕ) (hidden : Bool) (n o own : 
   module _ (buf : List ℕ) (room : ℕ) (out part : List ℕ) (a : ReducedCondition) (c : Condition) (g : Clause Outcome) (rest : List ℕ) (node : nodeAt W at ≡ got (grant g c) rest) (is : g .outcome ≡ o) where
     -- The value that the reduction found is that of evaluation.
     value-is : (b : Bool) → reduceCondition P c ≡ known b → b ≡ isSatisfied (evalCondition P c)
-    value-is b e = sym (known-again P c b e) ∙ ap staging.isSatisfied (eval-settled P c) ∙ same-value (evalCondition P c)
+    value-is b e = sym (known-again P c b e) ∙ same-value (evalCondition P c)
 
     decides-at : (x : model.ReducedCondition) → reduceCondition P c ≡ x → condition.Left x a part → a .pending ≡ false →
-        Result (reduceGrant g (evalCondition (asKnown P) c) x) P W buf room out (resolvedTo (grantedAt (a .satisfied) o at (length W)) (a .next) (a .count))
-    decides-at (known b) e l p = subst (λ i. Result (reduceGrant g (evalCondition (asKnown P) c) (known b)) P W buf room out (resolvedTo (grantedAt (a .satisfied) i at (length W)) (a .next) (a .count))) is (record {
+        Result (reduceGrant g (evalCondition P c) x) P W buf room out (resolvedTo (grantedAt (a .satisfied) o at (length W)) (a .next) (a .count))
+    decides-at (known b) e l p = subst (λ i. Result (reduceGrant g (evalCondition P c) (known b)) P W buf room out (resolvedTo (grantedAt (a .satisfied) i at (length W)) (a .next) (a .count))) is (record {
       settled = refl;
-      decision-is = granted-is P W at buf g c rest node (a .satisfied) (evalCondition P c) refl (l .1 ∙ value-is b e) ∙ ap (evalGrant g) (sym (eval-settled P c));
+      decision-is = granted-is P W at buf g c rest node (a .satisfied) (evalCondition P c) refl (l .1 ∙ value-is b e);
       sound = granted-sound P W at buf g c rest node (a .satisfied);
     })
     decides-at (pendingC d) e l p = clash (a .pending) (l .0) p
 
     open-at : (mid : List ℕ) (from size none next count : ℕ) → length (g .obligations) ≡ n → encode (grant g c) ++ rest ≡ drop at W → Laid own (take own (drop at W)) mid own → from ≡ min own (length mid) → length part ≡ length mid - from → size ≡ capped (own + a .size) →
         out ≡ take from mid ++ (part ++ drop (length mid - from) (drop from mid)) → (x : model.ReducedCondition) → condition.Left x a part → a .pending ≡ true →
-        Result (reduceGrant g (evalCondition (asKnown P) c) x) P W buf room out (leftTo size none next count)
+        Result (reduceGrant g (evalCondition P c) x) P W buf room out (leftTo size none next count)
     open-at mid from size none next count long were l f m e z (known b) x p = clash (a .pending) p (x .0)
     open-at mid from size none next count long were l f m e z (pendingC d) x p = record {
       unsettled = refl;
@@ -306,7 +305,7 @@ pub reduce-permit : (P : Table) (W : List ℕ) (at depth count : ℕ) (entries s
 reduce-permit P W at depth count entries seen buf room out lt e =
     evaluated P W at depth (lent count entries seen) _ (lent count entries seen) buf room out (eval-permit-word P W at depth count entries seen buf lt e) (permit-constant P W at depth lt e)
 
-fact-value : (g : Clause Outcome) (f : ℕ) (p : Presence) → isSettled p ≡ true → reduceGrant g (evalHas f (settle p)) (reduceHas f p) ≡ resolved (evalGrant g (evalHas f p))
+fact-value : (g : Clause Outcome) (f : ℕ) (p : Presence) → isSettled p ≡ true → reduceGrant g (evalHas f p) (reduceHas f p) ≡ resolved (evalGrant g (evalHas f p))
 fact-value g f absent e = refl
 fact-value g f present e = refl
 fact-value g f unknown e = clash false e refl

@@ -3,7 +3,7 @@ use mathlib.Core.Bool.{Bool, true, false}
 use mathlib.Core.Option.{Option, none, some}
 use mathlib.Core.List.{List, [], _∷_, _++_}
 use Prim.Native.Nat.{ℕ, _+_}
-use Rattle.model.specs.Facts.{Table, asKnown}
+use Rattle.model.specs.Facts.{Table}
 use Rattle.model.specs.Decision.{Permit, Denial, Decision, permits, denies, genericDeny}
 use Rattle.model.specs.Policy.{Policy, all, any, stored, Policies, pnil, pcons}
 use Rattle.model.specs.Evaluate.{firstDeny}
@@ -53,8 +53,8 @@ thenAny ps first qs (parts os second rs) = parts (ps ++ os) (orFirst first secon
 
 -- What a list comes to, All or Any, by what its arms came to so far and by the arms that are left; and what those consult.
 abbrev pub leftOf : Bool → Table → Walked → Policies Outcome → ReducedPolicy Outcome
-leftOf true P k ts = endAll (asKnown P) (thenAll (k .permitted) (k .pend) (reduceAll P ts))
-leftOf false P k ts = endAny (asKnown P) (thenAny (k .permitted) (k .denied) (k .pend) (reduceAny P ts))
+leftOf true P k ts = endAll P (thenAll (k .permitted) (k .pend) (reduceAll P ts))
+leftOf false P k ts = endAny P (thenAny (k .permitted) (k .denied) (k .pend) (reduceAny P ts))
 
 abbrev pub readOf : Bool → Table → Policies Outcome → Consulted → Consulted
 readOf true P ts l = walkAll P ts l
@@ -120,8 +120,8 @@ withNodes [] qs = qs
 withNodes (d ∷ ds) qs = pcons (stored d) (withNodes ds qs)
 
 abbrev pub endOf : Bool → Table → Walked → ReducedPolicy Outcome
-endOf true P k = endAll (asKnown P) (go (k .permitted) (k .pend))
-endOf false P k = endAny (asKnown P) (parts (k .permitted) (k .denied) (k .pend))
+endOf true P k = endAll P (go (k .permitted) (k .pend))
+endOf false P k = endAny P (parts (k .permitted) (k .denied) (k .pend))
 
 -- ---- sizes and words of nodes and of pending arms
 abbrev pub weightsD : List (Decision Outcome) → ℕ

@@ -7,7 +7,7 @@ use Prim.Native.Nat.{ℕ, _+_}
 use native.Mathlib.Omega.{arith}
 use lib.ListN.{length}
 use lib.Seq.{append-snoc}
-use Rattle.model.specs.Facts.{Table, asKnown}
+use Rattle.model.specs.Facts.{Table}
 use Rattle.model.specs.Decision.{Permit, Denial, Decision, permits, denies, genericDeny}
 use Rattle.model.specs.Policy.{Policy, all, any, stored, Policies, pnil, pcons}
 use Rattle.model.specs.Evaluate.{firstDeny}
@@ -48,8 +48,8 @@ any-step k (pending q) (parts os second rs) = ap (parts (k .permitted ++ os) (or
 
 pub left-more : (b : Bool) (P : Table) (k : Walked) (p : Policy Outcome) (ts : Policies Outcome) → stops b (reducePolicy P p) ≡ false →
     leftOf b P k (pcons p ts) ≡ leftOf b P (withArm k (reducePolicy P p)) ts
-left-more true P k p ts e = ap (endAll (asKnown P)) (all-step k (reducePolicy P p) (reduceAll P ts) e)
-left-more false P k p ts e = ap (endAny (asKnown P)) (any-step k (reducePolicy P p) (reduceAny P ts))
+left-more true P k p ts e = ap (endAll P) (all-step k (reducePolicy P p) (reduceAll P ts) e)
+left-more false P k p ts e = ap (endAny P) (any-step k (reducePolicy P p) (reduceAny P ts))
 
 on-read : (x : ReducedPolicy Outcome) (here on : Consulted) → stops true x ≡ false → unlessDenied x here on ≡ on
 on-read (resolved (permits p)) here on e = refl
@@ -72,7 +72,7 @@ stop-read (resolved (denies d)) here on e = refl
 stop-read (pending q) here on e = cc
 
 pub left-stop : (b : Bool) (P : Table) (k : Walked) (p : Policy Outcome) (ts : Policies Outcome) → stops b (reducePolicy P p) ≡ true → leftOf b P k (pcons p ts) ≡ reducePolicy P p
-left-stop true P k p ts e = stop-step k (reducePolicy P p) (reduceAll P ts) (asKnown P) e
+left-stop true P k p ts e = stop-step k (reducePolicy P p) (reduceAll P ts) P e
 left-stop false P k p ts e = cc
 
 pub read-stop : (b : Bool) (P : Table) (p : Policy Outcome) (ts : Policies Outcome) (l : Consulted) → stops b (reducePolicy P p) ≡ true → readOf b P (pcons p ts) l ≡ walk P p l
@@ -148,19 +148,19 @@ first-last none = refl
 first-last (some d) = refl
 
 pub left-none : (b : Bool) (P : Table) (k : Walked) → leftOf b P k pnil ≡ endOf b P k
-left-none true P k = ap₂ (λ ps qs. endAll (asKnown P) (go ps qs)) (append-nil (k .permitted)) (append-none (k .pend))
+left-none true P k = ap₂ (λ ps qs. endAll P (go ps qs)) (append-nil (k .permitted)) (append-none (k .pend))
 left-none false P k =
-    ap₂ (λ ps qs. endAny (asKnown P) (parts ps (orFirst (k .denied) none) qs)) (append-nil (k .permitted)) (append-none (k .pend))
-    ∙ ap (λ first. endAny (asKnown P) (parts (k .permitted) first (k .pend))) (first-last (k .denied))
+    ap₂ (λ ps qs. endAny P (parts ps (orFirst (k .denied) none) qs)) (append-nil (k .permitted)) (append-none (k .pend))
+    ∙ ap (λ first. endAny P (parts (k .permitted) first (k .pend))) (first-last (k .denied))
 
 none-at : (b : Bool) (P : Table) (ps : List (Permit Outcome)) (first : Option (Denial Outcome)) (qs : Policies Outcome) → isOpen qs ≡ false → endOf b P (walked ps first qs) ≡ resolved (sofarValue b (walked ps first qs))
 none-at b P ps first (pcons q qs) e = cc
 none-at true P ps first pnil e =
-    ap (λ ts. resolved (evalPolicy (asKnown P) (all ts))) (arms-are ps pnil)
-    ∙ ap resolved (all-is (evalPolicies (asKnown P) (withNodes (asDecisions ps) pnil)) ∙ ap (allOf (denies genericDeny)) (nodes-value (asKnown P) (asDecisions ps)))
+    ap (λ ts. resolved (evalPolicy P (all ts))) (arms-are ps pnil)
+    ∙ ap resolved (all-is (evalPolicies P (withNodes (asDecisions ps) pnil)) ∙ ap (allOf (denies genericDeny)) (nodes-value P (asDecisions ps)))
 none-at false P ps first pnil e =
-    ap (λ ts. resolved (evalPolicy (asKnown P) (any ts))) (kept-are ps first pnil)
-    ∙ ap resolved (ap (anyFrom none none) (nodes-value (asKnown P) (keptOf ps first)) ∙ kept-value ps first)
+    ap (λ ts. resolved (evalPolicy P (any ts))) (kept-are ps first pnil)
+    ∙ ap resolved (ap (anyFrom none none) (nodes-value P (keptOf ps first)) ∙ kept-value ps first)
 
 pub end-none : (b : Bool) (P : Table) (k : Walked) → isOpen (k .pend) ≡ false → endOf b P k ≡ resolved (sofarValue b k)
 end-none b P k e = none-at b P (k .permitted) (k .denied) (k .pend) e

@@ -1,4 +1,3 @@
-pub mod Settled
 pub mod Keeping
 pub mod KeepingLaws
 pub mod Within

@@ -4,7 +4,7 @@ use mathlib.Core.Logic.{_⊎_, inl, inr}
 use mathlib.Core.Bool.{Bool, true, false, not, _&&_, _||_, and-true, and-false, or-true, or-false}
 use mathlib.Core.List.{[]}
 use Prim.Native.Nat.{ℕ}
-use Rattle.model.specs.Facts.{Presence, absent, present, unknown, Table, settle, asKnown}
+use Rattle.model.specs.Facts.{Presence, absent, present, unknown, Table}
 use Rattle.model.specs.Condition.{Condition, always, never, has, notC, allC, anyC, Conditions, cnil, ccons, ConditionEval, satisfied, unsatisfied, evalHas, flip, both, either, unlessNone, evalCondition, evalConditionAll, evalConditionAny}
 use Rattle.model.specs.Partial.{ReducedCondition, known, pendingC, reduceHas, flipR, ConditionWalk, stopped, through, stepAllC, stepAnyC, endAllC, endAnyC, reduceCondition, reduceConditionAll, reduceConditionAny}
 use Rattle.laws.specs.Each.{EachC, EachCs, Agrees}
@@ -100,12 +100,6 @@ module _ (K P : Table) where
     redAnyC-sound cnil h = refl
     redAnyC-sound (ccons c cs) h = step-any K (reduceCondition P c) (reduceConditionAny P cs) ∙ ap₂ _||_ (redC-sound c (h .0)) (redAnyC-sound cs (h .1)) ∙ sym (truth-either (evalCondition K c) (evalConditionAny K cs))
 
--- A table agrees, on every fact, with itself when Unknown is read as Absent.
-settled-agrees : (p : Presence) → (p ≡ unknown) ⊎ (p ≡ settle p)
-settled-agrees absent = inr refl
-settled-agrees present = inr refl
-settled-agrees unknown = inl refl
-
 -- What holds of every fact holds of those that a condition names.
 mutual
   pub each-all : {Q : ℕ → Type 0} → ((f : ℕ) → Q f) → (c : Condition) → EachC Q c
@@ -120,9 +114,9 @@ mutual
   eachs-all q cnil = tt
   eachs-all q (ccons c cs) = (each-all q c, eachs-all q cs)
 
--- A condition that is known, evaluated again with Unknown read as Absent, has that truth value.
-pub known-again : (P : Table) (c : Condition) (b : Bool) → reduceCondition P c ≡ known b → isSatisfied (evalCondition (asKnown P) c) ≡ b
-known-again P c b e = sym (redC-sound (asKnown P) P c (each-all (λ f. settled-agrees (P f)) c)) ∙ ap (truthR (asKnown P)) e
+-- A condition that is known, evaluated again from the same table, has that truth value.
+pub known-again : (P : Table) (c : Condition) (b : Bool) → reduceCondition P c ≡ known b → isSatisfied (evalCondition P c) ≡ b
+known-again P c b e = sym (redC-sound P P c (each-all (λ f. inr refl) c)) ∙ ap (truthR P) e
 
 -- ---- what is left names only open facts
 abbrev pub EachR : (ℕ → Type 0) → ReducedCondition → Type 0

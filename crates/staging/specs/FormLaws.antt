@@ -6,7 +6,7 @@ use mathlib.Core.List.{List, [], _∷_, _++_}
 use Prim.Native.Nat.{ℕ, suc, _+_, _*_, _≤_, _<_, max}
 use native.Mathlib.Omega.{arith}
 use lib.ListN.{length}
-use Rattle.model.specs.Facts.{Presence, absent, present, unknown, Table, asKnown}
+use Rattle.model.specs.Facts.{Presence, absent, present, unknown, Table}
 use Rattle.model.specs.Outcome.{Outcomes}
 use Rattle.model.specs.Condition.{Condition, always, never, has, notC, allC, anyC, Conditions, cnil, ccons, ConditionEval, satisfied, unsatisfied, evalHas, flip, both, either, unlessNone, evalCondition, evalConditionAll, evalConditionAny}
 use Rattle.model.specs.Decision.{Permit, Denial, Decision, permits, denies, combined, genericDeny, unionObligations, meetPermit, joinPermit, meetIn, joinIn}
@@ -411,9 +411,9 @@ module _ (L : Outcomes) (G : L .O → Type 0) (meets : (a b : L .O) → G a → 
       form-red (permit o) h = (h, (tt, tt), tt, few)
       form-red deny h = form-plain
       form-red (grant g c) h =
-          form-redGrant g (evalCondition (asKnown P) c) (reduceCondition P c) (h .0) (form-facts (asKnown P) c (h .1) (h .2)) (form-redC P c (h .1)) (omega (arith, size-redC P c, h .2))
-      form-red (all ts) h = form-endAll (asKnown P) (reduceAll L P ts) (omega (arith, count-redAll P ts, h .0)) (form-redAll ts (h .1))
-      form-red (any ts) h = form-endAny (asKnown P) (reduceAny L P ts) (omega (arith, count-redAny P ts, h .0)) (form-redAny ts (h .1))
+          form-redGrant g (evalCondition P c) (reduceCondition P c) (h .0) (form-facts P c (h .1) (h .2)) (form-redC P c (h .1)) (omega (arith, size-redC P c, h .2))
+      form-red (all ts) h = form-endAll P (reduceAll L P ts) (omega (arith, count-redAll P ts, h .0)) (form-redAll ts (h .1))
+      form-red (any ts) h = form-endAny P (reduceAny L P ts) (omega (arith, count-redAny P ts, h .0)) (form-redAny ts (h .1))
       form-red (orElse a b) h = form-redElse (reducePolicy L P a) (reducePolicy L P b) (form-red a (h .0)) (form-red b (h .1))
       form-red (stored d) h = h
 
@@ -483,9 +483,9 @@ module _ (L : Outcomes) where
       pub depth-red : (t : Policy (L .O)) → depth (asResidual (reducePolicy L P t)) ≤ depth t
       depth-red (permit o) = omega arith
       depth-red deny = omega arith
-      depth-red (grant g c) = omega (arith, depth-redGrant g (evalCondition (asKnown P) c) (reduceCondition P c), depth-redC P c)
-      depth-red (all ts) = omega (arith, depth-endAll (asKnown P) (reduceAll L P ts), depth-redAll ts)
-      depth-red (any ts) = omega (arith, depth-endAny (asKnown P) (reduceAny L P ts), depth-redAny ts)
+      depth-red (grant g c) = omega (arith, depth-redGrant g (evalCondition P c) (reduceCondition P c), depth-redC P c)
+      depth-red (all ts) = omega (arith, depth-endAll P (reduceAll L P ts), depth-redAll ts)
+      depth-red (any ts) = omega (arith, depth-endAny P (reduceAny L P ts), depth-redAny ts)
       depth-red (orElse a b) = omega (arith, depth-redElse (reducePolicy L P a) (reducePolicy L P b), depth-red a, depth-red b)
       depth-red (stored d) = omega arith
 

@@ -4,7 +4,7 @@ use mathlib.Core.Bool.{Bool, true, false, cond}
 use mathlib.Core.Option.{Option, none, some}
 use mathlib.Core.List.{List, [], _∷_, _++_}
 use Prim.Native.Nat.{ℕ}
-use Rattle.model.specs.Facts.{Table, asKnown}
+use Rattle.model.specs.Facts.{Table}
 use Rattle.model.specs.Outcome.{Outcomes}
 use Rattle.model.specs.Condition.{Condition, ConditionEval, satisfied, unsatisfied, evalCondition}
 use Rattle.model.specs.Decision.{Permit, Denial, Decision, permits, denies, products, meetIn, joinIn}
@@ -210,8 +210,8 @@ module _ (L : Outcomes) (lawful : Lawful L) where
     decide-truth g (unsatisfied fs) (satisfied gs) e = cc
     decide-truth g (unsatisfied fs) (unsatisfied gs) e = refl
 
-    grant-value : (P : Table) (g : Grant (L .O)) (c : Condition) (r : ReducedCondition) → reduceCondition P c ≡ r → truthR K r ≡ isSatisfied (evalCondition K c) → value (reduceGrant g (evalCondition (asKnown P) c) r) ≡ products (evalGrant g (evalCondition K c))
-    grant-value P g c (known b) e h = decide-truth g (evalCondition (asKnown P) c) (evalCondition K c) (known-again P c b e ∙ h)
+    grant-value : (P : Table) (g : Grant (L .O)) (c : Condition) (r : ReducedCondition) → reduceCondition P c ≡ r → truthR K r ≡ isSatisfied (evalCondition K c) → value (reduceGrant g (evalCondition P c) r) ≡ products (evalGrant g (evalCondition K c))
+    grant-value P g c (known b) e h = decide-truth g (evalCondition P c) (evalCondition K c) (known-again P c b e ∙ h)
     grant-value P g c (pendingC c′) e h = decide-truth g (evalCondition K c′) (evalCondition K c) h
 
     abbrev choose : Option (L .O) → Option (L .O) → Option (L .O)
@@ -234,8 +234,8 @@ module _ (L : Outcomes) (lawful : Lawful L) where
         red-sound (permit o) h = refl
         red-sound deny h = refl
         red-sound (grant g c) h = grant-value P g c (reduceCondition P c) refl (redC-sound K P c h)
-        red-sound (all ts) h = end-all (asKnown P) (reduceAll L P ts) ∙ ap close (redAll-sound ts h) ∙ sym (allFrom-sum none (evalPolicies L K ts))
-        red-sound (any ts) h = end-any (asKnown P) (reduceAny L P ts) ∙ redAny-sound ts h ∙ sym (anyFrom-sum none none (evalPolicies L K ts))
+        red-sound (all ts) h = end-all P (reduceAll L P ts) ∙ ap close (redAll-sound ts h) ∙ sym (allFrom-sum none (evalPolicies L K ts))
+        red-sound (any ts) h = end-any P (reduceAny L P ts) ∙ redAny-sound ts h ∙ sym (anyFrom-sum none none (evalPolicies L K ts))
         red-sound (orElse a b) h =
             else-value (reducePolicy L P a) (reducePolicy L P b) ∙ ap₂ choose (red-sound a (h .0)) (red-sound b (h .1)) ∙ sym (firstOf-products (evalPolicy L K a) (evalPolicy L K b))
         red-sound (stored d) h = refl

@@ -6,7 +6,7 @@ use mathlib.Core.List.{List, [], _∷_, _++_}
 use Prim.Native.Nat.{ℕ, suc, _+_, _*_, _/_, _≤_, _<_}
 use native.Mathlib.Omega.{arith}
 use lib.ListN.{length, length-append}
-use Rattle.model.specs.Facts.{Presence, absent, present, unknown, Table, asKnown}
+use Rattle.model.specs.Facts.{Presence, absent, present, unknown, Table}
 use Rattle.model.specs.Outcome.{Outcomes}
 use Rattle.model.specs.Condition.{Condition, always, never, has, notC, allC, anyC, Conditions, cnil, ccons, ConditionEval, satisfied, unsatisfied, evalHas, flip, both, either, unlessNone, evalCondition, evalConditionAll, evalConditionAny}
 use Rattle.model.specs.Decision.{Permit, Denial, Decision, permits, denies, combined, held, insert, unionObligations, meetPermit, joinPermit, meetIn, joinIn}
@@ -291,9 +291,9 @@ module _ (L : Outcomes) where
       pub red-most : (t : Policy (L .O)) → most (asResidual (reducePolicy L P t)) ≤ most t
       red-most (permit o) = omega arith
       red-most deny = omega arith
-      red-most (grant g c) = redGrant-most g (evalCondition (asKnown P) c) (reduceCondition P c) (wordsC c) (facts-le (asKnown P) c) (size-redC P c)
-      red-most (all ts) = omega (arith, endAll-most (asKnown P) (reduceAll L P ts), redAll-most ts)
-      red-most (any ts) = omega (arith, endAny-most (asKnown P) (reduceAny L P ts), redAny-most ts)
+      red-most (grant g c) = redGrant-most g (evalCondition P c) (reduceCondition P c) (wordsC c) (facts-le P c) (size-redC P c)
+      red-most (all ts) = omega (arith, endAll-most P (reduceAll L P ts), redAll-most ts)
+      red-most (any ts) = omega (arith, endAny-most P (reduceAny L P ts), redAny-most ts)
       red-most (orElse a b) = omega (arith, redElse-most (reducePolicy L P a) (reducePolicy L P b), red-most a, red-most b)
       red-most (stored d) = omega arith
 

@@ -4,7 +4,7 @@ use mathlib.Core.Bool.{Bool, true, false}
 use mathlib.Core.Option.{Option, none, some}
 use mathlib.Core.List.{List, [], _∷_}
 use Prim.Native.Nat.{ℕ}
-use Rattle.model.specs.Facts.{unknown, Table, asKnown}
+use Rattle.model.specs.Facts.{unknown, Table}
 use Rattle.model.specs.Outcome.{Outcomes}
 use Rattle.model.specs.Condition.{Condition, always, never, has, notC, allC, anyC, Conditions, cnil, ccons, ConditionEval, evalCondition}
 use Rattle.model.specs.Decision.{Permit, Denial, Decision, permits, denies, products}
@@ -117,9 +117,9 @@ module _ (L : Outcomes) (Q : ℕ → Type 0) (P : Table) where
     pub red-left : (t : Policy (L .O)) → Each Q t → Each (Left Q P) (asResidual (reducePolicy L P t))
     red-left (permit o) h = tt
     red-left deny h = tt
-    red-left (grant g c) h = each-grant (Left Q P) g (evalCondition (asKnown P) c) (reduceCondition P c) (redC-left Q P c h)
-    red-left (all ts) h = each-endAll L (Left Q P) (asKnown P) (reduceAll L P ts) (redAll-left ts h)
-    red-left (any ts) h = each-endAny L (Left Q P) (asKnown P) (reduceAny L P ts) (redAny-left ts h)
+    red-left (grant g c) h = each-grant (Left Q P) g (evalCondition P c) (reduceCondition P c) (redC-left Q P c h)
+    red-left (all ts) h = each-endAll L (Left Q P) P (reduceAll L P ts) (redAll-left ts h)
+    red-left (any ts) h = each-endAny L (Left Q P) P (reduceAny L P ts) (redAny-left ts h)
     red-left (orElse a b) h = each-else (Left Q P) (reducePolicy L P a) (reducePolicy L P b) (red-left a (h .0)) (red-left b (h .1))
     red-left (stored d) h = tt
 

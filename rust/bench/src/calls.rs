@@ -13,7 +13,10 @@ use compare::words::tree::Record;
 use compare::words::{RECORD_WORDS, read};
 
 use crate::sheets::Sheet;
-use crate::timing::{Timed, by_turns};
+use crate::timing::{Timed, beside, by_turns};
+
+/// The lead of a Pending record without consulted entries.
+const PENDING: u32 = 0xF000_0000;
 
 /// Times one call on a sheet.
 pub type Timing = fn(&Sheet) -> Timed;
@@ -38,7 +41,7 @@ fn evaluate(sheet: &Sheet) -> Timed {
 }
 
 /// With the sheet's table, but that every second fact that it has Absent is Unknown.
-pub fn partial_evaluate(sheet: &Sheet) -> Timed {
+fn partial_evaluate(sheet: &Sheet) -> Timed {
     let words = &sheet.words;
     let table = &sheet.partial();
     let policy = to_policy(&read::sheet(words).expect("a sheet"));
@@ -66,7 +69,7 @@ fn narrow_residual(sheet: &Sheet) -> Timed {
 
 /// The record whose tree is the sheet.
 fn record(sheet: &Sheet) -> Vec<u32> {
-    [&[0xF000_0000], sheet.words.as_slice()].concat()
+    [&[PENDING], sheet.words.as_slice()].concat()
 }
 
 /// Of the record whose tree is the sheet.
@@ -93,22 +96,46 @@ fn writes(
     original: impl FnMut(),
 ) -> Timed {
     let case = same_answers(call, words, table);
+    beside(writing(proved, words, table), original, || {
+        from_words(&case);
+    })
+}
+
+/// A proved call that writes a record.
+fn writing<'a>(proved: Writer, words: &'a [u32], table: &'a [u8]) -> impl FnMut() + 'a {
     let mut out = vec![0; RECORD_WORDS];
-    by_turns(
-        || {
-            let written = proved(black_box(words), black_box(table), &mut out);
-            black_box(written).expect("accepted");
-        },
-        original,
-        || from_words(&case),
-    )
+    move || {
+        let written = proved(black_box(words), black_box(table), &mut out);
+        black_box(written).expect("accepted");
+    }
+}
+
+/// The proved reduction with each of two tables.
+pub fn reduced_by(words: &[u32], tables: [&[u8]; 2]) -> [f64; 2] {
+    let call = vierskof::partial_evaluate;
+    by_tables(Call::PartialEvaluate, call, words, tables)
+}
+
+/// The proved narrowing, of the record whose tree the words are, with each of two tables.
+pub fn narrowed_by(words: &[u32], tables: [&[u8]; 2]) -> [f64; 2] {
+    let words = [&[PENDING], words].concat();
+    let call = vierskof::narrow_residual;
+    by_tables(Call::NarrowResidual, call, &words, tables)
+}
+
+fn by_tables(call: Call, proved: Writer, words: &[u32], tables: [&[u8]; 2]) -> [f64; 2] {
+    for table in tables {
+        same_answers(call, words, table);
+    }
+    let [mut one, mut other] = tables.map(|table| writing(proved, words, table));
+    by_turns([&mut one, &mut other])
 }
 
 fn required_facts(sheet: &Sheet) -> Timed {
     let words = &sheet.words;
     let case = same_answers(Call::RequiredFacts, words, &[]);
     let policy = to_policy(&read::sheet(words).expect("a sheet"));
-    by_turns(
+    beside(
         || {
             let set = vierskof::required_facts(black_box(words));
             black_box(set).expect("accepted");
@@ -128,7 +155,7 @@ fn required_residual_facts(sheet: &Sheet) -> Timed {
         unreachable!("a record with a tree");
     };
     let policy = to_residual_policy(&residual);
-    by_turns(
+    beside(
         || {
             let set = vierskof::required_residual_facts(black_box(&words));
             black_box(set).expect("accepted");

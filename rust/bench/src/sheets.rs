@@ -55,16 +55,26 @@ pub fn cases() -> Vec<Sheet> {
     cases
 }
 
-/// An Any of as many grants as fit, all on fact 0, which is Present; the table has a byte, and the most bytes.
-pub fn tables() -> [Sheet; 2] {
-    [1, TABLE_BYTES].map(|bytes| {
-        let mut words = vec![list(0xA000_0000, 1_365)];
-        words.extend([0x8000_0001, 0, 0x2000_0000].repeat(1_365));
-        Sheet {
-            table: vec![HALF; bytes],
-            ..Sheet::new(&format!("1,365 by {bytes}"), words)
-        }
+/// Grants on fact 0, which is Present; the table has a byte, and the most bytes.
+fn tables() -> [Sheet; 2] {
+    [1, TABLE_BYTES].map(|bytes| Sheet {
+        table: vec![HALF; bytes],
+        ..Sheet::new(&format!("1,365 by {bytes}"), on_one_fact())
     })
+}
+
+/// An Any of as many grants as fit, all on fact 0.
+pub fn on_one_fact() -> Vec<u32> {
+    let mut words = vec![list(0xA000_0000, 1_365)];
+    words.extend([0x8000_0001, 0, 0x2000_0000].repeat(1_365));
+    words
+}
+
+/// A table with fact 0 Present, and the others as four fields of this byte say.
+pub fn with_fact_0(bytes: usize, others: u8) -> Vec<u8> {
+    let mut table = vec![others; bytes];
+    table[0] = 0x40 | others & 0x3F;
+    table
 }
 
 /// Sheets of grants, from 16 words to the most.

@@ -16,21 +16,25 @@ pub struct Timed {
     pub from_words: f64,
 }
 
-/// Times each side.
-pub fn by_turns(
-    mut proved: impl FnMut(),
-    mut original: impl FnMut(),
-    mut from_words: impl FnMut(),
-) -> Timed {
-    let mut sides: [&mut dyn FnMut(); 3] = [&mut proved, &mut original, &mut from_words];
+/// Nanoseconds a call of each side.
+pub fn by_turns<const SIDES: usize>(mut sides: [&mut dyn FnMut(); SIDES]) -> [f64; SIDES] {
     let calls = sides.each_mut().map(|side| calls(*side));
-    let mut times: [Vec<f64>; 3] = Default::default();
+    let mut times = [const { Vec::new() }; SIDES];
     for _ in 0..BATCHES {
         for ((side, calls), times) in sides.iter_mut().zip(calls).zip(&mut times) {
             times.push(batch(*side, calls));
         }
     }
-    let [proved, original, from_words] = times.map(median);
+    times.map(median)
+}
+
+/// Times the proved call beside the original.
+pub fn beside(
+    mut proved: impl FnMut(),
+    mut original: impl FnMut(),
+    mut from_words: impl FnMut(),
+) -> Timed {
+    let [proved, original, from_words] = by_turns([&mut proved, &mut original, &mut from_words]);
     Timed {
         proved,
         original,

@@ -150,28 +150,33 @@ fn main() -> io::Result<()> {
     }
 }
 
-/// Cases are drawn in batches, so that a long run holds few of them at a time. One in ten has a list of many arms.
+/// Cases are drawn in batches, so that a long run holds few of them at a time. One in ten has a list of many arms, one in ten is a reduction or a narrowing of
+/// grants on several facts.
 #[cfg(feature = "proved")]
 fn proved(sample: &Sample) -> io::Result<()> {
     use compare::proved::agrees;
 
     const BATCH: usize = 20_000;
+    let mut half_known = 0;
     for (batch, first) in (0..sample.count).step_by(BATCH).enumerate() {
         let count = BATCH.min(sample.count - first);
         let seed = sample.seed + batch as u64;
         let wide = cases::draw_wide(seed, count / 10, &Call::ALL);
-        let others = cases::draw(seed, count - wide.len(), &Call::ALL);
-        for case in others.into_iter().chain(wide) {
+        let reducing = [Call::PartialEvaluate, Call::NarrowResidual];
+        let several = cases::draw_half_known(seed, count / 10, &reducing);
+        let others = cases::draw(seed, count - wide.len() - several.len(), &Call::ALL);
+        for case in others.into_iter().chain(wide).chain(several) {
             if !agrees(&case) {
                 let line = answers::line(&case, &case.answer());
                 return Err(io::Error::other(format!(
                     "differs from the original: {line}"
                 )));
             }
+            half_known += usize::from(cases::is_half_known(&case));
         }
     }
     println!(
-        "{} cases, seed {}: no difference",
+        "{} cases, seed {}: no difference; {half_known} with a known grant whose condition names an Unknown fact",
         sample.count, sample.seed
     );
     Ok(())

@@ -33,6 +33,36 @@ pub fn narrow(record: &Record, table: &Table) -> Record {
     }
 }
 
+/// Whether the table decides a grant of the tree whose condition names a fact that is Unknown.
+pub fn known_by_part(tree: &Residual, table: &Table) -> bool {
+    match tree {
+        Tree::Permit(_) | Tree::Deny | Tree::Stored(_) => false,
+        Tree::Grant(Grant { condition, .. }) => {
+            let mut walk = Walk {
+                table,
+                consulted: Vec::new(),
+            };
+            let known = matches!(walk.condition(condition), ReducedCondition::Known(_));
+            known && names_unknown(condition, table)
+        }
+        Tree::All(arms) | Tree::Any(arms) => arms.iter().any(|arm| known_by_part(arm, table)),
+        Tree::OrElse(primary, fallback) => {
+            known_by_part(primary, table) || known_by_part(fallback, table)
+        }
+    }
+}
+
+fn names_unknown(condition: &Condition, table: &Table) -> bool {
+    match condition {
+        Condition::Always | Condition::Never => false,
+        Condition::Has(fact) => table.presence(*fact) == Presence::Unknown,
+        Condition::Not(inner) => names_unknown(inner, table),
+        Condition::All(arms) | Condition::Any(arms) => {
+            arms.iter().any(|arm| names_unknown(arm, table))
+        }
+    }
+}
+
 enum Reduced {
     Resolved(Decided),
     Pending(Residual),
@@ -244,7 +274,7 @@ fn united(held: &[u8], incoming: &[u8]) -> Vec<u8> {
     held.iter().chain(fresh).copied().collect()
 }
 
-/// A grant whose condition is known, evaluated with Unknown read as Absent.
+/// A grant whose condition is known, evaluated from the partial table itself.
 fn decide(grant: &Grant, table: &Table) -> Decided {
     let (holds, facts) = evaluate(&grant.condition, table);
     if holds {

@@ -5,7 +5,10 @@ use super::grow::{Alphabet, Grower};
 use super::rng::Rng;
 use super::{damage, tables};
 use crate::case::{Answer, Call, Case};
-use crate::words::write;
+use crate::narrow::known_by_part;
+use crate::words::table::Table;
+use crate::words::tree::Record;
+use crate::words::{read, write};
 
 /// The lead of a Pending record without consulted entries.
 const PENDING: u32 = 0xF000_0000;
@@ -34,6 +37,33 @@ pub fn draw_wide(seed: u64, count: usize, calls: &[Call]) -> Vec<Case> {
             [&[PENDING], tree.as_slice()].concat()
         }
     })
+}
+
+/// The same with grants on several facts, which the others have too seldom.
+pub fn draw_half_known(seed: u64, count: usize, calls: &[Call]) -> Vec<Case> {
+    draw_of(seed, count, calls, |rng, alphabet, call| {
+        if call.reads_sheet() {
+            write::tree(&Grower::of_sheets(rng, alphabet).half_known())
+        } else {
+            let tree = write::tree(&Grower::of_records(rng, alphabet).half_known());
+            [&[PENDING], tree.as_slice()].concat()
+        }
+    })
+}
+
+/// Whether an accepted reduction or narrowing has a grant that is known, though its condition names an Unknown fact.
+pub fn is_half_known(case: &Case) -> bool {
+    let words = match case.call {
+        Call::PartialEvaluate => [&[PENDING], case.words.as_slice()].concat(),
+        Call::NarrowResidual => case.words.clone(),
+        _ => return false,
+    };
+    let (Ok(Record::Pending { residual, .. }), Ok(table)) =
+        (read::record(&words), Table::partial(&case.table))
+    else {
+        return false;
+    };
+    known_by_part(&residual, &table) && case.answer().is_ok()
 }
 
 fn draw_of(seed: u64, count: usize, calls: &[Call], words: Words) -> Vec<Case> {

@@ -165,6 +165,19 @@ impl<'a> Grower<'a> {
         self.list(arms)
     }
 
+    /// A list of grants on several facts each: a table that leaves some of them open still decides
+    /// many.
+    pub fn half_known(&mut self) -> Residual {
+        let count = self.rng.between(1, 4);
+        let arms = (0..count)
+            .map(|_| {
+                let condition = self.several();
+                Tree::Grant(self.grant_of(condition, 1))
+            })
+            .collect();
+        self.list(arms)
+    }
+
     /// A list with this many arms of one word.
     pub fn flat(&mut self, arms: usize) -> Residual {
         let arms = (0..arms).map(|_| self.leaf()).collect();
@@ -344,6 +357,17 @@ impl<'a> Grower<'a> {
             _ => Condition::Has(fact),
         };
         self.grant_of(condition, 1)
+    }
+
+    /// A list of small conditions.
+    fn several(&mut self) -> Condition {
+        let count = self.rng.between(2, 4);
+        let arms = (0..count).map(|_| self.condition(3, 4)).collect();
+        if self.rng.percent(50) {
+            Condition::All(arms)
+        } else {
+            Condition::Any(arms)
+        }
     }
 
     fn tall_condition(&mut self, nodes: usize) -> Condition {

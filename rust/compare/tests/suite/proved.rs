@@ -4,7 +4,7 @@ use std::thread;
 
 use compare::answers;
 use compare::case::{Call, Case};
-use compare::generate::cases::{draw, draw_wide};
+use compare::generate::cases::{draw, draw_half_known, draw_wide, is_half_known};
 use compare::generate::chains::{Chain, room};
 use compare::generate::grow::{Alphabet, Grower};
 use compare::generate::limits;
@@ -104,6 +104,14 @@ fn lists_of_many_arms_agree() {
     let cases = draw_wide(SEED, 8_000, &Call::ALL);
     let many = |case: &Case| case.answer().is_ok() && case.words.len() > 40;
     assert!(cases.iter().filter(|case| many(case)).count() > 4_000);
+    all_agree(cases);
+}
+
+#[test]
+fn known_grants_that_name_an_unknown_fact_agree() {
+    let calls = [Call::PartialEvaluate, Call::NarrowResidual];
+    let cases = draw_half_known(SEED, 8_000, &calls);
+    assert!(cases.iter().filter(|case| is_half_known(case)).count() > 2_000);
     all_agree(cases);
 }
 

@@ -277,6 +277,12 @@ fn r24_a_known_grant_can_name_an_unknown_fact() {
     let record = "E0000001 00010000 D4000001 00000000 00000001 00000000";
     writes(PartialEvaluate, sheet, "80", record);
     writes(NarrowResidual, &format!("F0000000 {sheet}"), "80", record);
+    let sheet = "80000001 00000000 50000003 20000000 30000000 20000001 20000002";
+    let record = "E0000001 00010000 C0000001 00000001 00010000";
+    writes(PartialEvaluate, sheet, "80", record);
+    let sheet = "80000001 00000000 50000002 30000000 20000000 20000001";
+    let record = "E0000001 40010000 C0000001 00000001 00000000";
+    writes(PartialEvaluate, sheet, "90", record);
 }
 
 #[test]

@@ -1,0 +1,119 @@
+-- A partial table read as it is gives what it gives with Unknown turned to Absent: for every table, whether or not bytes give it, every condition, policy and record.
+use mathlib.Core.Path.{_≡_, refl, _∙_, ap, ap₂}
+use mathlib.Core.Option.{none}
+use mathlib.Core.List.{List, [], _∷_}
+use Prim.Native.Nat.{ℕ}
+use Rattle.model.specs.Facts.{Presence, absent, present, unknown, Table}
+use Rattle.model.specs.Outcome.{Outcomes}
+use Rattle.model.specs.Condition.{Condition, always, never, has, notC, allC, anyC, Conditions, cnil, ccons, unsatisfied, evalHas, flip, both, either, unlessNone, evalCondition, evalConditionAll, evalConditionAny}
+use Rattle.model.specs.Policy.{Grant, Policy, permit, deny, grant, all, any, orElse, stored, Policies, pnil, pcons}
+use Rattle.model.specs.Evaluate.{evalGrant, firstOf, allFrom, anyFrom, evalPolicy, evalPolicies}
+use Rattle.model.specs.Partial.{reduceCondition, ReducedPolicy, resolved, pending, arms, kept, AllWalk, stop, go, stepAll, AnyWalk, parts, stepAny, reduceGrant, reduceOrElse, endAll, endAny, reducePolicy, reduceAll, reduceAny}
+use Rattle.model.specs.Consulted.{Consulted, once, unlessDenied, unlessPermitted, walk, walkAll, walkAny}
+use Rattle.model.specs.Record.{Record, reduced, narrowedFrom, narrowed}
+use Rattle.laws.specs.PartialTable.{settle, asKnown, reduceSettled, allSettled, anySettled, walkSettled, walkAllSettled, walkAnySettled, reducedSettled, narrowedFromSettled, narrowedSettled}
+
+has-settled : (f : ℕ) (p : Presence) → evalHas f (settle p) ≡ evalHas f p
+has-settled f absent = refl
+has-settled f present = refl
+has-settled f unknown = refl
+
+mutual
+  -- A condition's value and the facts that it names.
+  pub eval-settled : (P : Table) (c : Condition) → evalCondition (asKnown P) c ≡ evalCondition P c
+  eval-settled P always = refl
+  eval-settled P never = refl
+  eval-settled P (has f) = has-settled f (P f)
+  eval-settled P (notC c) = ap flip (eval-settled P c)
+  eval-settled P (allC cs) = ap (unlessNone cs (unsatisfied [])) (all-settled P cs)
+  eval-settled P (anyC cs) = any-settled P cs
+
+  all-settled : (P : Table) (cs : Conditions) → evalConditionAll (asKnown P) cs ≡ evalConditionAll P cs
+  all-settled P cnil = refl
+  all-settled P (ccons c cs) = ap₂ both (eval-settled P c) (all-settled P cs)
+
+  any-settled : (P : Table) (cs : Conditions) → evalConditionAny (asKnown P) cs ≡ evalConditionAny P cs
+  any-settled P cnil = refl
+  any-settled P (ccons c cs) = ap₂ either (eval-settled P c) (any-settled P cs)
+
+-- A grant's clause.
+pub grant-settled : {O : Type 0} (P : Table) (g : Grant O) (c : Condition) → evalGrant g (evalCondition (asKnown P) c) ≡ evalGrant g (evalCondition P c)
+grant-settled P g c = ap (evalGrant g) (eval-settled P c)
+
+module _ (L : Outcomes) where
+  mutual
+    pub policy-settled : (P : Table) (t : Policy (L .O)) → evalPolicy L (asKnown P) t ≡ evalPolicy L P t
+    policy-settled P (permit o) = refl
+    policy-settled P deny = refl
+    policy-settled P (grant g c) = grant-settled P g c
+    policy-settled P (all ts) = ap (allFrom L none) (policies-settled P ts)
+    policy-settled P (any ts) = ap (anyFrom L none none) (policies-settled P ts)
+    policy-settled P (orElse a b) = ap₂ firstOf (policy-settled P a) (policy-settled P b)
+    policy-settled P (stored d) = refl
+
+    policies-settled : (P : Table) (ts : Policies (L .O)) → evalPolicies L (asKnown P) ts ≡ evalPolicies L P ts
+    policies-settled P pnil = refl
+    policies-settled P (pcons t ts) = ap₂ _∷_ (policy-settled P t) (policies-settled P ts)
+
+  end-all : (P : Table) (w : AllWalk (L .O)) → endAll L (asKnown P) w ≡ endAll L P w
+  end-all P (stop d) = refl
+  end-all P (go ps pnil) = ap resolved (policy-settled P (all (arms ps pnil)))
+  end-all P (go ps (pcons q qs)) = refl
+
+  end-any : (P : Table) (w : AnyWalk (L .O)) → endAny L (asKnown P) w ≡ endAny L P w
+  end-any P (parts ps first pnil) = ap resolved (policy-settled P (any (kept ps first pnil)))
+  end-any P (parts ps first (pcons q qs)) = refl
+
+  mutual
+    pub reduction-settled : (P : Table) (t : Policy (L .O)) → reduceSettled L P t ≡ reducePolicy L P t
+    reduction-settled P (permit o) = refl
+    reduction-settled P deny = refl
+    reduction-settled P (grant g c) = ap (λ v. reduceGrant g v (reduceCondition P c)) (eval-settled P c)
+    reduction-settled P (all ts) = end-all P (allSettled L P ts) ∙ ap (endAll L P) (alls-settled P ts)
+    reduction-settled P (any ts) = end-any P (anySettled L P ts) ∙ ap (endAny L P) (anys-settled P ts)
+    reduction-settled P (orElse a b) = ap₂ reduceOrElse (reduction-settled P a) (reduction-settled P b)
+    reduction-settled P (stored d) = refl
+
+    alls-settled : (P : Table) (ts : Policies (L .O)) → allSettled L P ts ≡ reduceAll L P ts
+    alls-settled P pnil = refl
+    alls-settled P (pcons t ts) = ap₂ stepAll (reduction-settled P t) (alls-settled P ts)
+
+    anys-settled : (P : Table) (ts : Policies (L .O)) → anySettled L P ts ≡ reduceAny L P ts
+    anys-settled P pnil = refl
+    anys-settled P (pcons t ts) = ap₂ stepAny (reduction-settled P t) (anys-settled P ts)
+
+  mutual
+    pub walk-settled : (P : Table) (t : Policy (L .O)) (l : Consulted) → walkSettled L P t l ≡ walk L P t l
+    walk-settled P (permit o) l = refl
+    walk-settled P deny l = refl
+    walk-settled P (grant g c) l = refl
+    walk-settled P (all ts) l = walks-all P ts l
+    walk-settled P (any ts) l = walks-any P ts l
+    walk-settled P (orElse a b) l =
+        ap₂ (λ x here. unlessPermitted x here (walkSettled L P b here)) (reduction-settled P a) (walk-settled P a l)
+        ∙ ap (unlessPermitted (reducePolicy L P a) (walk L P a l)) (walk-settled P b (walk L P a l))
+    walk-settled P (stored d) l = refl
+
+    walks-all : (P : Table) (ts : Policies (L .O)) (l : Consulted) → walkAllSettled L P ts l ≡ walkAll L P ts l
+    walks-all P pnil l = refl
+    walks-all P (pcons t ts) l =
+        ap₂ (λ x here. unlessDenied x here (walkAllSettled L P ts here)) (reduction-settled P t) (walk-settled P t l)
+        ∙ ap (unlessDenied (reducePolicy L P t) (walk L P t l)) (walks-all P ts (walk L P t l))
+
+    walks-any : (P : Table) (ts : Policies (L .O)) (l : Consulted) → walkAnySettled L P ts l ≡ walkAny L P ts l
+    walks-any P pnil l = refl
+    walks-any P (pcons t ts) l = ap (walkAnySettled L P ts) (walk-settled P t l) ∙ walks-any P ts (walk L P t l)
+
+  -- Every record: the tree and the consulted facts.
+  abbrev recordOf : ReducedPolicy (L .O) → Consulted → Record (L .O)
+  recordOf x l = record { body = x; log = l }
+
+  pub reduced-settled : (P : Table) (t : Policy (L .O)) → reducedSettled L P t ≡ reduced L P t
+  reduced-settled P t = ap₂ recordOf (reduction-settled P t) (walk-settled P t [])
+
+  narrowed-from : (P : Table) (x : ReducedPolicy (L .O)) (l : Consulted) → narrowedFromSettled L P x l ≡ narrowedFrom L P x l
+  narrowed-from P (resolved d) l = refl
+  narrowed-from P (pending t) l = ap₂ recordOf (reduction-settled P t) (walk-settled P t (once l))
+
+  pub narrowed-settled : (P : Table) (r : Record (L .O)) → narrowedSettled L P r ≡ narrowed L P r
+  narrowed-settled P r = narrowed-from P (r .body) (r .log)

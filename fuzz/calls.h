@@ -1,4 +1,4 @@
-// The nine calls by the numbers that the stored answers give them, on heap blocks of exact length, so that a checker of memory sees every access past an end.
+// The eleven calls by the numbers that the stored answers give them, on heap blocks of exact length, so that a checker of memory sees every access past an end.
 #ifndef CALLS_H
 #define CALLS_H
 
@@ -18,6 +18,8 @@ enum call {
     IS_PERMIT_CONSTANT,
     IS_DENY_CONSTANT,
     CARRIES_OBLIGATION,
+    PARTIAL_EVALUATE_IN_ORDER,
+    NARROW_RESIDUAL_IN_ORDER,
     CALLS
 };
 
@@ -34,11 +36,13 @@ struct given {
     size_t room;
 };
 
-static inline int writes(enum call call) { return call <= COMPLETE_RESIDUAL; }
+static inline int writes(enum call call) { return call <= COMPLETE_RESIDUAL || call >= PARTIAL_EVALUATE_IN_ORDER; }
 
 static inline int counts(enum call call) { return call == REQUIRED_FACTS || call == REQUIRED_RESIDUAL_FACTS; }
 
-static inline int reads_sheet(enum call call) { return call == EVALUATE || call == PARTIAL_EVALUATE || call == REQUIRED_FACTS; }
+static inline int reads_sheet(enum call call) {
+    return call == EVALUATE || call == PARTIAL_EVALUATE || call == PARTIAL_EVALUATE_IN_ORDER || call == REQUIRED_FACTS;
+}
 
 // Bytes of what the call writes to.
 static inline size_t out_bytes(const struct given *given) {
@@ -93,6 +97,8 @@ static inline uint64_t returned(const struct given *given, void *out) {
     case IS_PERMIT_CONSTANT: return vierskof_is_permit_constant(words, count);
     case IS_DENY_CONSTANT: return vierskof_is_deny_constant(words, count);
     case CARRIES_OBLIGATION: return vierskof_carries_obligation(words, count);
+    case PARTIAL_EVALUATE_IN_ORDER: return vierskof_partial_evaluate_in_order(words, count, given->table, given->bytes, out, given->room);
+    case NARROW_RESIDUAL_IN_ORDER: return vierskof_narrow_residual_in_order(words, count, given->table, given->bytes, out, given->room);
     default: abort();
     }
 }

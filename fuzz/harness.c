@@ -108,14 +108,17 @@ static void judged(struct given given, const struct answer *answer) {
     free(out);
 }
 
+// Whether the original evaluates a sheet to the clause of a record, facts aside.
+__attribute__((weak)) bool judge_clause(const uint32_t *words, size_t count, const uint8_t *known, size_t bytes, const uint32_t *record, size_t length);
+
 // ---- records
 
 // All calls that read only a record refuse the same ones for the same cause; the tree of a Resolved record is a permit or a deny, and no tree is both.
 static uint32_t as_record(const uint32_t *words, size_t count) {
     struct given given = {REQUIRED_RESIDUAL_FACTS, (uint32_t *)words, count, NULL, 0, 0};
     uint32_t number = number_of(given);
-    uint32_t said[CALLS] = {0};
-    for (given.call = IS_PERMIT_CONSTANT; given.call < CALLS; given.call++) {
+    uint32_t said[CARRIES_OBLIGATION + 1] = {0};
+    for (given.call = IS_PERMIT_CONSTANT; given.call <= CARRIES_OBLIGATION; given.call++) {
         struct answer answer = call(given, FIRST);
         HOLDS(answer.number == number);
         said[given.call] = answer.value;
@@ -195,31 +198,74 @@ static uint32_t end(struct given given, enum call last, const uint8_t *known, si
     return found;
 }
 
-// Narrowed first, a record is completed to the same end; a Resolved one comes back equal. A record of a road has room for certain.
-static void narrowed(struct given record, const uint8_t *table, const uint8_t *known, uint32_t ends, int certain) {
-    struct given given = {.table = (uint8_t *)table, .bytes = record.bytes}, narrower;
-    int room = taken(record, NARROW_RESIDUAL, table, record.bytes, &narrower);
+// A way from a sheet: its reduction, its narrowing, and whether both leave arms in sheet order.
+struct way {
+    enum call reduce;
+    enum call narrow;
+    int in_order;
+};
+
+// Direct evaluation's clause, facts aside, where the original is linked to judge it.
+static void ends_in_clause(struct given sheet, struct given record, const uint8_t *known) {
+    struct given completed;
+    if (!judge_clause) return;
+    HOLDS(taken(record, COMPLETE_RESIDUAL, known, sheet.bytes, &completed));
+    HOLDS(judge_clause(sheet.words, sheet.count, known, sheet.bytes, completed.words, completed.count));
+    free(completed.words);
+}
+
+// A record in sheet order is the same after a narrowing that settles nothing.
+static void stays(struct given record) {
+    uint8_t unknown[VIERSKOF_TABLE_BYTES];
+    struct given again;
+    memset(unknown, 0xAA, sizeof unknown);
+    HOLDS(taken(record, NARROW_RESIDUAL_IN_ORDER, unknown, sizeof unknown, &again));
+    HOLDS(again.count == record.count && same(again.words, record.words, record.count * sizeof *record.words));
+    free(again.words);
+}
+
+// Narrowed first, a record is completed to the same end; a Resolved one comes back equal. A record of a road has room for certain. Whether there was room,
+// and the record.
+static int narrowed(struct given record, enum call narrow, const uint8_t *table, const uint8_t *known, uint32_t ends, int certain, struct given *narrower) {
+    struct given given = {.table = (uint8_t *)table, .bytes = record.bytes};
+    int room = taken(record, narrow, table, record.bytes, narrower);
     HOLDS(room || !certain);
-    if (!room) return;
-    names_no_settled(&narrower, &given);
-    uint32_t found = end(narrower, COMPLETE_RESIDUAL, known, record.bytes);
+    if (!room) return 0;
+    names_no_settled(narrower, &given);
+    uint32_t found = end(*narrower, COMPLETE_RESIDUAL, known, record.bytes);
     HOLDS(found == ends || (!certain && (found == NOTHING || ends == NOTHING)));
     if (vierskof_is_resolved(record.words, record.count)) {
-        HOLDS(narrower.count == record.count && same(narrower.words, record.words, record.count * sizeof *record.words));
+        HOLDS(narrower->count == record.count && same(narrower->words, record.words, record.count * sizeof *record.words));
     }
+    return 1;
+}
+
+// Reduced with the first table, narrowed with the second and completed with the known one, an accepted sheet ends as in one sitting; in sheet order in its
+// clause, facts aside.
+static void staged(struct given sheet, struct way way, const uint8_t *first, const uint8_t *second, const uint8_t *known) {
+    struct given reduced, narrower;
+    uint32_t sitting = end(sheet, EVALUATE, known, sheet.bytes);
+    HOLDS(sitting != NOTHING && taken(sheet, way.reduce, first, sheet.bytes, &reduced));
+    reduced.bytes = sheet.bytes;
+    HOLDS(end(reduced, COMPLETE_RESIDUAL, known, sheet.bytes) == sitting);
+    HOLDS(narrowed(reduced, way.narrow, second, known, sitting, 1, &narrower));
+    if (way.in_order) {
+        stays(reduced);
+        stays(narrower);
+        ends_in_clause(sheet, reduced, known);
+        ends_in_clause(sheet, narrower, known);
+    }
+    free(reduced.words);
     free(narrower.words);
 }
 
-// Reduced with the first table, narrowed with the second and completed with the known one, an accepted sheet ends as in one sitting.
-static void staged(struct given sheet, const uint8_t *first, const uint8_t *second, const uint8_t *known) {
-    struct given reduced;
-    uint32_t sitting = end(sheet, EVALUATE, known, sheet.bytes);
-    HOLDS(sitting != NOTHING && taken(sheet, PARTIAL_EVALUATE, first, sheet.bytes, &reduced));
-    reduced.bytes = sheet.bytes;
-    HOLDS(end(reduced, COMPLETE_RESIDUAL, known, sheet.bytes) == sitting);
-    narrowed(reduced, second, known, sitting, 1);
-    free(reduced.words);
-}
+// Each pair by itself, and the two mixed.
+static const struct way WAYS[] = {
+    {PARTIAL_EVALUATE, NARROW_RESIDUAL, 0},
+    {PARTIAL_EVALUATE_IN_ORDER, NARROW_RESIDUAL_IN_ORDER, 1},
+    {PARTIAL_EVALUATE, NARROW_RESIDUAL_IN_ORDER, 0},
+    {PARTIAL_EVALUATE_IN_ORDER, NARROW_RESIDUAL, 0},
+};
 
 // An accepted sheet or record with a faultless table: with tables that leave facts open, and with the known one from the start.
 static void roads(struct given given, int sheet) {
@@ -227,11 +273,15 @@ static void roads(struct given given, int sheet) {
     uint8_t *some = block(given.bytes), *known = block(given.bytes);
     settle(&given, 0, some);
     settle(&given, 1, known);
-    if (sheet) {
-        staged(given, given.table, some, known);
-        staged(given, known, known, known);
-    } else {
-        narrowed(given, given.table, known, end(given, COMPLETE_RESIDUAL, known, given.bytes), 0);
+    for (size_t i = 0; sheet && i < sizeof WAYS / sizeof *WAYS; i++) {
+        staged(given, WAYS[i], given.table, some, known);
+        staged(given, WAYS[i], known, known, known);
+    }
+    enum call narrowings[] = {NARROW_RESIDUAL, NARROW_RESIDUAL_IN_ORDER};
+    for (size_t i = 0; !sheet && i < 2; i++) {
+        struct given narrower;
+        uint32_t ends = end(given, COMPLETE_RESIDUAL, known, given.bytes);
+        if (narrowed(given, narrowings[i], given.table, known, ends, 0, &narrower)) free(narrower.words);
     }
     free(some);
     free(known);

@@ -81,6 +81,15 @@ uint64_t vierskof_partial_evaluate(const uint32_t *sheet, size_t words, const ui
 uint64_t vierskof_narrow_residual(const uint32_t *record, size_t words, const uint8_t *facts, size_t bytes,
                                   uint32_t *VIERSKOF_RESTRICT out, size_t room);
 
+/* The same two in sheet order: a list that stays open holds its arms where the sheet has them, an All up to and including its
+   first resolved deny. Where no table contradicts the one that completes it, a record that this pair alone has made is
+   completed to the clause of direct evaluation, obligations and shape too, but for fact lists and the facts consulted, and one
+   that both pairs have made to its effect and products. */
+uint64_t vierskof_partial_evaluate_in_order(const uint32_t *sheet, size_t words, const uint8_t *facts, size_t bytes,
+                                            uint32_t *VIERSKOF_RESTRICT out, size_t room);
+uint64_t vierskof_narrow_residual_in_order(const uint32_t *record, size_t words, const uint8_t *facts, size_t bytes,
+                                           uint32_t *VIERSKOF_RESTRICT out, size_t room);
+
 /* Completes a record with a known table. Value: the words written. `out` overlaps neither `record` nor `facts`. */
 uint64_t vierskof_complete_residual(const uint32_t *record, size_t words, const uint8_t *facts, size_t bytes,
                                     uint32_t *VIERSKOF_RESTRICT out, size_t room);

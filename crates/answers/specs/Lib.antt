@@ -1,3 +1,4 @@
 pub mod Original
 pub mod Narrowing
+pub mod InOrder
 pub mod Agree

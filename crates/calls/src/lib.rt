@@ -1,4 +1,4 @@
-// The four calls, after gatekeep's evaluate and partial: words and bytes in, a record of words out, or a numbered refusal that leaves the output as it was.
+// The calls that write a record, after gatekeep's evaluate and partial: words and bytes in, a record of words out, or a numbered refusal that leaves the output as it was.
 use answer::Answer;
 use completion::SHORT;
 use facts::TableFault;
@@ -8,12 +8,14 @@ ghost use mathlib.Core.Path.{_≡_};
 ghost use Prim.Native.Nat.{_≤_};
 ghost use lib.ListN.{length};
 ghost use Rattle.model.specs.Facts.{tableOf, tableFault};
+ghost use Rattle.model.specs.Partial.{permitsFirst, sheetOrder};
 ghost use Rattle.model.specs.Reading.{recordWords};
 ghost use Rattle.model.specs.Products.{evaluate as Calls·evaluate, partialEvaluate, narrowResidual, completeResidual};
 ghost use Rattle.facts.specs.Answers.{faultOf};
 ghost use Rattle.policy_model.specs.Answers.{refusal, sheetRefusal, leadOf, recordLead};
 ghost use Rattle.answer.specs.Answers.{Answered, Makes};
 ghost use Rattle.completion.specs.Answers.{completedAfter};
+ghost use Rattle.partial_policy.specs.Reducing.{orderOf};
 ghost use Rattle.partial.specs.Answers.{reducedAfter};
 ghost use Rattle.calls.specs.Judged.{kindOf, judgedSheet, judgedRecord};
 
@@ -83,25 +85,32 @@ fn complete(words: &[u32], consulted: usize, tree: usize, facts: &[u8], out: &mu
 }
 
 // Reduces a sheet that was judged.
-fn reduce(sheet: &[u32], facts: &[u8], out: &mut [u32]) -> Answer
+fn reduce(sheet: &[u32], in_order: bool, facts: &[u8], out: &mut [u32]) -> Answer
     requires { ⌜ length (now sheet) ≤ recordWords ⌝ }
-    ensures { λ r. ⌜ Makes (reducedAfter (tableOf (now (facts .entry)))) (now (sheet .entry)) 0 0 (now (out .entry)) (now (out .exit)) r ⌝ }
+    ensures { λ r. ⌜ Makes (reducedAfter (orderOf in_order) (tableOf (now (facts .entry)))) (now (sheet .entry)) 0 0 (now (out .entry)) (now (out .exit)) r ⌝ }
 {
     if sheet.len() <= SHORT {
-        return partial::reduce_short(sheet, 0, 0, facts, out);
+        return partial::reduce_short(sheet, 0, 0, in_order, facts, out);
     }
-    partial::reduce_long(sheet, 0, 0, facts, out)
+    partial::reduce_long(sheet, 0, 0, in_order, facts, out)
 }
 
 // Reduces the tree of a record that was judged, after its entries.
-fn narrow(words: &[u32], consulted: usize, tree: usize, facts: &[u8], out: &mut [u32]) -> Answer
+fn narrow(
+    words: &[u32],
+    consulted: usize,
+    tree: usize,
+    in_order: bool,
+    facts: &[u8],
+    out: &mut [u32],
+) -> Answer
     requires { ⌜ length (now words) ≤ recordWords ⌝ }
-    ensures { λ r. ⌜ Makes (reducedAfter (tableOf (now (facts .entry)))) (now (words .entry)) consulted tree (now (out .entry)) (now (out .exit)) r ⌝ }
+    ensures { λ r. ⌜ Makes (reducedAfter (orderOf in_order) (tableOf (now (facts .entry)))) (now (words .entry)) consulted tree (now (out .entry)) (now (out .exit)) r ⌝ }
 {
     if words.len() <= SHORT {
-        return partial::reduce_short(words, consulted, tree, facts, out);
+        return partial::reduce_short(words, consulted, tree, in_order, facts, out);
     }
-    partial::reduce_long(words, consulted, tree, facts, out)
+    partial::reduce_long(words, consulted, tree, in_order, facts, out)
 }
 
 // Decides a sheet with a known table.
@@ -114,19 +123,33 @@ pub fn evaluate(sheet: &[u32], facts: &[u8], out: &mut [u32]) -> Answer
     }
 }
 
-// Reduces a sheet with a table that may leave facts open.
-pub fn partial_evaluate(sheet: &[u32], facts: &[u8], out: &mut [u32]) -> Answer
-    ensures { λ r. ⌜ Answered (partialEvaluate (now (sheet .entry)) (now (facts .entry)) (length (now (out .entry)))) (now (out .entry)) (now (out .exit)) r ⌝ }
+// Judges a sheet with a table that may leave facts open, and reduces it.
+fn partial_evaluate_by(sheet: &[u32], in_order: bool, facts: &[u8], out: &mut [u32]) -> Answer
+    ensures { λ r. ⌜ Answered (partialEvaluate (orderOf in_order) (now (sheet .entry)) (now (facts .entry)) (length (now (out .entry)))) (now (out .entry)) (now (out .exit)) r ⌝ }
 {
     match judge_sheet(sheet, facts, false) {
         SheetCheck::Refused(number) => Answer::Refused(number),
-        SheetCheck::Accepted => reduce(sheet, facts, out),
+        SheetCheck::Accepted => reduce(sheet, in_order, facts, out),
     }
 }
 
-// Narrows a record by a table of further facts. A Resolved one comes back as it stands.
-pub fn narrow_residual(words: &[u32], facts: &[u8], out: &mut [u32]) -> Answer
-    ensures { λ r. ⌜ Answered (narrowResidual (now (words .entry)) (now (facts .entry)) (length (now (out .entry)))) (now (out .entry)) (now (out .exit)) r ⌝ }
+// Reduces a sheet, with permits first in a list that is left.
+pub fn partial_evaluate(sheet: &[u32], facts: &[u8], out: &mut [u32]) -> Answer
+    ensures { λ r. ⌜ Answered (partialEvaluate permitsFirst (now (sheet .entry)) (now (facts .entry)) (length (now (out .entry)))) (now (out .entry)) (now (out .exit)) r ⌝ }
+{
+    partial_evaluate_by(sheet, false, facts, out)
+}
+
+// Reduces a sheet, and leaves arms in sheet order.
+pub fn partial_evaluate_in_order(sheet: &[u32], facts: &[u8], out: &mut [u32]) -> Answer
+    ensures { λ r. ⌜ Answered (partialEvaluate sheetOrder (now (sheet .entry)) (now (facts .entry)) (length (now (out .entry)))) (now (out .entry)) (now (out .exit)) r ⌝ }
+{
+    partial_evaluate_by(sheet, true, facts, out)
+}
+
+// Judges a record with a table of further facts, and narrows it. A Resolved one comes back as it stands.
+fn narrow_residual_by(words: &[u32], in_order: bool, facts: &[u8], out: &mut [u32]) -> Answer
+    ensures { λ r. ⌜ Answered (narrowResidual (orderOf in_order) (now (words .entry)) (now (facts .entry)) (length (now (out .entry)))) (now (out .entry)) (now (out .exit)) r ⌝ }
 {
     match judge_record(words, facts, false) {
         RecordCheck::Refused(number) => Answer::Refused(number),
@@ -138,10 +161,25 @@ pub fn narrow_residual(words: &[u32], facts: &[u8], out: &mut [u32]) -> Answer
             words,
             consulted as usize,
             tree,
+            in_order,
             facts,
             out,
         ),
     }
+}
+
+// Narrows a record, with permits first in a list that is left.
+pub fn narrow_residual(words: &[u32], facts: &[u8], out: &mut [u32]) -> Answer
+    ensures { λ r. ⌜ Answered (narrowResidual permitsFirst (now (words .entry)) (now (facts .entry)) (length (now (out .entry)))) (now (out .entry)) (now (out .exit)) r ⌝ }
+{
+    narrow_residual_by(words, false, facts, out)
+}
+
+// Narrows a record, and leaves arms in sheet order.
+pub fn narrow_residual_in_order(words: &[u32], facts: &[u8], out: &mut [u32]) -> Answer
+    ensures { λ r. ⌜ Answered (narrowResidual sheetOrder (now (words .entry)) (now (facts .entry)) (length (now (out .entry)))) (now (out .entry)) (now (out .exit)) r ⌝ }
+{
+    narrow_residual_by(words, true, facts, out)
 }
 
 // Completes a record with a known table. A Resolved one comes back as it stands.

@@ -12,7 +12,7 @@ use Rattle.model.specs.Outcome.{Outcomes, outcomeBits}
 use Rattle.model.specs.Condition.{Condition, always, never, has, cnil, ccons, notC, allC, anyC}
 use Rattle.model.specs.Decision.{Decision, permits, denies, held}
 use Rattle.model.specs.Policy.{Policy, deny, grant, all, any, orElse, permit, stored, pnil, pcons}
-use Rattle.model.specs.Partial.{ReducedPolicy, resolved, pending}
+use Rattle.model.specs.Partial.{ReducedPolicy, resolved, pending, Order}
 use Rattle.model.specs.Consulted.{Consulted}
 use Rattle.model.specs.Record.{Record, evaluated, reduced, narrowed, completed}
 use Rattle.model.specs.Writing.{encodeR, countBits, markBits, obligationBits, entryBits}
@@ -382,15 +382,15 @@ module _ (L : Outcomes) where
       long-told (sheetLength sheet) _ (fault-told (tableFault knownFacts facts) _ (table-faulty knownFacts facts)
       (read-told (readSheet (L .value) sheet) _ (sheet-numbered (L .value) sheet) (λ t. write-told room (evaluated L (tableOf facts) t))))
 
-  pub partial-evaluate-told : (sheet facts : List ℕ) (room : ℕ) → Told (partialEvaluate L sheet facts room)
-  partial-evaluate-told sheet facts room =
+  pub partial-evaluate-told : (o : Order) (sheet facts : List ℕ) (room : ℕ) → Told (partialEvaluate L o sheet facts room)
+  partial-evaluate-told o sheet facts room =
       long-told (sheetLength sheet) _ (fault-told (tableFault partialFacts facts) _ (table-faulty partialFacts facts)
-      (read-told (readSheet (L .value) sheet) _ (sheet-numbered (L .value) sheet) (λ t. write-told room (reduced L (tableOf facts) t))))
+      (read-told (readSheet (L .value) sheet) _ (sheet-numbered (L .value) sheet) (λ t. write-told room (reduced L o (tableOf facts) t))))
 
-  pub narrow-residual-told : (rec facts : List ℕ) (room : ℕ) → Told (narrowResidual L rec facts room)
-  narrow-residual-told rec facts room =
+  pub narrow-residual-told : (o : Order) (rec facts : List ℕ) (room : ℕ) → Told (narrowResidual L o rec facts room)
+  narrow-residual-told o rec facts room =
       long-told (recordLength rec) _ (fault-told (tableFault partialFacts facts) _ (table-faulty partialFacts facts)
-      (read-told (readRecord (L .value) rec) _ (record-numbered (L .value) rec) (λ r. write-told room (narrowed L (tableOf facts) r))))
+      (read-told (readRecord (L .value) rec) _ (record-numbered (L .value) rec) (λ r. write-told room (narrowed L o (tableOf facts) r))))
 
   pub complete-residual-told : (rec facts : List ℕ) (room : ℕ) → Told (completeResidual L rec facts room)
   complete-residual-told rec facts room =

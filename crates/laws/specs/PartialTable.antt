@@ -1,13 +1,12 @@
 -- Reduction with Unknown turned to Absent before a known grant, and a list without pending arms, is evaluated. Document 01, "Reducing": "re-evaluated with Unknown
--- read as Absent". That is the former rule: request 4 reads the partial table itself, and PartialTableLaws shows that both give every record alike.
-use mathlib.Core.Option.{none}
-use mathlib.Core.List.{[]}
+-- read as Absent". That is the former rule: request 4 reads the partial table itself, and PartialTableLaws shows that both give every record alike, under either order.
+use mathlib.Core.List.{List, [], _∷_}
 use Rattle.model.specs.Facts.{Presence, absent, present, unknown, Table}
 use Rattle.model.specs.Outcome.{Outcomes}
 use Rattle.model.specs.Condition.{evalCondition}
 use Rattle.model.specs.Decision.{permits, denies, combined, genericDeny}
 use Rattle.model.specs.Policy.{Policy, permit, deny, grant, all, any, orElse, stored, Policies, pnil, pcons}
-use Rattle.model.specs.Partial.{reduceCondition, ReducedPolicy, resolved, pending, AllWalk, go, stepAll, AnyWalk, parts, stepAny, reduceGrant, reduceOrElse, endAll, endAny}
+use Rattle.model.specs.Partial.{reduceCondition, ReducedPolicy, resolved, pending, reduceGrant, reduceOrElse, Order, allOf, anyOf}
 use Rattle.model.specs.Consulted.{Consulted, once, walkC, unlessDenied, unlessPermitted}
 use Rattle.model.specs.Record.{Record}
 
@@ -20,29 +19,25 @@ settle unknown = absent
 abbrev pub asKnown : Table → Table
 asKnown T f = settle (T f)
 
-module _ (L : Outcomes) where
+module _ (L : Outcomes) (o : Order) where
   abbrev mutual
     pub reduceSettled : Table → Policy (L .O) → ReducedPolicy (L .O)
-    reduceSettled P (permit o) = resolved (permits (combined o []))
+    reduceSettled P (permit x) = resolved (permits (combined x []))
     reduceSettled P deny = resolved (denies genericDeny)
     reduceSettled P (grant g c) = reduceGrant g (evalCondition (asKnown P) c) (reduceCondition P c)
-    reduceSettled P (all ts) = endAll L (asKnown P) (allSettled P ts)
-    reduceSettled P (any ts) = endAny L (asKnown P) (anySettled P ts)
+    reduceSettled P (all ts) = allOf L o (asKnown P) (armsSettled P ts)
+    reduceSettled P (any ts) = anyOf L o (asKnown P) (armsSettled P ts)
     reduceSettled P (orElse a b) = reduceOrElse (reduceSettled P a) (reduceSettled P b)
     reduceSettled P (stored d) = resolved d
 
-    pub allSettled : Table → Policies (L .O) → AllWalk (L .O)
-    allSettled P pnil = go [] pnil
-    allSettled P (pcons t ts) = stepAll (reduceSettled P t) (allSettled P ts)
-
-    pub anySettled : Table → Policies (L .O) → AnyWalk (L .O)
-    anySettled P pnil = parts [] none pnil
-    anySettled P (pcons t ts) = stepAny (reduceSettled P t) (anySettled P ts)
+    pub armsSettled : Table → Policies (L .O) → List (ReducedPolicy (L .O))
+    armsSettled P pnil = []
+    armsSettled P (pcons t ts) = reduceSettled P t ∷ armsSettled P ts
 
   -- What it consults: which arms are walked goes by what the arms before them come to.
   abbrev mutual
     pub walkSettled : Table → Policy (L .O) → Consulted → Consulted
-    walkSettled P (permit o) l = l
+    walkSettled P (permit x) l = l
     walkSettled P deny l = l
     walkSettled P (grant g c) l = walkC P c l
     walkSettled P (all ts) l = walkAllSettled P ts l

@@ -1,5 +1,6 @@
 -- A partial table read as it is gives what it gives with Unknown turned to Absent: for every table, whether or not bytes give it, every condition, policy and record.
 use mathlib.Core.Path.{_≡_, refl, _∙_, ap, ap₂}
+use mathlib.Core.Bool.{cond}
 use mathlib.Core.Option.{none}
 use mathlib.Core.List.{List, [], _∷_}
 use Prim.Native.Nat.{ℕ}
@@ -8,10 +9,10 @@ use Rattle.model.specs.Outcome.{Outcomes}
 use Rattle.model.specs.Condition.{Condition, always, never, has, notC, allC, anyC, Conditions, cnil, ccons, unsatisfied, evalHas, flip, both, either, unlessNone, evalCondition, evalConditionAll, evalConditionAny}
 use Rattle.model.specs.Policy.{Grant, Policy, permit, deny, grant, all, any, orElse, stored, Policies, pnil, pcons}
 use Rattle.model.specs.Evaluate.{evalGrant, firstOf, allFrom, anyFrom, evalPolicy, evalPolicies}
-use Rattle.model.specs.Partial.{reduceCondition, ReducedPolicy, resolved, pending, arms, kept, AllWalk, stop, go, stepAll, AnyWalk, parts, stepAny, reduceGrant, reduceOrElse, endAll, endAny, reducePolicy, reduceAll, reduceAny}
+use Rattle.model.specs.Partial.{reduceCondition, ReducedPolicy, resolved, pending, arms, kept, AllWalk, stop, go, AnyWalk, parts, walkedAll, walkedAny, upToDeny, inOrder, anyPending, reduceGrant, reduceOrElse, endAll, endAny, endInOrder, Order, permitsFirst, sheetOrder, allOf, anyOf, reducePolicy, reduceArms}
 use Rattle.model.specs.Consulted.{Consulted, once, unlessDenied, unlessPermitted, walk, walkAll, walkAny}
 use Rattle.model.specs.Record.{Record, reduced, narrowedFrom, narrowed}
-use Rattle.laws.specs.PartialTable.{settle, asKnown, reduceSettled, allSettled, anySettled, walkSettled, walkAllSettled, walkAnySettled, reducedSettled, narrowedFromSettled, narrowedSettled}
+use Rattle.laws.specs.PartialTable.{settle, asKnown, reduceSettled, armsSettled, walkSettled, walkAllSettled, walkAnySettled, reducedSettled, narrowedFromSettled, narrowedSettled}
 
 has-settled : (f : ℕ) (p : Presence) → evalHas f (settle p) ≡ evalHas f p
 has-settled f absent = refl
@@ -64,56 +65,64 @@ module _ (L : Outcomes) where
   end-any P (parts ps first pnil) = ap resolved (policy-settled P (any (kept ps first pnil)))
   end-any P (parts ps first (pcons q qs)) = refl
 
-  mutual
-    pub reduction-settled : (P : Table) (t : Policy (L .O)) → reduceSettled L P t ≡ reducePolicy L P t
-    reduction-settled P (permit o) = refl
-    reduction-settled P deny = refl
-    reduction-settled P (grant g c) = ap (λ v. reduceGrant g v (reduceCondition P c)) (eval-settled P c)
-    reduction-settled P (all ts) = end-all P (allSettled L P ts) ∙ ap (endAll L P) (alls-settled P ts)
-    reduction-settled P (any ts) = end-any P (anySettled L P ts) ∙ ap (endAny L P) (anys-settled P ts)
-    reduction-settled P (orElse a b) = ap₂ reduceOrElse (reduction-settled P a) (reduction-settled P b)
-    reduction-settled P (stored d) = refl
+  end-order : (list : Policies (L .O) → Policy (L .O)) (P : Table) (rs : List (ReducedPolicy (L .O))) → endInOrder L list (asKnown P) rs ≡ endInOrder L list P rs
+  end-order list P rs = ap (λ d. cond (anyPending rs) (pending (list (inOrder rs))) (resolved d)) (policy-settled P (list (inOrder rs)))
 
-    alls-settled : (P : Table) (ts : Policies (L .O)) → allSettled L P ts ≡ reduceAll L P ts
-    alls-settled P pnil = refl
-    alls-settled P (pcons t ts) = ap₂ stepAll (reduction-settled P t) (alls-settled P ts)
+  all-of : (o : Order) (P : Table) (rs : List (ReducedPolicy (L .O))) → allOf L o (asKnown P) rs ≡ allOf L o P rs
+  all-of permitsFirst P rs = end-all P (walkedAll rs)
+  all-of sheetOrder P rs = end-order all P (upToDeny rs)
 
-    anys-settled : (P : Table) (ts : Policies (L .O)) → anySettled L P ts ≡ reduceAny L P ts
-    anys-settled P pnil = refl
-    anys-settled P (pcons t ts) = ap₂ stepAny (reduction-settled P t) (anys-settled P ts)
-
-  mutual
-    pub walk-settled : (P : Table) (t : Policy (L .O)) (l : Consulted) → walkSettled L P t l ≡ walk L P t l
-    walk-settled P (permit o) l = refl
-    walk-settled P deny l = refl
-    walk-settled P (grant g c) l = refl
-    walk-settled P (all ts) l = walks-all P ts l
-    walk-settled P (any ts) l = walks-any P ts l
-    walk-settled P (orElse a b) l =
-        ap₂ (λ x here. unlessPermitted x here (walkSettled L P b here)) (reduction-settled P a) (walk-settled P a l)
-        ∙ ap (unlessPermitted (reducePolicy L P a) (walk L P a l)) (walk-settled P b (walk L P a l))
-    walk-settled P (stored d) l = refl
-
-    walks-all : (P : Table) (ts : Policies (L .O)) (l : Consulted) → walkAllSettled L P ts l ≡ walkAll L P ts l
-    walks-all P pnil l = refl
-    walks-all P (pcons t ts) l =
-        ap₂ (λ x here. unlessDenied x here (walkAllSettled L P ts here)) (reduction-settled P t) (walk-settled P t l)
-        ∙ ap (unlessDenied (reducePolicy L P t) (walk L P t l)) (walks-all P ts (walk L P t l))
-
-    walks-any : (P : Table) (ts : Policies (L .O)) (l : Consulted) → walkAnySettled L P ts l ≡ walkAny L P ts l
-    walks-any P pnil l = refl
-    walks-any P (pcons t ts) l = ap (walkAnySettled L P ts) (walk-settled P t l) ∙ walks-any P ts (walk L P t l)
+  any-of : (o : Order) (P : Table) (rs : List (ReducedPolicy (L .O))) → anyOf L o (asKnown P) rs ≡ anyOf L o P rs
+  any-of permitsFirst P rs = end-any P (walkedAny rs)
+  any-of sheetOrder P rs = end-order any P rs
 
   -- Every record: the tree and the consulted facts.
   abbrev recordOf : ReducedPolicy (L .O) → Consulted → Record (L .O)
   recordOf x l = record { body = x; log = l }
 
-  pub reduced-settled : (P : Table) (t : Policy (L .O)) → reducedSettled L P t ≡ reduced L P t
-  reduced-settled P t = ap₂ recordOf (reduction-settled P t) (walk-settled P t [])
+  module _ (o : Order) where
+    mutual
+      pub reduction-settled : (P : Table) (t : Policy (L .O)) → reduceSettled L o P t ≡ reducePolicy L o P t
+      reduction-settled P (permit x) = refl
+      reduction-settled P deny = refl
+      reduction-settled P (grant g c) = ap (λ v. reduceGrant g v (reduceCondition P c)) (eval-settled P c)
+      reduction-settled P (all ts) = all-of o P (armsSettled L o P ts) ∙ ap (allOf L o P) (arms-settled P ts)
+      reduction-settled P (any ts) = any-of o P (armsSettled L o P ts) ∙ ap (anyOf L o P) (arms-settled P ts)
+      reduction-settled P (orElse a b) = ap₂ reduceOrElse (reduction-settled P a) (reduction-settled P b)
+      reduction-settled P (stored d) = refl
 
-  narrowed-from : (P : Table) (x : ReducedPolicy (L .O)) (l : Consulted) → narrowedFromSettled L P x l ≡ narrowedFrom L P x l
-  narrowed-from P (resolved d) l = refl
-  narrowed-from P (pending t) l = ap₂ recordOf (reduction-settled P t) (walk-settled P t (once l))
+      arms-settled : (P : Table) (ts : Policies (L .O)) → armsSettled L o P ts ≡ reduceArms L o P ts
+      arms-settled P pnil = refl
+      arms-settled P (pcons t ts) = ap₂ _∷_ (reduction-settled P t) (arms-settled P ts)
 
-  pub narrowed-settled : (P : Table) (r : Record (L .O)) → narrowedSettled L P r ≡ narrowed L P r
-  narrowed-settled P r = narrowed-from P (r .body) (r .log)
+    mutual
+      pub walk-settled : (P : Table) (t : Policy (L .O)) (l : Consulted) → walkSettled L o P t l ≡ walk L o P t l
+      walk-settled P (permit x) l = refl
+      walk-settled P deny l = refl
+      walk-settled P (grant g c) l = refl
+      walk-settled P (all ts) l = walks-all P ts l
+      walk-settled P (any ts) l = walks-any P ts l
+      walk-settled P (orElse a b) l =
+          ap₂ (λ x here. unlessPermitted x here (walkSettled L o P b here)) (reduction-settled P a) (walk-settled P a l)
+          ∙ ap (unlessPermitted (reducePolicy L o P a) (walk L o P a l)) (walk-settled P b (walk L o P a l))
+      walk-settled P (stored d) l = refl
+
+      walks-all : (P : Table) (ts : Policies (L .O)) (l : Consulted) → walkAllSettled L o P ts l ≡ walkAll L o P ts l
+      walks-all P pnil l = refl
+      walks-all P (pcons t ts) l =
+          ap₂ (λ x here. unlessDenied x here (walkAllSettled L o P ts here)) (reduction-settled P t) (walk-settled P t l)
+          ∙ ap (unlessDenied (reducePolicy L o P t) (walk L o P t l)) (walks-all P ts (walk L o P t l))
+
+      walks-any : (P : Table) (ts : Policies (L .O)) (l : Consulted) → walkAnySettled L o P ts l ≡ walkAny L o P ts l
+      walks-any P pnil l = refl
+      walks-any P (pcons t ts) l = ap (walkAnySettled L o P ts) (walk-settled P t l) ∙ walks-any P ts (walk L o P t l)
+
+    pub reduced-settled : (P : Table) (t : Policy (L .O)) → reducedSettled L o P t ≡ reduced L o P t
+    reduced-settled P t = ap₂ recordOf (reduction-settled P t) (walk-settled P t [])
+
+    narrowed-from : (P : Table) (x : ReducedPolicy (L .O)) (l : Consulted) → narrowedFromSettled L o P x l ≡ narrowedFrom L o P x l
+    narrowed-from P (resolved d) l = refl
+    narrowed-from P (pending t) l = ap₂ recordOf (reduction-settled P t) (walk-settled P t (once l))
+
+    pub narrowed-settled : (P : Table) (r : Record (L .O)) → narrowedSettled L o P r ≡ narrowed L o P r
+    narrowed-settled P r = narrowed-from P (r .body) (r .log)

@@ -8,6 +8,7 @@ use lib.Dec.{leb}
 use lib.ListN.{length, drop}
 use Rattle.model.specs.Facts.{tableOf, partialFacts, knownFacts, tableFault}
 use Rattle.model.specs.Outcome.{Outcomes}
+use Rattle.model.specs.Partial.{Order}
 use Rattle.model.specs.Record.{Record, tree, evaluated, reduced, narrowed, completed}
 use Rattle.model.specs.Writing.{encodeR, short}
 use Rattle.model.specs.Reading.{Parsed, refuse, got, sheetLength, recordLength, readSheet, readRecord}
@@ -52,21 +53,22 @@ module _ (L : Outcomes) where
   abbrev pub write : ℕ → Record (L .O) → Answer
   write room r = cond (fits room r) (wrote (encodeR (L .number) r)) (refusal 11)
 
-  -- ---- the four calls: words, table bytes, and the room of the output in words
+  -- ---- the calls: words, table bytes, and the room of the output in words. Reduction and narrowing by permits first are the calls of document 01,
+  -- in sheet order those of request 8.
   abbrev pub evaluate : List ℕ → List ℕ → ℕ → Answer
   evaluate sheet facts room =
       unlessLong (sheetLength sheet) (unlessFault (tableFault knownFacts facts)
       (onRead (readSheet (L .value) sheet) (λ t. write room (evaluated L (tableOf facts) t))))
 
-  abbrev pub partialEvaluate : List ℕ → List ℕ → ℕ → Answer
-  partialEvaluate sheet facts room =
+  abbrev pub partialEvaluate : Order → List ℕ → List ℕ → ℕ → Answer
+  partialEvaluate o sheet facts room =
       unlessLong (sheetLength sheet) (unlessFault (tableFault partialFacts facts)
-      (onRead (readSheet (L .value) sheet) (λ t. write room (reduced L (tableOf facts) t))))
+      (onRead (readSheet (L .value) sheet) (λ t. write room (reduced L o (tableOf facts) t))))
 
-  abbrev pub narrowResidual : List ℕ → List ℕ → ℕ → Answer
-  narrowResidual rec facts room =
+  abbrev pub narrowResidual : Order → List ℕ → List ℕ → ℕ → Answer
+  narrowResidual o rec facts room =
       unlessLong (recordLength rec) (unlessFault (tableFault partialFacts facts)
-      (onRead (readRecord (L .value) rec) (λ r. write room (narrowed L (tableOf facts) r))))
+      (onRead (readRecord (L .value) rec) (λ r. write room (narrowed L o (tableOf facts) r))))
 
   abbrev pub completeResidual : List ℕ → List ℕ → ℕ → Answer
   completeResidual rec facts room =

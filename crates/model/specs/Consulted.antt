@@ -9,7 +9,7 @@ use Rattle.model.specs.Condition.{Condition, always, never, has, notC, a
 use Rattle.model.specs.Decision.{Decision, permits, denies}
 use Rattle.model.specs.Policy.{Policy, permit, deny, grant, all, any, orElse, stored, Policies, pnil, pcons}
 use Rattle.model.specs.Evaluate.{evalPolicy}
-use Rattle.model.specs.Partial.{ReducedCondition, known, pendingC, reduceCondition, ReducedPolicy, resolved, pending, reducePolicy}
+use Rattle.model.specs.Partial.{ReducedCondition, known, pendingC, reduceCondition, ReducedPolicy, resolved, pending, Order, reducePolicy}
 
 -- A fact as it was first read.
 pub record Entry : Type 0 where
@@ -132,20 +132,22 @@ module _ (L : Outcomes) where
     readAny T pnil l = l
     readAny T (pcons t ts) l = readAny T ts (read T t l)
 
-  abbrev mutual
-    pub walk : Table → Policy (L .O) → Consulted → Consulted
-    walk P (permit o) l = l
-    walk P deny l = l
-    walk P (grant g c) l = walkC P c l
-    walk P (all ts) l = walkAll P ts l
-    walk P (any ts) l = walkAny P ts l
-    walk P (orElse a b) l = unlessPermitted (reducePolicy L P a) (walk P a l) (walk P b (walk P a l))
-    walk P (stored d) l = l
+  -- The walk stops at a resolved deny of All, under either order: an All inside that is pending doesn't stop the one around it.
+  module _ (o : Order) where
+    abbrev mutual
+      pub walk : Table → Policy (L .O) → Consulted → Consulted
+      walk P (permit x) l = l
+      walk P deny l = l
+      walk P (grant g c) l = walkC P c l
+      walk P (all ts) l = walkAll P ts l
+      walk P (any ts) l = walkAny P ts l
+      walk P (orElse a b) l = unlessPermitted (reducePolicy L o P a) (walk P a l) (walk P b (walk P a l))
+      walk P (stored d) l = l
 
-    pub walkAll : Table → Policies (L .O) → Consulted → Consulted
-    walkAll P pnil l = l
-    walkAll P (pcons t ts) l = unlessDenied (reducePolicy L P t) (walk P t l) (walkAll P ts (walk P t l))
+      pub walkAll : Table → Policies (L .O) → Consulted → Consulted
+      walkAll P pnil l = l
+      walkAll P (pcons t ts) l = unlessDenied (reducePolicy L o P t) (walk P t l) (walkAll P ts (walk P t l))
 
-    pub walkAny : Table → Policies (L .O) → Consulted → Consulted
-    walkAny P pnil l = l
-    walkAny P (pcons t ts) l = walkAny P ts (walk P t l)
+      pub walkAny : Table → Policies (L .O) → Consulted → Consulted
+      walkAny P pnil l = l
+      walkAny P (pcons t ts) l = walkAny P ts (walk P t l)

@@ -15,3 +15,4 @@ pub mod Required
 pub mod Products
 pub mod Listing
 pub mod Worked
+pub mod WorkedInOrder

@@ -1,5 +1,5 @@
--- Reduction: what is left of a policy under a table that leaves facts open. Document 01, "Reducing".
-use mathlib.Core.Bool.{Bool, true, false, not}
+-- Reduction: what is left of a policy under a table that leaves facts open. Document 01, "Reducing", and request 8.
+use mathlib.Core.Bool.{Bool, true, false, not, cond}
 use mathlib.Core.Option.{Option, none, some}
 use mathlib.Core.List.{List, [], _∷_}
 use Prim.Native.Nat.{ℕ}
@@ -89,7 +89,11 @@ abbrev pub asResidual : {O : Type 0} → ReducedPolicy O → Policy O
 asResidual (resolved d) = stored d
 asResidual (pending t) = t
 
--- Permits first, then pending arms.
+-- How a list with pending arms holds its arms: resolved permits first, as document 01 has it, or in sheet order (request 8).
+pub data Order : Type 0 where
+  permitsFirst sheetOrder : Order
+
+-- ---- permits first
 abbrev pub arms : {O : Type 0} → List (Permit O) → Policies O → Policies O
 arms [] qs = qs
 arms (p ∷ ps) qs = pcons (stored (permits p)) (arms ps qs)
@@ -112,6 +116,10 @@ stepAll (resolved (permits p)) (go ps qs) = go (p ∷ ps) qs
 stepAll (pending q) (stop d) = stop d
 stepAll (pending q) (go ps qs) = go ps (pcons q qs)
 
+abbrev pub walkedAll : {O : Type 0} → List (ReducedPolicy O) → AllWalk O
+walkedAll [] = go [] pnil
+walkedAll (r ∷ rs) = stepAll r (walkedAll rs)
+
 -- The walk over the arms of Any: permits, the first deny, pending arms.
 pub data AnyWalk (O : Type 0) : Type 0 where
   parts : List (Permit O) → Option (Denial O) → Policies O → AnyWalk O
@@ -121,6 +129,32 @@ stepAny (resolved (denies d)) (parts ps first qs) = parts ps (some d) qs
 stepAny (resolved (permits p)) (parts ps first qs) = parts (p ∷ ps) first qs
 stepAny (pending q) (parts ps first qs) = parts ps first (pcons q qs)
 
+abbrev pub walkedAny : {O : Type 0} → List (ReducedPolicy O) → AnyWalk O
+walkedAny [] = parts [] none pnil
+walkedAny (r ∷ rs) = stepAny r (walkedAny rs)
+
+-- ---- in sheet order
+-- All holds its arms up to and including the first resolved deny, and drops the rest.
+abbrev pub untilDeny : {O : Type 0} → ReducedPolicy O → List (ReducedPolicy O) → List (ReducedPolicy O)
+untilDeny (resolved (denies d)) later = resolved (denies d) ∷ []
+untilDeny (resolved (permits p)) later = resolved (permits p) ∷ later
+untilDeny (pending q) later = pending q ∷ later
+
+abbrev pub upToDeny : {O : Type 0} → List (ReducedPolicy O) → List (ReducedPolicy O)
+upToDeny [] = []
+upToDeny (r ∷ rs) = untilDeny r (upToDeny rs)
+
+-- The arms as they stand.
+abbrev pub inOrder : {O : Type 0} → List (ReducedPolicy O) → Policies O
+inOrder [] = pnil
+inOrder (r ∷ rs) = pcons (asResidual r) (inOrder rs)
+
+abbrev pub anyPending : {O : Type 0} → List (ReducedPolicy O) → Bool
+anyPending [] = false
+anyPending (resolved d ∷ rs) = anyPending rs
+anyPending (pending q ∷ rs) = true
+
+-- ---- grants and OrElse
 -- A known grant is evaluated again, from the partial table itself; a pending one holds what is left of its condition.
 abbrev pub reduceGrant : {O : Type 0} → Grant O → ConditionEval → ReducedCondition → ReducedPolicy O
 reduceGrant g v (known b) = resolved (evalGrant g v)
@@ -143,20 +177,30 @@ module _ (L : Outcomes) where
   endAny T (parts ps first pnil) = resolved (evalPolicy L T (any (kept ps first pnil)))
   endAny T (parts ps first (pcons q qs)) = pending (any (kept ps first (pcons q qs)))
 
-  abbrev mutual
-    pub reducePolicy : Table → Policy (L .O) → ReducedPolicy (L .O)
-    reducePolicy P (permit o) = resolved (permits (combined o []))
-    reducePolicy P deny = resolved (denies genericDeny)
-    reducePolicy P (grant g c) = reduceGrant g (evalCondition P c) (reduceCondition P c)
-    reducePolicy P (all ts) = endAll P (reduceAll P ts)
-    reducePolicy P (any ts) = endAny P (reduceAny P ts)
-    reducePolicy P (orElse a b) = reduceOrElse (reducePolicy P a) (reducePolicy P b)
-    reducePolicy P (stored d) = resolved d
+  -- In sheet order a list with a pending arm holds its arms as they stand. So an All resolves to a deny only if no pending arm stands before it.
+  abbrev pub endInOrder : (Policies (L .O) → Policy (L .O)) → Table → List (ReducedPolicy (L .O)) → ReducedPolicy (L .O)
+  endInOrder list T rs = cond (anyPending rs) (pending (list (inOrder rs))) (resolved (evalPolicy L T (list (inOrder rs))))
 
-    pub reduceAll : Table → Policies (L .O) → AllWalk (L .O)
-    reduceAll P pnil = go [] pnil
-    reduceAll P (pcons t ts) = stepAll (reducePolicy P t) (reduceAll P ts)
+  -- What a list comes to, from its arms reduced. In sheet order an Any holds all arms.
+  abbrev pub allOf : Order → Table → List (ReducedPolicy (L .O)) → ReducedPolicy (L .O)
+  allOf permitsFirst T rs = endAll T (walkedAll rs)
+  allOf sheetOrder T rs = endInOrder all T (upToDeny rs)
 
-    pub reduceAny : Table → Policies (L .O) → AnyWalk (L .O)
-    reduceAny P pnil = parts [] none pnil
-    reduceAny P (pcons t ts) = stepAny (reducePolicy P t) (reduceAny P ts)
+  abbrev pub anyOf : Order → Table → List (ReducedPolicy (L .O)) → ReducedPolicy (L .O)
+  anyOf permitsFirst T rs = endAny T (walkedAny rs)
+  anyOf sheetOrder T rs = endInOrder any T rs
+
+  module _ (o : Order) where
+    abbrev mutual
+      pub reducePolicy : Table → Policy (L .O) → ReducedPolicy (L .O)
+      reducePolicy P (permit x) = resolved (permits (combined x []))
+      reducePolicy P deny = resolved (denies genericDeny)
+      reducePolicy P (grant g c) = reduceGrant g (evalCondition P c) (reduceCondition P c)
+      reducePolicy P (all ts) = allOf o P (reduceArms P ts)
+      reducePolicy P (any ts) = anyOf o P (reduceArms P ts)
+      reducePolicy P (orElse a b) = reduceOrElse (reducePolicy P a) (reducePolicy P b)
+      reducePolicy P (stored d) = resolved d
+
+      pub reduceArms : Table → Policies (L .O) → List (ReducedPolicy (L .O))
+      reduceArms P pnil = []
+      reduceArms P (pcons t ts) = reducePolicy P t ∷ reduceArms P ts

@@ -12,7 +12,7 @@ use Rattle.model.specs.Decision.{Decision, Permit, Denial}
 use Rattle.model.specs.Policy.{Policy, Policies}
 use Rattle.model.specs.Evaluate as evaluating
 use Rattle.model.specs.Partial as partial
-use Rattle.model.specs.Partial.{ReducedPolicy, AllWalk, AnyWalk}
+use Rattle.model.specs.Partial.{ReducedPolicy, Order, AllWalk, AnyWalk}
 use Rattle.model.specs.Consulted as consulted
 use Rattle.model.specs.Consulted.{Consulted}
 use Rattle.model.specs.Record as records
@@ -144,14 +144,20 @@ endAll = partial.endAll productSets
 abbrev pub endAny : Table → AnyWalk Outcome → ReducedPolicy Outcome
 endAny = partial.endAny productSets
 
-abbrev pub reducePolicy : Table → Policy Outcome → ReducedPolicy Outcome
+abbrev pub endInOrder : (Policies Outcome → Policy Outcome) → Table → List (ReducedPolicy Outcome) → ReducedPolicy Outcome
+endInOrder = partial.endInOrder productSets
+
+abbrev pub allOf : Order → Table → List (ReducedPolicy Outcome) → ReducedPolicy Outcome
+allOf = partial.allOf productSets
+
+abbrev pub anyOf : Order → Table → List (ReducedPolicy Outcome) → ReducedPolicy Outcome
+anyOf = partial.anyOf productSets
+
+abbrev pub reducePolicy : Order → Table → Policy Outcome → ReducedPolicy Outcome
 reducePolicy = partial.reducePolicy productSets
 
-abbrev pub reduceAll : Table → Policies Outcome → AllWalk Outcome
-reduceAll = partial.reduceAll productSets
-
-abbrev pub reduceAny : Table → Policies Outcome → AnyWalk Outcome
-reduceAny = partial.reduceAny productSets
+abbrev pub reduceArms : Order → Table → Policies Outcome → List (ReducedPolicy Outcome)
+reduceArms = partial.reduceArms productSets
 
 -- ---- the consulted list of an evaluation, and of a reduction
 abbrev pub read : Table → Policy Outcome → Consulted → Consulted
@@ -163,23 +169,23 @@ readAll = consulted.readAll productSets
 abbrev pub readAny : Table → Policies Outcome → Consulted → Consulted
 readAny = consulted.readAny productSets
 
-abbrev pub walk : Table → Policy Outcome → Consulted → Consulted
+abbrev pub walk : Order → Table → Policy Outcome → Consulted → Consulted
 walk = consulted.walk productSets
 
-abbrev pub walkAll : Table → Policies Outcome → Consulted → Consulted
+abbrev pub walkAll : Order → Table → Policies Outcome → Consulted → Consulted
 walkAll = consulted.walkAll productSets
 
-abbrev pub walkAny : Table → Policies Outcome → Consulted → Consulted
+abbrev pub walkAny : Order → Table → Policies Outcome → Consulted → Consulted
 walkAny = consulted.walkAny productSets
 
 -- ---- records
 abbrev pub evaluated : Table → Policy Outcome → Record Outcome
 evaluated = records.evaluated productSets
 
-abbrev pub reduced : Table → Policy Outcome → Record Outcome
+abbrev pub reduced : Order → Table → Policy Outcome → Record Outcome
 reduced = records.reduced productSets
 
-abbrev pub narrowedFrom : Table → ReducedPolicy Outcome → Consulted → Record Outcome
+abbrev pub narrowedFrom : Order → Table → ReducedPolicy Outcome → Consulted → Record Outcome
 narrowedFrom = records.narrowedFrom productSets
 
 abbrev pub completedFrom : Table → ReducedPolicy Outcome → Consulted → Record Outcome
@@ -198,10 +204,10 @@ write = calls.write productSets
 abbrev pub evaluate : List ℕ → List ℕ → ℕ → Answer
 evaluate = calls.evaluate productSets
 
-abbrev pub partialEvaluate : List ℕ → List ℕ → ℕ → Answer
+abbrev pub partialEvaluate : Order → List ℕ → List ℕ → ℕ → Answer
 partialEvaluate = calls.partialEvaluate productSets
 
-abbrev pub narrowResidual : List ℕ → List ℕ → ℕ → Answer
+abbrev pub narrowResidual : Order → List ℕ → List ℕ → ℕ → Answer
 narrowResidual = calls.narrowResidual productSets
 
 abbrev pub completeResidual : List ℕ → List ℕ → ℕ → Answer

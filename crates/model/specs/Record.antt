@@ -4,7 +4,7 @@ use Rattle.model.specs.Facts.{Table}
 use Rattle.model.specs.Outcome.{Outcomes}
 use Rattle.model.specs.Policy.{Policy}
 use Rattle.model.specs.Evaluate.{evalPolicy}
-use Rattle.model.specs.Partial.{ReducedPolicy, resolved, pending, asResidual, reducePolicy}
+use Rattle.model.specs.Partial.{ReducedPolicy, resolved, pending, asResidual, Order, reducePolicy}
 use Rattle.model.specs.Consulted.{Consulted, once, read, walk}
 
 -- Resolved or Pending, and the consulted facts.
@@ -17,20 +17,20 @@ abbrev pub tree : {O : Type 0} → Record O → Policy O
 tree r = asResidual (r .body)
 
 module _ (L : Outcomes) where
-  -- Direct evaluation, and reduction.
+  -- Direct evaluation, and reduction by an order.
   abbrev pub evaluated : Table → Policy (L .O) → Record (L .O)
   evaluated K t = record { body = resolved (evalPolicy L K t); log = read L K t [] }
 
-  abbrev pub reduced : Table → Policy (L .O) → Record (L .O)
-  reduced P t = record { body = reducePolicy L P t; log = walk L P t [] }
+  abbrev pub reduced : Order → Table → Policy (L .O) → Record (L .O)
+  reduced o P t = record { body = reducePolicy L o P t; log = walk L o P t [] }
 
   -- Narrowing: the reducing rules on a Pending record's tree, after the prior consulted facts. A Resolved record comes back equal.
-  abbrev pub narrowedFrom : Table → ReducedPolicy (L .O) → Consulted → Record (L .O)
-  narrowedFrom P (resolved d) l = record { body = resolved d; log = l }
-  narrowedFrom P (pending t) l = record { body = reducePolicy L P t; log = walk L P t (once l) }
+  abbrev pub narrowedFrom : Order → Table → ReducedPolicy (L .O) → Consulted → Record (L .O)
+  narrowedFrom o P (resolved d) l = record { body = resolved d; log = l }
+  narrowedFrom o P (pending t) l = record { body = reducePolicy L o P t; log = walk L o P t (once l) }
 
-  abbrev pub narrowed : Table → Record (L .O) → Record (L .O)
-  narrowed P r = narrowedFrom P (r .body) (r .log)
+  abbrev pub narrowed : Order → Table → Record (L .O) → Record (L .O)
+  narrowed o P r = narrowedFrom o P (r .body) (r .log)
 
   -- Completing: the evaluating rules instead.
   abbrev pub completedFrom : Table → ReducedPolicy (L .O) → Consulted → Record (L .O)

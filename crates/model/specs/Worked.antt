@@ -1,4 +1,4 @@
--- Sheets worked through, by computation, through words and bytes. Document 01, "Sheets worked through", and its wrong turns.
+-- Sheets worked through, by computation, through words and bytes. Document 01, "Sheets worked through", its wrong turns, and those of request 8.
 use mathlib.Core.Path.{_≡_, refl}
 use mathlib.Core.Bool.{Bool, true, false, _&&_}
 use mathlib.Core.List.{List, [], _∷_, _++_}
@@ -6,12 +6,14 @@ use Prim.Native.Nat.{ℕ, zero, suc, _+_}
 use lib.Dec.{eqb}
 use lib.ListN.{replicate, take}
 use Rattle.model.specs.Outcome.{productSets}
+use Rattle.model.specs.Partial.{permitsFirst, sheetOrder}
 use Rattle.model.specs.Calls.{Answer, refusal, wrote, afterwards, evaluate, partialEvaluate, narrowResidual, completeResidual}
 use Rattle.model.specs.Required.{requiredFacts, requiredResidualFacts, isPermitConstant, isDenyConstant, carriesObligation}
 use Rattle.model.specs.Listing.{text, sitting}
 
 pub data Called : Type 0 where
-  evaluates reduces narrows completes : Called
+  evaluates completes : Called
+  reduces narrows reducesInOrder narrowsInOrder : Called
 
 -- A call, the room of its output, its table and its words, and what it must answer.
 pub data Expected : Type 0 where
@@ -23,8 +25,10 @@ pub data Row : Type 0 where
 
 abbrev pub call : Called → List ℕ → List ℕ → ℕ → Answer
 call evaluates given table room = evaluate productSets given table room
-call reduces given table room = partialEvaluate productSets given table room
-call narrows given table room = narrowResidual productSets given table room
+call reduces given table room = partialEvaluate productSets permitsFirst given table room
+call narrows given table room = narrowResidual productSets permitsFirst given table room
+call reducesInOrder given table room = partialEvaluate productSets sheetOrder given table room
+call narrowsInOrder given table room = narrowResidual productSets sheetOrder given table room
 call completes given table room = completeResidual productSets given table room
 
 abbrev pub sameList : List ℕ → List ℕ → Bool

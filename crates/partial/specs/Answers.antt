@@ -5,7 +5,7 @@ use Prim.Native.Nat.{ℕ, _≤_}
 use lib.ListN.{length, take}
 use Rattle.model.specs.Policy.{Policy}
 use Rattle.model.specs.Facts.{Table}
-use Rattle.model.specs.Partial.{pending}
+use Rattle.model.specs.Partial.{pending, Order}
 use Rattle.model.specs.Consulted.{Consulted}
 use Rattle.model.specs.Record.{Record}
 use Rattle.model.specs.Writing.{entryField}
@@ -22,5 +22,5 @@ pub record PutPending (entries : List ℕ) (count : ℕ) (scratch : List ℕ) (s
       Answered (write (length before) (record { body = pending q; log = l })) before after r
 
 -- The record of a policy that is reduced after the facts that were consulted before.
-abbrev pub reducedAfter : Table → Policy Outcome → Consulted → Record Outcome
-reducedAfter P t l = record { body = reducePolicy P t; log = walk P t l }
+abbrev pub reducedAfter : Order → Table → Policy Outcome → Consulted → Record Outcome
+reducedAfter o P t l = record { body = reducePolicy o P t; log = walk o P t l }

@@ -17,6 +17,7 @@ ghost use Rattle.sizes.specs.Laid.{tooMany};
 ghost use Rattle.answer.specs.Answers.{Makes};
 ghost use Rattle.decision.specs.Room.{RoomToUnite};
 ghost use Rattle.clause.specs.Room.{RoomToName};
+ghost use Rattle.partial_policy.specs.Reducing.{orderOf};
 ghost use Rattle.completion.specs.Room.{RoomToList, fewWords, shortWords};
 ghost use Rattle.partial.specs.Answers.{PutPending, reducedAfter};
 ghost use Rattle.partial.specs.Room.{RoomToLeave, middlingWords};
@@ -47,13 +48,15 @@ fn put_pending(entries: &[u16], listed: usize, tree: &[u32], size: usize, out: &
 }
 
 // Reduces the policy at `at` in words that were checked, of at most `depth` levels, after the `consulted` entries, and writes the record: a tree of few words
-// has no more levels than words. Lent for the walk: `entries`, for the facts that are consulted, two for a word at most, `buf`, for united obligations, `named`,
-// for the facts of one clause, and `front` and `tree`, for the nodes that lists keep and for what is left.
+// has no more levels than words. The lists that are left are in sheet order, or have their permits first. Lent for the walk: `entries`, for the facts that are
+// consulted, two for a word at most, `buf`, for united obligations, `named`, for the facts of one clause, and `front` and `tree`, for the nodes that lists
+// keep and for what is left.
 fn reduce_with(
     words: &[u32],
     consulted: usize,
     at: usize,
     depth: usize,
+    in_order: bool,
     facts: &[u8],
     entries: &mut [u16],
     buf: &mut [u8],
@@ -63,7 +66,7 @@ fn reduce_with(
     out: &mut [u32],
 ) -> Answer
     requires { ⌜ (length (now words) ≤ recordWords) × (depth ≤ levels) × (min levels (length (now words)) ≤ depth) × RoomToUnite (depth + 1) (now buf) × RoomToName (now words) (now named) × RoomToLeave (now words) (now front) × RoomToLeave (now words) (now tree) × RoomToList (now words) (now entries) ⌝ }
-    ensures { λ r. ⌜ Makes (reducedAfter (tableOf (now (facts .entry)))) (now (words .entry)) consulted at (now (out .entry)) (now (out .exit)) r ⌝ }
+    ensures { λ r. ⌜ Makes (reducedAfter (orderOf in_order) (tableOf (now (facts .entry)))) (now (words .entry)) consulted at (now (out .entry)) (now (out .exit)) r ⌝ }
 {
     let mut seen = [0u64; SEEN];
     let listed = completion::load_consulted(words, consulted, entries, &mut seen);
@@ -71,6 +74,7 @@ fn reduce_with(
         words,
         at,
         depth,
+        in_order,
         facts,
         entries,
         &mut seen,
@@ -99,9 +103,16 @@ fn reduce_with(
 const MIDDLING: usize = 1024;
 
 // The same of few words, with short lists: to clear long ones would take longer than to reduce. What is left takes at most three times the words.
-fn reduce_few(words: &[u32], consulted: usize, at: usize, facts: &[u8], out: &mut [u32]) -> Answer
+fn reduce_few(
+    words: &[u32],
+    consulted: usize,
+    at: usize,
+    in_order: bool,
+    facts: &[u8],
+    out: &mut [u32],
+) -> Answer
     requires { ⌜ length (now words) ≤ fewWords ⌝ }
-    ensures { λ r. ⌜ Makes (reducedAfter (tableOf (now (facts .entry)))) (now (words .entry)) consulted at (now (out .entry)) (now (out .exit)) r ⌝ }
+    ensures { λ r. ⌜ Makes (reducedAfter (orderOf in_order) (tableOf (now (facts .entry)))) (now (words .entry)) consulted at (now (out .entry)) (now (out .exit)) r ⌝ }
 {
     let mut entries = [0u16; 2 * FEW];
     let mut buf = [0u8; UNITED_FEW];
@@ -113,6 +124,7 @@ fn reduce_few(words: &[u32], consulted: usize, at: usize, facts: &[u8], out: &mu
         consulted,
         at,
         FEW,
+        in_order,
         facts,
         &mut entries,
         &mut buf,
@@ -128,14 +140,15 @@ pub fn reduce_short(
     words: &[u32],
     consulted: usize,
     at: usize,
+    in_order: bool,
     facts: &[u8],
     out: &mut [u32],
 ) -> Answer
     requires { ⌜ length (now words) ≤ shortWords ⌝ }
-    ensures { λ r. ⌜ Makes (reducedAfter (tableOf (now (facts .entry)))) (now (words .entry)) consulted at (now (out .entry)) (now (out .exit)) r ⌝ }
+    ensures { λ r. ⌜ Makes (reducedAfter (orderOf in_order) (tableOf (now (facts .entry)))) (now (words .entry)) consulted at (now (out .entry)) (now (out .exit)) r ⌝ }
 {
     if words.len() <= FEW {
-        return reduce_few(words, consulted, at, facts, out);
+        return reduce_few(words, consulted, at, in_order, facts, out);
     }
     let mut entries = [0u16; 2 * SHORT];
     let mut buf = [0u8; UNITED];
@@ -147,6 +160,7 @@ pub fn reduce_short(
         consulted,
         at,
         LEVELS,
+        in_order,
         facts,
         &mut entries,
         &mut buf,
@@ -162,11 +176,12 @@ fn reduce_middling(
     words: &[u32],
     consulted: usize,
     at: usize,
+    in_order: bool,
     facts: &[u8],
     out: &mut [u32],
 ) -> Answer
     requires { ⌜ length (now words) ≤ middlingWords ⌝ }
-    ensures { λ r. ⌜ Makes (reducedAfter (tableOf (now (facts .entry)))) (now (words .entry)) consulted at (now (out .entry)) (now (out .exit)) r ⌝ }
+    ensures { λ r. ⌜ Makes (reducedAfter (orderOf in_order) (tableOf (now (facts .entry)))) (now (words .entry)) consulted at (now (out .entry)) (now (out .exit)) r ⌝ }
 {
     let mut entries = [0u16; ENTRIES];
     let mut buf = [0u8; UNITED];
@@ -178,6 +193,7 @@ fn reduce_middling(
         consulted,
         at,
         LEVELS,
+        in_order,
         facts,
         &mut entries,
         &mut buf,
@@ -193,14 +209,15 @@ pub fn reduce_long(
     words: &[u32],
     consulted: usize,
     at: usize,
+    in_order: bool,
     facts: &[u8],
     out: &mut [u32],
 ) -> Answer
     requires { ⌜ length (now words) ≤ recordWords ⌝ }
-    ensures { λ r. ⌜ Makes (reducedAfter (tableOf (now (facts .entry)))) (now (words .entry)) consulted at (now (out .entry)) (now (out .exit)) r ⌝ }
+    ensures { λ r. ⌜ Makes (reducedAfter (orderOf in_order) (tableOf (now (facts .entry)))) (now (words .entry)) consulted at (now (out .entry)) (now (out .exit)) r ⌝ }
 {
     if words.len() <= MIDDLING {
-        return reduce_middling(words, consulted, at, facts, out);
+        return reduce_middling(words, consulted, at, in_order, facts, out);
     }
     let mut entries = [0u16; ENTRIES];
     let mut buf = [0u8; UNITED];
@@ -212,6 +229,7 @@ pub fn reduce_long(
         consulted,
         at,
         LEVELS,
+        in_order,
         facts,
         &mut entries,
         &mut buf,

@@ -11,12 +11,12 @@ use Rattle.model.specs.Facts.{Table}
 use Rattle.model.specs.Decision.{permits, denies, genericDeny}
 use Rattle.model.specs.Decision.{Decision as Decided}
 use Rattle.model.specs.Policy.{Policy, orElse, Policies, pnil, pcons}
-use Rattle.model.specs.Partial.{resolved, pending, AllWalk, stop, go, AnyWalk, parts, reduceOrElse}
+use Rattle.model.specs.Partial.{resolved, pending, Order, permitsFirst, AllWalk, stop, go, walkedAll, AnyWalk, parts, walkedAny, reduceOrElse}
 use Rattle.model.specs.Partial as model
 use Rattle.model.specs.Consulted.{Consulted, unlessPermitted}
 use Rattle.model.specs.Writing.{count}
 use Rattle.model.specs.Reading.{Parsed, got, next, many}
-use Rattle.model.specs.Products.{Outcome, endAll, endAny, reducePolicy, reduceAll, reduceAny, walk, encodeD, encode, readPolicy}
+use Rattle.model.specs.Products.{Outcome, endAll, endAny, reducePolicy, reduceArms, walk, encodeD, encode, readPolicy}
 use Rattle.laws.specs.FieldLaws.{Holds, fine, weaker, then-holds, both-hold}
 use Rattle.laws.specs.Size.{words, wordss}
 use Rattle.policy_model.specs.declared.PolicyHead.the-variants.{OrElse}
@@ -34,18 +34,19 @@ use Rattle.evaluate.proofs.Arms.{decides, decides-as, arms-more, skipped, one-p
 use Rattle.sizes.specs.Laid.{tooMany, capped, Laid}
 use Rattle.sizes.specs.LaidLaws.{laid-as, laid-none}
 use Rattle.residual.specs.Weight.{weightD, weight, weights}
-use Rattle.partial_policy.specs.declared.ReducedPolicy.{ReducedPolicy}
-use Rattle.partial_policy.specs.declared.Sofar.{Sofar}
-use Rattle.partial_policy.specs.Keeping.{Walked, walked, append, withArm, stops, thenAll, thenAny, leftOf, readOf, listOf, asDecisions, sofarValue, foldNext, isOpen, armsWith, endOf, weightsD, encodesD}
-use Rattle.partial_policy.specs.KeepingLaws.{left-more, read-more, left-stop, read-stop, value-more, begun-more, open-more, left-none, end-none, end-some, nodes-more, node-words-more, node-count-more, pend-more, pend-words-more, pend-count-more}
-use Rattle.partial_policy.specs.Within.{LaidWithin}
-use Rattle.partial_policy.specs.WithinLaws.{within, within-less, within-as, within-then, within-still, laid-still}
-use Rattle.partial_policy.specs.Reducing.{resolvedTo, leftTo, Result, ReducedTo, ReducesP, ReducesBy, sofarOf, listHead, Bounded, SofarIs, DecisionAdded, ArmAdded, ListEnds, OrElsePut}
-use Rattle.partial_policy.proofs.Adding.{clash}
+use Rattle.partial_list.specs.declared.ReducedPolicy.{ReducedPolicy}
+use Rattle.partial_list.specs.declared.Sofar.{Sofar}
+use Rattle.partial_list.specs.Keeping.{Walked, walked, append, withArm, stops, thenAll, thenAny, leftOf, readOf, listOf, asDecisions, sofarValue, foldNext, isOpen, armsWith, endOf, weightsD, encodesD}
+use Rattle.partial_list.specs.KeepingLaws.{left-more, read-more, left-stop, read-stop, read-none, read-start, value-more, begun-more, open-more, left-none, end-none, end-some, nodes-more, node-words-more, node-count-more, pend-more, pend-words-more, pend-count-more}
+use Rattle.partial_list.specs.Within.{LaidWithin}
+use Rattle.partial_list.specs.WithinLaws.{within, within-less, within-as, within-then, within-still, laid-still}
+use Rattle.partial_list.specs.Answers.{resolvedTo, leftTo, Result, sofarOf, Bounded, SofarIs, DecisionAdded, ArmAdded, ListEnds}
+use Rattle.partial_policy.specs.Reducing.{ReducedTo, ReducesP, ReducesBy, listHead, OrElsePut}
+use Rattle.partial_list.proofs.Adding.{clash}
 use Rattle.decision.specs.Room.{obligationRoom}
 
 -- ---- what comes back of a slice whose tail was lent
-abbrev back : ℕ → List ℕ → List ℕ → List ℕ
+abbrev pub back : ℕ → List ℕ → List ℕ → List ℕ
 back from mid part = take from mid ++ (part ++ drop (length mid - from) (drop from mid))
 
 back-long : (from : ℕ) (mid part : List ℕ) → from ≤ length mid → length part ≡ length mid - from → length (back from mid part) ≡ length mid
@@ -60,10 +61,10 @@ back-part from mid part h =
 
 -- ---- whether an arm stops the list
 module _ (T : Table) (W buf : List ℕ) (room : ℕ) (out : List ℕ) (a : ReducedPolicy) where
-  decided-as : (D : Decided Outcome) → Result (resolved D) T W buf room out a → a .decision .permit ≡ decides D
+  pub decided-as : (D : Decided Outcome) → Result (resolved D) T W buf room out a → a .decision .permit ≡ decides D
   decided-as D x = sym (decides-as W T buf (a .decision)) ∙ ap decides (x .decision-is)
 
-  settled-as : (x : model.ReducedPolicy Outcome) → Result x T W buf room out a → (every : Bool) → stops every x ≡ (every && (not (a .pending) && not (a .decision .permit)))
+  pub settled-as : (x : model.ReducedPolicy Outcome) → Result x T W buf room out a → (every : Bool) → stops every x ≡ (every && (not (a .pending) && not (a .decision .permit)))
   settled-as x h false = refl
   settled-as (resolved (permits p)) h true = rw (h .settled, decided-as (permits p) h)
   settled-as (resolved (denies d)) h true = rw (h .settled, decided-as (denies d) h)
@@ -159,16 +160,16 @@ pub record ArmsLeft (every : Bool) (P : Table) (W : List ℕ) (v : Sofar) (buf f
   pub few : r .decision .united ≤ obligationRoom
   pub bound : r .size ≤ tooMany
   pub says : (k : Walked) → SofarIs every P W k v buf front out →
-      Holds (λ ts rest. ReducedTo (leftOf every P k ts) (at + wordss ts) (readOf every P ts) P W s r t buf′ (length front) out′) (many pnil pcons (readPolicy true depth) arms (drop at W))
+      Holds (λ ts rest. ReducedTo (leftOf every P k ts) (at + wordss ts) (readOf permitsFirst every P ts) P W s r t buf′ (length front) out′) (many pnil pcons (readPolicy true depth) arms (drop at W))
 
 module _ (every : Bool) (P : Table) (W : List ℕ) (depth : ℕ) (s m t : Lent) (a r : ReducedPolicy) (v : Sofar) (buf front out part opart : List ℕ) (room : ℕ) (buf′ out′ : List ℕ) (at arms : ℕ) (some : arms ≡ 0 → ⊥)
-    (first : ReducesP P W at depth s a m part room opart) where
+    (first : ReducesP permitsFirst P W at depth s a m part room opart) where
   abbrev Whole : Walked → Policy Outcome → Policies Outcome → List ℕ → Type 0
-  Whole k p ts rest = ReducedTo (leftOf every P k (pcons p ts)) (at + wordss (pcons p ts)) (readOf every P (pcons p ts)) P W s r t buf′ (length front) out′
+  Whole k p ts rest = ReducedTo (leftOf every P k (pcons p ts)) (at + wordss (pcons p ts)) (readOf permitsFirst every P (pcons p ts)) P W s r t buf′ (length front) out′
 
   -- By the answer a to the first arm.
   arm-first : r .decision .united ≤ obligationRoom → r .size ≤ tooMany →
-      ((k : Walked) (p : Policy Outcome) → SofarIs every P W k v buf front out → ReducedTo (reducePolicy P p) (at + words p) (walk P p) P W s a m part room opart →
+      ((k : Walked) (p : Policy Outcome) → SofarIs every P W k v buf front out → ReducedTo (reducePolicy permitsFirst P p) (at + words p) (walk permitsFirst P p) P W s a m part room opart →
       Holds (Whole k p) (many pnil pcons (readPolicy true depth) (arms - 1) (drop (a .next) W))) →
       ArmsLeft every P W v buf front out at depth arms s r t buf′ out′
   arm-first few bound f =
@@ -191,13 +192,13 @@ module _ (every : Bool) (P : Table) (W : List ℕ) (depth : ℕ) (s m t : Lent) 
       ArmsLeft every P W v′ mid front′ omid (a .next) depth (arms - 1) m r t buf′ out′ → ArmsLeft every P W v buf front out at depth arms s r t buf′ out′
   arm-goes v′ mid front′ omid long more e rest =
       arm-first (rest .few) (rest .bound) (λ k p z h.
-      let x = reducePolicy P p in
+      let x = reducePolicy permitsFirst P p in
       let on : stops every x ≡ false = settled-as P W part room opart a x (h .result) every ∙ sym e in
       weaker (many pnil pcons (readPolicy true depth) (arms - 1) (drop (a .next) W)) (λ ts us g. record {
         result = subst (λ n. Result (leftOf every P k (pcons p ts)) P W buf′ n out′ r) long
             (subst (λ y. Result y P W buf′ (length front′) out′ r) (sym (left-more every P k p ts on)) (g .result));
         next-is = omega (arith, h .next-is, g .next-is);
-        log = consults-as (λ l. read-more every P p ts l on) (consults-then (h .log) (g .log));
+        log = consults-as (λ l. read-more permitsFirst every P p ts l on) (consults-then (h .log) (g .log));
       })
       (rest .says (withArm k x) (more k x z (h .result) on)))
 
@@ -216,26 +217,22 @@ stopped-by true P W part mid room opart out′ a n next count (resolved (denies 
 stopped-by true P W part mid room opart out′ a n next count (pending q) e h = clash true refl (sym e)
 
 pub arm-stops : (every : Bool) (P : Table) (W : List ℕ) (depth : ℕ) (s m : Lent) (a : ReducedPolicy) (v : Sofar) (buf front out part opart : List ℕ) (room : ℕ) (mid out′ : List ℕ) (at arms end : ℕ) → (arms ≡ 0 → ⊥) →
-    ReducesP P W at depth s a m part room opart → true ≡ (every && (not (a .pending) && not (a .decision .permit))) →
+    ReducesP permitsFirst P W at depth s a m part room opart → true ≡ (every && (not (a .pending) && not (a .decision .permit))) →
     ((depth : ℕ) (res : Bool) → Skipped wordss (a .next) (many pnil pcons (readPolicy res depth) (arms - 1) (drop (a .next) W)) end) →
     ArmsLeft every P W v buf front out at depth arms s (resolvedTo (a .decision) end (a .count)) m mid out′
 arm-stops every P W depth s m a v buf front out part opart room mid out′ at arms end some first e k =
     arm-first every P W depth s m m a (resolvedTo (a .decision) end (a .count)) v buf front out part opart room mid out′ at arms some first (first .few) (omega arith) (λ w p z h.
-    let x = reducePolicy P p in
+    let x = reducePolicy permitsFirst P p in
     let stop-here : stops every x ≡ true = settled-as P W part room opart a x (h .result) every ∙ sym e in
     weaker (many pnil pcons (readPolicy true depth) (arms - 1) (drop (a .next) W)) (λ ts us g. record {
       result = subst (λ y. Result y P W mid (length front) out′ (resolvedTo (a .decision) end (a .count))) (sym (left-stop every P w p ts stop-here))
           (stopped-by every P W part mid room opart out′ a (length front) end (a .count) x stop-here (h .result));
       next-is = omega (arith, h .next-is, g);
-      log = consults-as (λ l. read-stop every P p ts l stop-here) (h .log);
+      log = consults-as (λ l. read-stop permitsFirst every P p ts l stop-here) (h .log);
     })
     (skipped wordss (a .next) end (many pnil pcons (readPolicy true depth) (arms - 1) (drop (a .next) W)) (k depth true)))
 
 -- No arm is left.
-read-none : (every : Bool) (P : Table) (l : Consulted) → readOf every P pnil l ≡ l
-read-none true P l = refl
-read-none false P l = refl
-
 ended-as : (every : Bool) (P : Table) (W : List ℕ) (v : Sofar) (next count : ℕ) (buf front out buf′ out′ : List ℕ) (r : ReducedPolicy) (k : Walked) (b : Bool) → v .pending ≡ b → SofarIs every P W k v buf front out →
     ListEnds every P W v next count buf front out buf′ out′ r → Result (endOf every P k) P W buf′ (length front) out′ r
 ended-as every P W v next count buf front out buf′ out′ r k true p s e =
@@ -255,12 +252,12 @@ arms-end every P W v buf front out at depth arms listed entries seen r buf′ ou
       says = λ k s. fine (record {
         result = subst (λ y. Result y P W buf′ (length front) out′ r) (sym (left-none every P k)) (ended-as every P W v at listed buf front out buf′ out′ r k (v .pending) refl s e);
         next-is = omega (arith, e .next-is);
-        log = consults-as (read-none every P) consults-none;
+        log = consults-as (read-none permitsFirst every P) consults-none;
       });
     }))
 
 -- ---- the node that has the arms
-first-word : {room : ℕ} (out : List ℕ) → LaidWithin room 1 (getD out 0 0 ∷ []) out 1
+pub first-word : {room : ℕ} (out : List ℕ) → LaidWithin room 1 (getD out 0 0 ∷ []) out 1
 first-word [] = within (record { size-is = refl; front = λ few fits. absurd (omega arith) })
 first-word (x ∷ out) = within (record { size-is = refl; front = λ few fits. refl })
 
@@ -271,15 +268,11 @@ start-all (go ps qs) = refl
 start-any : (w : AnyWalk Outcome) → thenAny [] none pnil w ≡ w
 start-any (parts ps first qs) = refl
 
-start-left : (every : Bool) (P : Table) (ts : Policies Outcome) → leftOf every P (walked [] none pnil) ts ≡ reducePolicy P (listOf every ts)
-start-left true P ts = ap (endAll P) (start-all (reduceAll P ts))
-start-left false P ts = ap (endAny P) (start-any (reduceAny P ts))
+start-left : (every : Bool) (P : Table) (ts : Policies Outcome) → leftOf every P (walked [] none pnil) ts ≡ reducePolicy permitsFirst P (listOf every ts)
+start-left true P ts = ap (endAll P) (start-all (walkedAll (reduceArms permitsFirst P ts)))
+start-left false P ts = ap (endAny P) (start-any (walkedAny (reduceArms permitsFirst P ts)))
 
-start-read : (every : Bool) (P : Table) (ts : Policies Outcome) (l : Consulted) → walk P (listOf every ts) l ≡ readOf every P ts l
-start-read true P ts l = refl
-start-read false P ts l = refl
-
-start-words : (every : Bool) (ts : Policies Outcome) → words (listOf every ts) ≡ 1 + wordss ts
+pub start-words : (every : Bool) (ts : Policies Outcome) → words (listOf every ts) ≡ 1 + wordss ts
 start-words true ts = refl
 start-words false ts = refl
 
@@ -287,7 +280,7 @@ start-value : (every : Bool) → sofarValue every (walked [] none pnil) ≡ deni
 start-value true = refl
 start-value false = refl
 
-list-reads : (every : Bool) (pc : _) (p : List ℕ → Parsed (Policy Outcome)) (n : ℕ) (ws : List ℕ) → policyNode pc p (listHead every n) ws ≡ next (many pnil pcons p n ws) (λ ts vs. got (listOf every ts) vs)
+pub list-reads : (every : Bool) (pc : _) (p : List ℕ → Parsed (Policy Outcome)) (n : ℕ) (ws : List ℕ) → policyNode pc p (listHead every n) ws ≡ next (many pnil pcons p n ws) (λ ts vs. got (listOf every ts) vs)
 unfolding policyNode
 list-reads true pc p n ws = refl
 list-reads false pc p n ws = refl
@@ -309,7 +302,7 @@ module _ (every : Bool) (P : Table) (W : List ℕ) (at depth n : ℕ) (s : Lent)
     pending-is = refl;
   }
 
-  pub list-node : ArmsLeft every P W (noneYet end) buf front out (at + 1) depth n s r t buf′ out′ → ReducesBy (listHead every n) P W at depth s r t buf′ (length front) out′
+  pub list-node : ArmsLeft every P W (noneYet end) buf front out (at + 1) depth n s r t buf′ out′ → ReducesBy permitsFirst (listHead every n) P W at depth s r t buf′ (length front) out′
   list-node a = record {
     few = a .few;
     bound = a .bound;
@@ -317,7 +310,7 @@ module _ (every : Bool) (P : Table) (W : List ℕ) (at depth n : ℕ) (s : Lent)
         (then-holds (many pnil pcons (readPolicy true depth) n (drop (at + 1) W)) (λ ts vs. got (listOf every ts) vs) (a .says (walked [] none pnil) none-kept) (λ ts rest h. fine (record {
           result = subst (λ x. Result x P W buf′ (length front) out′ r) (start-left every P ts) (h .result);
           next-is = omega (arith, h .next-is, start-words every ts);
-          log = consults-as (start-read every P ts) (h .log);
+          log = consults-as (read-start permitsFirst every P ts) (h .log);
         }))));
   }
 
@@ -334,15 +327,15 @@ pub record Going (Left Whole : ReducedPolicy → Lent → List ℕ → List ℕ 
   pub goes : (r : ReducedPolicy) (t : Lent) (buf′ out′ : List ℕ) → Left r t buf′ out′ → Whole r t buf′ out′
 
 -- ---- OrElse
-module _ (P : Table) (W : List ℕ) (at depth : ℕ) (s m : Lent) (a : ReducedPolicy) (mid : List ℕ) (room : ℕ) (opart : List ℕ) (lt : at < length W) (first : ReducesP P W (at + 1) depth s a m mid room opart) where
+module _ {order : Order} (P : Table) (W : List ℕ) (at depth : ℕ) (s m : Lent) (a : ReducedPolicy) (mid : List ℕ) (room : ℕ) (opart : List ℕ) (lt : at < length W) (first : ReducesP order P W (at + 1) depth s a m mid room opart) where
   abbrev one : List ℕ → Parsed (Policy Outcome)
   one = readPolicy true depth
 
   -- By the answer a to the primary.
   or-first : (r : ReducedPolicy) (t : Lent) (buf : List ℕ) (n : ℕ) (out : List ℕ) → r .decision .united ≤ obligationRoom → r .size ≤ tooMany →
-      ((x : Policy Outcome) → ReducedTo (reducePolicy P x) (at + 1 + words x) (walk P x) P W s a m mid room opart →
-      Holds (λ y rest. ReducedTo (reducePolicy P (orElse x y)) (at + words (orElse x y)) (walk P (orElse x y)) P W s r t buf n out) (one (drop (a .next) W))) →
-      ReducesBy OrElse P W at depth s r t buf n out
+      ((x : Policy Outcome) → ReducedTo (reducePolicy order P x) (at + 1 + words x) (walk order P x) P W s a m mid room opart →
+      Holds (λ y rest. ReducedTo (reducePolicy order P (orElse x y)) (at + words (orElse x y)) (walk order P (orElse x y)) P W s r t buf n out) (one (drop (a .next) W))) →
+      ReducesBy order OrElse P W at depth s r t buf n out
   unfolding policyNode
   or-first r t buf n out few bound f = record {
     few = few;
@@ -352,7 +345,7 @@ module _ (P : Table) (W : List ℕ) (at depth : ℕ) (s m : Lent) (a : ReducedPo
         (both-hold (one (drop (at + 1) W)) (first .says true) (policy-leaves true depth (drop (at + 1) W))) (λ x vs h.
         let after : drop (a .next) W ≡ vs = ap (λ i. drop i W) (h .0 .next-is) ∙ sym (drop-drop (words x) (at + 1) W) ∙ h .1 in
         then-holds (one vs) (λ y us. got (orElse x y) us)
-        (subst (λ ws. Holds (λ y rest. ReducedTo (reducePolicy P (orElse x y)) (at + words (orElse x y)) (walk P (orElse x y)) P W s r t buf n out) (one ws)) after (f x (h .0))) (λ y us g. fine g)));
+        (subst (λ ws. Holds (λ y rest. ReducedTo (reducePolicy order P (orElse x y)) (at + words (orElse x y)) (walk order P (orElse x y)) P W s r t buf n out) (one ws)) after (f x (h .0))) (λ y us g. fine g)));
   }
 
   -- A resolved permit is the answer, and the fallback is passed over.
@@ -369,13 +362,13 @@ module _ (P : Table) (W : List ℕ) (at depth : ℕ) (s m : Lent) (a : ReducedPo
 
   pub or-permits : (end n : ℕ) (out : List ℕ) → a .pending ≡ false → a .decision .permit ≡ true →
       ((depth : ℕ) (res : Bool) → Skipped wordss (a .next) (many pnil pcons (readPolicy res depth) 1 (drop (a .next) W)) end) →
-      ReducesBy OrElse P W at depth s (resolvedTo (a .decision) end (a .count)) m mid n out
+      ReducesBy order OrElse P W at depth s (resolvedTo (a .decision) end (a .count)) m mid n out
   or-permits end n out e q k =
       or-first (resolvedTo (a .decision) end (a .count)) m mid n out (first .few) (omega arith) (λ x h.
       weaker (one (drop (a .next) W)) (λ y rest g. record {
-        result = permits-first (reducePolicy P x) (reducePolicy P y) n out end (h .result) e q;
+        result = permits-first (reducePolicy order P x) (reducePolicy order P y) n out end (h .result) e q;
         next-is = omega (arith, h .next-is, g);
-        log = consults-as (λ l. permits-read (reducePolicy P x) (walk P x l) (walk P y (walk P x l)) (h .result) e q) (h .log);
+        log = consults-as (λ l. permits-read (reducePolicy order P x) (walk order P x l) (walk order P y (walk order P x l)) (h .result) e q) (h .log);
       })
       (one-passed (a .next) end (one (drop (a .next) W)) (skipped wordss (a .next) end (many pnil pcons one 1 (drop (a .next) W)) (k depth true))))
 
@@ -391,14 +384,14 @@ module _ (P : Table) (W : List ℕ) (at depth : ℕ) (s m : Lent) (a : ReducedPo
     on-read (resolved (denies d)) here on h q = refl
     on-read (pending z) here on h q = refl
 
-    pub or-denies : (n : ℕ) (out : List ℕ) → a .pending ≡ false → a .decision .permit ≡ false → (n′ : ℕ) → ReducesP P W (a .next) depth m b t buf n′ out → n′ ≡ n → ReducesBy OrElse P W at depth s b t buf n out
+    pub or-denies : (n : ℕ) (out : List ℕ) → a .pending ≡ false → a .decision .permit ≡ false → (n′ : ℕ) → ReducesP order P W (a .next) depth m b t buf n′ out → n′ ≡ n → ReducesBy order OrElse P W at depth s b t buf n out
     or-denies n out e q n′ second₀ z =
-        let second : ReducesP P W (a .next) depth m b t buf n out = subst (λ i. ReducesP P W (a .next) depth m b t buf i out) z second₀ in
+        let second : ReducesP order P W (a .next) depth m b t buf n out = subst (λ i. ReducesP order P W (a .next) depth m b t buf i out) z second₀ in
         or-first b t buf n out (second .few) (second .bound) (λ x h.
         weaker (one (drop (a .next) W)) (λ y rest g. record {
-          result = denies-first (reducePolicy P x) (reducePolicy P y) n out (h .result) e q (g .result);
+          result = denies-first (reducePolicy order P x) (reducePolicy order P y) n out (h .result) e q (g .result);
           next-is = omega (arith, h .next-is, g .next-is);
-          log = consults-as (λ l. on-read (reducePolicy P x) (walk P x l) (walk P y (walk P x l)) (h .result) (λ _. q)) (consults-then (h .log) (g .log));
+          log = consults-as (λ l. on-read (reducePolicy order P x) (walk order P x l) (walk order P y (walk order P x l)) (h .result) (λ _. q)) (consults-then (h .log) (g .log));
         })
         (second .says true))
 
@@ -417,14 +410,14 @@ module _ (P : Table) (W : List ℕ) (at depth : ℕ) (s m : Lent) (a : ReducedPo
         record { unsettled = refl; left = k .put (weight q) (getD out 0 0) room (encode q) y stays (subst (λ us. Result y P W buf room us b) there i) }
 
     pub or-open : (out opart₂ buf′ out′ : List ℕ) (from behind used size end : ℕ) → a .pending ≡ true → from ≡ min 1 (length out) → length opart ≡ length out - from → used ≡ capped (1 + a .size) →
-        behind ≡ min used (length (back from out opart)) → length opart₂ ≡ length (back from out opart) - behind → (room′ : ℕ) → ReducesP P W (a .next) depth m b t buf room′ opart₂ → room′ ≡ room →
-        OrElsePut P W used b buf (back behind (back from out opart) opart₂) out′ size → ReducesBy OrElse P W at depth s (leftTo size end (b .next) (b .count)) t buf′ room out′
+        behind ≡ min used (length (back from out opart)) → length opart₂ ≡ length (back from out opart) - behind → (room′ : ℕ) → ReducesP order P W (a .next) depth m b t buf room′ opart₂ → room′ ≡ room →
+        OrElsePut P W used b buf (back behind (back from out opart) opart₂) out′ size → ReducesBy order OrElse P W at depth s (leftTo size end (b .next) (b .count)) t buf′ room out′
     or-open out opart₂ buf′ out′ from behind used size end p f long u g long₂ room′ second₀ z k =
-        let second : ReducesP P W (a .next) depth m b t buf room opart₂ = subst (λ i. ReducesP P W (a .next) depth m b t buf i opart₂) z second₀ in
+        let second : ReducesP order P W (a .next) depth m b t buf room opart₂ = subst (λ i. ReducesP order P W (a .next) depth m b t buf i opart₂) z second₀ in
         or-first (leftTo size end (b .next) (b .count)) t buf′ room out′ (omega arith) (k .bound) (λ x h.
         weaker (one (drop (a .next) W)) (λ y rest i. record {
-          result = open-first (reducePolicy P x) (reducePolicy P y) out opart₂ buf′ out′ from behind used size end (b .next) (b .count) p f long u g long₂ k (h .result) (i .result);
+          result = open-first (reducePolicy order P x) (reducePolicy order P y) out opart₂ buf′ out′ from behind used size end (b .next) (b .count) p f long u g long₂ k (h .result) (i .result);
           next-is = omega (arith, h .next-is, i .next-is);
-          log = consults-as (λ l. on-read (reducePolicy P x) (walk P x l) (walk P y (walk P x l)) (h .result) (λ q. clash (a .pending) p q)) (consults-then (h .log) (i .log));
+          log = consults-as (λ l. on-read (reducePolicy order P x) (walk order P x l) (walk order P y (walk order P x l)) (h .result) (λ q. clash (a .pending) p q)) (consults-then (h .log) (i .log));
         })
         (second .says true))

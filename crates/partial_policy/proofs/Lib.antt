@@ -1,4 +1,4 @@
-pub mod Adding
-pub mod Ending
+pub mod Parts
 pub mod Nodes
 pub mod Arms
+pub mod InOrder

@@ -18,7 +18,7 @@ use Rattle.model.specs.Condition as model-condition
 use Rattle.model.specs.Consulted.{Consulted, consult, consultKnown, walkC}
 use Rattle.model.specs.Policy.{Policy, Grant as Clause, grant}
 use Rattle.model.specs.Evaluate.{evalGrant}
-use Rattle.model.specs.Partial.{known, pendingC, reduceHas, reduceCondition, resolved, pending, reduceGrant}
+use Rattle.model.specs.Partial.{known, pendingC, reduceHas, reduceCondition, resolved, pending, Order, reduceGrant}
 use Rattle.model.specs.Partial as model
 use Rattle.model.specs.Writing.{obligationBits, encodeC}
 use Rattle.model.specs.Reading.{Parsed, refuse, got, kindOf, restOf, fewObligations, readCondition}
@@ -56,37 +56,38 @@ use Rattle.sizes.specs.LaidLaws.{laid-then, laid-as}
 use Rattle.partial_condition.specs.declared.ReducedCondition.{ReducedCondition}
 use Rattle.partial_condition.specs.Reducing as condition
 use Rattle.residual.specs.Weight.{weight}
-use Rattle.partial_policy.specs.declared.ReducedPolicy.{ReducedPolicy}
-use Rattle.partial_policy.specs.WithinLaws.{within}
-use Rattle.partial_policy.specs.Reducing.{resolvedTo, leftTo, Result, ReducedTo, ReducesP, ReducesBy, ReducesConstant, SettledGrant}
-use Rattle.partial_policy.proofs.Adding.{clash}
+use Rattle.partial_list.specs.declared.ReducedPolicy.{ReducedPolicy}
+use Rattle.partial_list.specs.WithinLaws.{within}
+use Rattle.partial_list.specs.Answers.{resolvedTo, leftTo, Result}
+use Rattle.partial_policy.specs.Reducing.{ReducedTo, ReducesP, ReducesBy, ReducesConstant, SettledGrant}
+use Rattle.partial_list.proofs.Adding.{clash}
 use Rattle.decision.specs.Room.{obligationRoom}
 
 -- ---- a policy by its head
-module _ (P : Table) (W : List ℕ) (at depth : ℕ) (s : Lent) (r : ReducedPolicy) (t : Lent) (buf : List ℕ) (room : ℕ) (out : List ℕ) where
-  pub by-head : (h : PolicyHead) → (depth ≡ 0 → ⊥) → h ≡ policyHead (getD W at 0) true → ReducesBy h P W at (depth - 1) s r t buf room out → ReducesP P W at depth s r t buf room out
+module _ {order : Order} (P : Table) (W : List ℕ) (at depth : ℕ) (s : Lent) (r : ReducedPolicy) (t : Lent) (buf : List ℕ) (room : ℕ) (out : List ℕ) where
+  pub by-head : (h : PolicyHead) → (depth ≡ 0 → ⊥) → h ≡ policyHead (getD W at 0) true → ReducesBy order h P W at (depth - 1) s r t buf room out → ReducesP order P W at depth s r t buf room out
   by-head h f e a = record { few = a .few; bound = a .bound; says = in-sheet depth (drop at W) (one-level depth (drop at W) f (a .says e)) }
 
   -- Words that don't read.
-  pub reduce-end : t ≡ s → r .decision .united ≤ obligationRoom → r .size ≤ tooMany → length W ≤ at → ReducesP P W at depth s r t buf room out
+  pub reduce-end : t ≡ s → r .decision .united ≤ obligationRoom → r .size ≤ tooMany → length W ≤ at → ReducesP order P W at depth s r t buf room out
   reduce-end e few bound h = rw e (record { few = few; bound = bound; says = λ res. rw (no-word W at h, nothing-there res depth) nothing })
 
-  pub reduce-limit : t ≡ s → r .decision .united ≤ obligationRoom → r .size ≤ tooMany → depth ≡ 0 → ReducesP P W at depth s r t buf room out
+  pub reduce-limit : t ≡ s → r .decision .united ≤ obligationRoom → r .size ≤ tooMany → depth ≡ 0 → ReducesP order P W at depth s r t buf room out
   reduce-limit e few bound z = rw e (record { few = few; bound = bound; says = λ res. rw z (no-levels res (drop at W)) })
 
 -- ---- what is evaluated: the tags of its heads
 abbrev constants : List ℕ
 constants = 0 ∷ 1 ∷ 6 ∷ 7 ∷ 8 ∷ 9 ∷ []
 
-record Constant (P : Table) (p : Policy Outcome) (rest : List ℕ) : Type 0 where
-  value-is : reducePolicy P p ≡ resolved (evalPolicy P p)
-  read-is : (l : Consulted) → walk P p l ≡ read P p l
+record Constant (order : Order) (P : Table) (p : Policy Outcome) (rest : List ℕ) : Type 0 where
+  value-is : reducePolicy order P p ≡ resolved (evalPolicy P p)
+  read-is : (l : Consulted) → walk order P p l ≡ read P p l
 
 whatever : {A : Type 0} (q : Parsed A) → Holds (λ _ _. Unit {0}) q
 whatever (refuse n) = nothing
 whatever (got a ws) = fine tt
 
-constant-there : (pc : List ℕ → Parsed Condition) (p : List ℕ → Parsed (Policy Outcome)) (P : Table) (h : PolicyHead) (ws : List ℕ) → OneOf constants (tagOf the-type h) → Holds (Constant P) (policyNode pc p h ws)
+constant-there : {order : Order} (pc : List ℕ → Parsed Condition) (p : List ℕ → Parsed (Policy Outcome)) (P : Table) (h : PolicyHead) (ws : List ℕ) → OneOf constants (tagOf the-type h) → Holds (Constant order P) (policyNode pc p h ws)
 unfolding policyNode
 constant-there pc p P (Permit o) ws k = fine (record { value-is = refl; read-is = λ l. refl })
 constant-there pc p P Deny ws k = fine (record { value-is = refl; read-is = λ l. refl })
@@ -101,8 +102,8 @@ constant-there pc p P BadKind ws k = nothing
 constant-there pc p P BadField ws k = nothing
 
 -- The answer is that of evaluation.
-evaluated : (P : Table) (W : List ℕ) (at depth : ℕ) (s : Lent) (e : PolicyEval) (t : Lent) (buf : List ℕ) (room : ℕ) (out : List ℕ) → EvaluatesP P W at depth s e t buf →
-    Holds (Constant P) (policyAt W at depth) → ReducesP P W at depth s (resolvedTo (e .decision) (e .next) (e .count)) t buf room out
+evaluated : {order : Order} (P : Table) (W : List ℕ) (at depth : ℕ) (s : Lent) (e : PolicyEval) (t : Lent) (buf : List ℕ) (room : ℕ) (out : List ℕ) → EvaluatesP P W at depth s e t buf →
+    Holds (Constant order P) (policyAt W at depth) → ReducesP order P W at depth s (resolvedTo (e .decision) (e .next) (e .count)) t buf room out
 evaluated P W at depth s e t buf room out answers c = record {
   few = answers .few;
   bound = omega arith;
@@ -116,8 +117,8 @@ evaluated P W at depth s e t buf room out answers c = record {
       (both-hold (policyAt W at depth) (answers .says true) c));
 }
 
-pub reduce-constant : (P : Table) (W : List ℕ) (at depth : ℕ) (s : Lent) (r : ReducedPolicy) (t : Lent) (buf : List ℕ) (room : ℕ) (out : List ℕ) (h : PolicyHead) → at < length W → (depth ≡ 0 → ⊥) → h ≡ policyHead (getD W at 0) true →
-    OneOf constants (tagOf the-type h) → ReducesConstant P W at depth s r t buf → ReducesP P W at depth s r t buf room out
+pub reduce-constant : {order : Order} (P : Table) (W : List ℕ) (at depth : ℕ) (s : Lent) (r : ReducedPolicy) (t : Lent) (buf : List ℕ) (room : ℕ) (out : List ℕ) (h : PolicyHead) → at < length W → (depth ≡ 0 → ⊥) → h ≡ policyHead (getD W at 0) true →
+    OneOf constants (tagOf the-type h) → ReducesConstant P W at depth s r t buf → ReducesP order P W at depth s r t buf room out
 reduce-constant P W at depth s r t buf room out h lt f e k c =
     rw (c .is)
     (evaluated P W at depth s (c .eval) t buf room out (c .evaluates)
@@ -192,7 +193,7 @@ own-words g c d rest n long =
 
 module _ (P : Table) (W : List ℕ) (at depth : ℕ) (hidden : Bool) (n o own : ℕ) (lt : at < length W) (deep : depth < 32) (own-is : own ≡ 2 + (n + 3) / 4) where
   -- A grant that ends early.
-  pub grant-short : (s : Lent) (r : ReducedPolicy) (buf : List ℕ) (room : ℕ) (out : List ℕ) → r .decision .united ≤ obligationRoom → r .size ≤ tooMany → length W - at < own → ReducesBy (Grant hidden n o) P W at depth s r s buf room out
+  pub grant-short : {order : Order} (s : Lent) (r : ReducedPolicy) (buf : List ℕ) (room : ℕ) (out : List ℕ) → r .decision .united ≤ obligationRoom → r .size ≤ tooMany → length W - at < own → ReducesBy order (Grant hidden n o) P W at depth s r s buf room out
   unfolding policyNode
   grant-short s r buf room out few bound h = record {
     few = few;
@@ -261,33 +262,33 @@ module _ (P : Table) (W : List ℕ) (at depth : ℕ) (hidden : Bool) (n o own : 
 
   -- Its answer, by the condition's.
   module _ (a : ReducedCondition) (s t : Lent) (part : List ℕ) (buf : List ℕ) (room : ℕ) (out : List ℕ) (c : condition.ReducesC P W (at + own) depth s a t part) where
-    granted : (r : ReducedPolicy) → r .decision .united ≤ obligationRoom → r .size ≤ tooMany → r .next ≡ a .next →
-        ((d : Condition) (g : Clause Outcome) (rest : List ℕ) → nodeAt W at ≡ got (grant g d) rest → g .outcome ≡ o → length (g .obligations) ≡ n → encode (grant g d) ++ rest ≡ drop at W → condition.Left (reduceCondition P d) a part → Result (reducePolicy P (grant g d)) P W buf room out r) →
-        ReducesBy (Grant hidden n o) P W at depth s r t buf room out
-    granted r few bound e f = record {
+    granted : {order : Order} (r : ReducedPolicy) → r .decision .united ≤ obligationRoom → r .size ≤ tooMany → r .next ≡ a .next →
+        ((d : Condition) (g : Clause Outcome) (rest : List ℕ) → nodeAt W at ≡ got (grant g d) rest → g .outcome ≡ o → length (g .obligations) ≡ n → encode (grant g d) ++ rest ≡ drop at W → condition.Left (reduceCondition P d) a part → Result (reducePolicy order P (grant g d)) P W buf room out r) →
+        ReducesBy order (Grant hidden n o) P W at depth s r t buf room out
+    granted {order} r few bound e f = record {
       few = few;
       bound = bound;
       says = λ h. weaker (policyAt W at (suc depth)) (λ p rest g.
-          subst (λ q. ReducedTo (reducePolicy P q) (at + words q) (walk P q) P W s r t buf room out) (sym (g .policy-is)) (record {
+          subst (λ q. ReducedTo (reducePolicy order P q) (at + words q) (walk order P q) P W s r t buf room out) (sym (g .policy-is)) (record {
             result = f (g .inner) (g .clause) rest (g .node) (g .outcome-is) (g .long) (g .were) (g .answer .left);
             next-is = e ∙ g .answer .next-is ∙ sym (g .words-are);
             log = consults-as (λ l. refl) (g .answer .log);
           })) (grant-known a s t part c h);
     }
 
-    pub grant-decides : a .pending ≡ false → ReducesBy (Grant hidden n o) P W at depth s (resolvedTo (grantedAt (a .satisfied) o at (length W)) (a .next) (a .count)) t buf room out
+    pub grant-decides : {order : Order} → a .pending ≡ false → ReducesBy order (Grant hidden n o) P W at depth s (resolvedTo (grantedAt (a .satisfied) o at (length W)) (a .next) (a .count)) t buf room out
     grant-decides p =
         granted (resolvedTo (grantedAt (a .satisfied) o at (length W)) (a .next) (a .count)) (granted-few (a .satisfied) o at (length W)) (omega arith) refl (λ d g rest node is long were l.
         decides-at buf room out part a d g rest node is (reduceCondition P d) refl l p)
 
-    pub grant-pending : (mid : List ℕ) (from size none : ℕ) → a .pending ≡ true → Laid own (take own (drop at W)) mid own → from ≡ min own (length mid) → length part ≡ length mid - from → size ≡ capped (own + a .size) →
-        out ≡ take from mid ++ (part ++ drop (length mid - from) (drop from mid)) → ReducesBy (Grant hidden n o) P W at depth s (leftTo size none (a .next) (a .count)) t buf room out
+    pub grant-pending : {order : Order} (mid : List ℕ) (from size none : ℕ) → a .pending ≡ true → Laid own (take own (drop at W)) mid own → from ≡ min own (length mid) → length part ≡ length mid - from → size ≡ capped (own + a .size) →
+        out ≡ take from mid ++ (part ++ drop (length mid - from) (drop from mid)) → ReducesBy order (Grant hidden n o) P W at depth s (leftTo size none (a .next) (a .count)) t buf room out
     grant-pending mid from size none p l f m e z =
         granted (leftTo size none (a .next) (a .count)) (omega arith) (omega arith) refl (λ d g rest node is long were x. open-at buf room out part a d g rest node is mid from size none (a .next) (a .count) long were l f m e z (reduceCondition P d) x p)
 
 -- The answer to a grant by its first word is the answer to it by its head.
-pub grant-by-word : {P : Table} {W : List ℕ} {at depth : ℕ} {s : Lent} {r : ReducedPolicy} {t : Lent} {buf : List ℕ} {room : ℕ} {out : List ℕ} (hidden : Bool) (n o : ℕ) →
-    ReducesBy (Grant hidden (obligationsAt W at) (outcomeAt W at)) P W at depth s r t buf room out → ReducesBy (Grant hidden n o) P W at depth s r t buf room out
+pub grant-by-word : {order : Order} {P : Table} {W : List ℕ} {at depth : ℕ} {s : Lent} {r : ReducedPolicy} {t : Lent} {buf : List ℕ} {room : ℕ} {out : List ℕ} (hidden : Bool) (n o : ℕ) →
+    ReducesBy order (Grant hidden (obligationsAt W at) (outcomeAt W at)) P W at depth s r t buf room out → ReducesBy order (Grant hidden n o) P W at depth s r t buf room out
 grant-by-word {W = W} {at} hidden n o a = record {
   few = a .few;
   bound = a .bound;
@@ -295,13 +296,13 @@ grant-by-word {W = W} {at} hidden n o a = record {
 }
 
 -- ---- arms that a list rule answers by itself
-permit-constant : (P : Table) (W : List ℕ) (at depth : ℕ) → at < length W → getD W at 0 / 65536 ≡ 24576 → Holds (Constant P) (policyAt W at depth)
+permit-constant : {order : Order} (P : Table) (W : List ℕ) (at depth : ℕ) → at < length W → getD W at 0 / 65536 ≡ 24576 → Holds (Constant order P) (policyAt W at depth)
 unfolding policyNode
 permit-constant P W at zero lt e = no-levels true (drop at W)
 permit-constant P W at (suc depth) lt e = node-holds W at depth (Permit (getD W at 0 % 65536)) lt (permit-word (getD W at 0) true e) (fine (record { value-is = refl; read-is = λ l. refl }))
 
-pub reduce-permit : (P : Table) (W : List ℕ) (at depth count : ℕ) (entries seen buf : List ℕ) (room : ℕ) (out : List ℕ) → at < length W → getD W at 0 / 65536 ≡ 24576 →
-    ReducesP P W at depth (lent count entries seen) (resolvedTo (permittedAt (getD W at 0 % 65536) (length W) (length W) 0) (at + 1) count) (lent count entries seen) buf room out
+pub reduce-permit : {order : Order} (P : Table) (W : List ℕ) (at depth count : ℕ) (entries seen buf : List ℕ) (room : ℕ) (out : List ℕ) → at < length W → getD W at 0 / 65536 ≡ 24576 →
+    ReducesP order P W at depth (lent count entries seen) (resolvedTo (permittedAt (getD W at 0 % 65536) (length W) (length W) 0) (at + 1) count) (lent count entries seen) buf room out
 reduce-permit P W at depth count entries seen buf room out lt e =
     evaluated P W at depth (lent count entries seen) _ (lent count entries seen) buf room out (eval-permit-word P W at depth count entries seen buf lt e) (permit-constant P W at depth lt e)
 
@@ -316,8 +317,8 @@ fact-read l f present e = refl
 fact-read l f unknown e = clash false e refl
 
 -- A grant on one settled fact, at every level: with too few levels for its condition it isn't read.
-pub reduce-plain : (P : Table) (W : List ℕ) (at depth : ℕ) (s : Lent) (a : ConditionEval) (t : Lent) (buf : List ℕ) (room : ℕ) (out : List ℕ) → SettledGrant P W at → EvaluatesHas P (getD W (at + 2) 0 % 1024) (at + 3) s a t →
-    ReducesP P W at depth s (resolvedTo (grantedAt (a .satisfied) (getD W at 0 % 65536) at (length W)) (a .next) (a .count)) t buf room out
+pub reduce-plain : {order : Order} (P : Table) (W : List ℕ) (at depth : ℕ) (s : Lent) (a : ConditionEval) (t : Lent) (buf : List ℕ) (room : ℕ) (out : List ℕ) → SettledGrant P W at → EvaluatesHas P (getD W (at + 2) 0 % 1024) (at + 3) s a t →
+    ReducesP order P W at depth s (resolvedTo (grantedAt (a .satisfied) (getD W at 0 % 65536) at (length W)) (a .next) (a .count)) t buf room out
 reduce-plain P W at depth s a t buf room out g h =
     let f = getD W (at + 2) 0 % 1024 in
     let rest = drop (at + 3) W in

@@ -1,5 +1,1 @@
-pub mod Keeping
-pub mod KeepingLaws
-pub mod Within
-pub mod WithinLaws
 pub mod Reducing

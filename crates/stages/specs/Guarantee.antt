@@ -1,4 +1,4 @@
--- Demand 3 of what the public functions return: whatever list of narrowings a caller runs. Assumes nothing.
+-- Demand 3 of what the public functions return: whatever list of narrowings a caller runs, of either pair. Assumes nothing.
 use mathlib.Core.Path.{_≡_, refl, sym, _∙_, ap, ap₂, subst}
 use mathlib.Core.Option.{none}
 use mathlib.Core.List.{List, [], _∷_, map}
@@ -6,10 +6,11 @@ use Prim.Native.Nat.{ℕ}
 use native.Mathlib.Omega.{arith}
 use lib.ListN.{length, take, drop}
 use lib.Seq.{take-at}
-use Rattle.model.specs.Facts.{Table, tableOf, knownFacts, tableFault}
+use Rattle.model.specs.Facts.{tableOf, knownFacts, tableFault}
 use Rattle.model.specs.Outcome.{productSets}
-use Rattle.model.specs.Decision.{products}
+use Rattle.model.specs.Decision.{Decision, products}
 use Rattle.model.specs.Policy.{Policy}
+use Rattle.model.specs.Partial.{Order}
 use Rattle.model.specs.Record.{tree, evaluated, completed}
 use Rattle.model.specs.Reading.{got}
 use Rattle.model.specs.Calls as model
@@ -17,11 +18,12 @@ use Rattle.model.specs.Products.{Outcome, evalPolicy, reduced, readSheet, readR
 use Rattle.answer.specs.declared.Answer.{Answer}
 use Rattle.answer.specs.declared.Answer.the-variants.{Written, Refused}
 use Rattle.answer.specs.Answers.{Answered, answerOf, writtenOf}
-use Rattle.staging.specs.Chain.{AllOf, run}
+use Rattle.staging.specs.Bare.{bare}
+use Rattle.staging.specs.Chain.{Step, InOrder, AllOf, run}
 use Rattle.staging.specs.Statement as staging
 use Rattle.staging.specs.Statement.{Call, AgreesOn, Settled, Staged}
-use Rattle.staging.specs.Demand3.{demand3-products, evaluate-products-wrote, evaluate-products-back}
-use Rattle.stages.specs.Runs.{Run, Accepted, handedOn, recordAfter, ifAccepted, tablesOf, Evaluated, Reduced, Narrowed, Completed, NarrowedAll, ResolvedWith, Guaranteed}
+use Rattle.staging.specs.Demand3.{demand3-products, products-kept, evaluate-products-wrote, evaluate-products-back}
+use Rattle.stages.specs.Runs.{Run, Narrowing, Accepted, handedOn, recordAfter, stepOf, ifAccepted, stepsOf, Evaluated, Reduced, Completed, NarrowedAll, ResolvedWith, Guaranteed}
 
 -- ---- what an answer tells of the call
 module _ {a : model.Answer} {before after : List ℕ} {r : Answer} (h : Answered a before after r) where
@@ -41,35 +43,37 @@ module _ {a : model.Answer} {before after : List ℕ} {r : Answer} (h : Answered
   accepted-if ws e = subst Accepted (sym (h .answer-is ∙ ap answerOf e)) tt
 
 -- ---- the list of narrowings that were run, as the list of calls of `Staged`
-abbrev callOf : Run → Call
-callOf s = record { facts = s .facts; out = s .before }
+abbrev callOf : Narrowing → Call
+callOf n = record { order = n .order; facts = n .ran .facts; out = n .ran .before }
 
 same-next : (a : model.Answer) (given before after : List ℕ) (r : Answer) → Answered a before after r → staging.handedOn a given ≡ handedOn given r after
 same-next (model.refusal n) given before after r h = ap (λ x. handedOn given x after) (sym (h .answer-is))
 same-next (model.wrote ws) given before after r h =
     sym (take-at ws (drop (length ws) before) (length ws) refl) ∙ ap (take (length ws)) (sym (h .output-is)) ∙ ap (λ x. handedOn given x after) (sym (h .answer-is))
 
-same-tables : (a : model.Answer) (P : Table) (Ps : List Table) (before after : List ℕ) (r : Answer) → Answered a before after r → staging.ifWrote a P Ps ≡ ifAccepted r P Ps
-same-tables (model.refusal n) P Ps before after r h = ap (λ x. ifAccepted x P Ps) (sym (h .answer-is))
-same-tables (model.wrote ws) P Ps before after r h = ap (λ x. ifAccepted x P Ps) (sym (h .answer-is))
+same-steps : (a : model.Answer) (s : Step) (ss : List Step) (before after : List ℕ) (r : Answer) → Answered a before after r → staging.ifWrote a s ss ≡ ifAccepted r s ss
+same-steps (model.refusal n) s ss before after r h = ap (λ x. ifAccepted x s ss) (sym (h .answer-is))
+same-steps (model.wrote ws) s ss before after r h = ap (λ x. ifAccepted x s ss) (sym (h .answer-is))
 
-after-runs : (ss : List Run) (given : List ℕ) → NarrowedAll given ss → staging.after productSets given (map callOf ss) ≡ recordAfter given ss
+after-runs : (ns : List Narrowing) (given : List ℕ) → NarrowedAll given ns → staging.after productSets given (map callOf ns) ≡ recordAfter given ns
 after-runs [] given h = refl
-after-runs (s ∷ ss) given h =
-    ap (λ v. staging.after productSets v (map callOf ss)) (same-next (narrowResidual given (s .facts) (length (s .before))) given (s .before) (s .after) (s .answer) (h .0))
-    ∙ after-runs ss (handedOn given (s .answer) (s .after)) (h .1)
+after-runs (n ∷ ns) given h =
+    let s = n .ran in
+    ap (λ v. staging.after productSets v (map callOf ns)) (same-next (narrowResidual (n .order) given (s .facts) (length (s .before))) given (s .before) (s .after) (s .answer) (h .0))
+    ∙ after-runs ns (handedOn given (s .answer) (s .after)) (h .1)
 
-tables-run : (ss : List Run) (given : List ℕ) → NarrowedAll given ss → staging.accepted productSets given (map callOf ss) ≡ tablesOf ss
-tables-run [] given h = refl
-tables-run (s ∷ ss) given h =
-    let a = narrowResidual given (s .facts) (length (s .before)) in
-    ap (λ v. staging.ifWrote a (tableOf (s .facts)) (staging.accepted productSets v (map callOf ss))) (same-next a given (s .before) (s .after) (s .answer) (h .0))
-    ∙ ap (staging.ifWrote a (tableOf (s .facts))) (tables-run ss (handedOn given (s .answer) (s .after)) (h .1))
-    ∙ same-tables a (tableOf (s .facts)) (tablesOf ss) (s .before) (s .after) (s .answer) (h .0)
+steps-run : (ns : List Narrowing) (given : List ℕ) → NarrowedAll given ns → staging.accepted productSets given (map callOf ns) ≡ stepsOf ns
+steps-run [] given h = refl
+steps-run (n ∷ ns) given h =
+    let s = n .ran in
+    let a = narrowResidual (n .order) given (s .facts) (length (s .before)) in
+    ap (λ v. staging.ifWrote a (stepOf n) (staging.accepted productSets v (map callOf ns))) (same-next a given (s .before) (s .after) (s .answer) (h .0))
+    ∙ ap (staging.ifWrote a (stepOf n)) (steps-run ns (handedOn given (s .answer) (s .after)) (h .1))
+    ∙ same-steps a (stepOf n) (stepsOf ns) (s .before) (s .after) (s .answer) (h .0)
 
 -- ---- the theorem
 module _ (sheet known : List ℕ) (t : Policy Outcome) (reads : readSheet sheet ≡ got t []) (knows : tableFault knownFacts known ≡ none) where
-  evaluated-run : (s : Run) (n : ℕ) → s .facts ≡ known → Evaluated sheet s → s .answer ≡ Written n → ResolvedWith (products (evalPolicy (tableOf known) t)) (take n (s .after))
+  evaluated-run : (s : Run) (n : ℕ) → s .facts ≡ known → Evaluated sheet s → s .answer ≡ Written n → ResolvedWith (λ d. d ≡ evalPolicy (tableOf known) t) (take n (s .after))
   evaluated-run s n e h q =
       let wrote : evaluate sheet known (length (s .before)) ≡ model.wrote (take n (s .after)) = ap (λ f. evaluate sheet f (length (s .before))) (sym e) ∙ wrote-words h n q in
       record {
@@ -80,52 +84,57 @@ module _ (sheet known : List ℕ) (t : Policy Outcome) (reads : readSheet sheet 
         same = refl;
       }
 
-  module _ (first : Run) (n : ℕ) (steps : List Run) (ran : Reduced sheet first) (accepted : first .answer ≡ Written n) (later : NarrowedAll (take n (first .after)) steps)
-      (agrees : AgreesOn t (tableOf known) (tableOf (first .facts))) (all-agree : AllOf (AgreesOn t (tableOf known)) (tablesOf steps)) where
+  module _ (o : Order) (first : Run) (n : ℕ) (ns : List Narrowing) (ran : Reduced o sheet first) (took : first .answer ≡ Written n) (later : NarrowedAll (take n (first .after)) ns)
+      (agrees : AgreesOn t (tableOf known) (tableOf (first .facts))) (all-agree : AllOf (λ s. AgreesOn t (tableOf known) (s .table)) (stepsOf ns)) where
     abbrev Given : List ℕ
     Given = take n (first .after)
 
-    staged : Staged productSets sheet known (first .facts) Given (map callOf steps) t
+    steps-are : staging.accepted productSets Given (map callOf ns) ≡ stepsOf ns
+    steps-are = steps-run ns Given later
+
+    staged : Staged productSets o sheet known (first .facts) Given (map callOf ns) t
     staged =
-        demand3-products sheet known (first .facts) Given (map callOf steps) t (length (first .before)) reads knows (wrote-words ran n accepted) agrees
-        (subst (AllOf (AgreesOn t (tableOf known))) (sym (tables-run steps Given later)) all-agree)
+        demand3-products o sheet known (first .facts) Given (map callOf ns) t (length (first .before)) reads knows (wrote-words ran n took) agrees
+        (subst (AllOf (λ s. AgreesOn t (tableOf known) (s .table))) (sym steps-are) all-agree)
 
     -- The record after the narrowings, as the calls left it.
-    end-is : staging.after productSets Given (map callOf steps) ≡ recordAfter Given steps
-    end-is = after-runs steps Given later
+    end-is : staging.after productSets Given (map callOf ns) ≡ recordAfter Given ns
+    end-is = after-runs ns Given later
 
-    completes : (s : Run) → s .facts ≡ known → completeResidual (recordAfter Given steps) (s .facts) (length (s .before)) ≡ completeResidual (staging.after productSets Given (map callOf steps)) known (length (s .before))
+    completes : (s : Run) → s .facts ≡ known → completeResidual (recordAfter Given ns) (s .facts) (length (s .before)) ≡ completeResidual (staging.after productSets Given (map callOf ns)) known (length (s .before))
     completes s e = ap₂ (λ v f. completeResidual v f (length (s .before))) (sym end-is) e
 
-    completed-run : (s : Run) (m : ℕ) → s .facts ≡ known → Completed (recordAfter Given steps) s → s .answer ≡ Written m → ResolvedWith (products (evalPolicy (tableOf known) t)) (take m (s .after))
-    completed-run s m e h q =
+    completed-run : (AsSaid : Decision Outcome → Type 0) → AsSaid (staged .decision) → (s : Run) (m : ℕ) → s .facts ≡ known → Completed (recordAfter Given ns) s → s .answer ≡ Written m → ResolvedWith AsSaid (take m (s .after))
+    completed-run AsSaid is s m e h q =
         record {
           decided = completed productSets (tableOf known) (staged .last);
           reads = staged .completion-reads (length (s .before)) (take m (s .after)) (sym (completes s e) ∙ wrote-words h m q);
           decision = staged .decision;
           resolves = staged .resolves;
-          same = staged .same-products;
+          same = is;
         }
 
-    guaranteed-of : Guaranteed sheet known t first Given steps
+    guaranteed-of : Guaranteed o sheet known t first Given ns
     guaranteed-of = record {
       residual = staged .last;
       reads = sym (ap readRecord end-is) ∙ staged .read-back;
-      by-the-rules = staged .by-the-rules ∙ ap (run productSets (reduced (tableOf (first .facts)) t)) (tables-run steps Given later);
+      by-the-rules = staged .by-the-rules ∙ ap (run productSets (reduced o (tableOf (first .facts)) t)) steps-are;
       settled-first = staged .settled-first;
-      settled-later = subst (AllOf (Settled (tree (staged .last)))) (tables-run steps Given later) (staged .settled-later);
-      completed = completed-run;
+      settled-later = subst (AllOf (λ s. Settled (tree (staged .last)) (s .table))) steps-are (staged .settled-later);
       evaluated = evaluated-run;
+      completed = completed-run (λ d. products d ≡ products (evalPolicy (tableOf known) t)) (products-kept staged);
+      in-order = λ e es. completed-run (λ d. bare d ≡ bare (evalPolicy (tableOf known) t)) (staged .same-but-facts e (subst (AllOf InOrder) (sym steps-are) es));
       room-evaluate = λ s e h a. accepted-if a _ (ap (λ f. evaluate sheet f (length (s .before))) e ∙ staged .room-evaluate (length (s .before)) h);
-      room-reduce = λ s f h a. accepted-if a _ (staged .room-reduce (length (s .before)) (s .facts) h f);
-      room-narrow = λ s f h a. accepted-if a _ (ap (λ v. narrowResidual v (s .facts) (length (s .before))) (sym end-is) ∙ staged .room-narrow (length (s .before)) (s .facts) h f);
+      room-reduce = λ by s f h a. accepted-if a _ (staged .room-reduce by (length (s .before)) (s .facts) h f);
+      room-narrow = λ by s f h a. accepted-if a _ (ap (λ v. narrowResidual by v (s .facts) (length (s .before))) (sym end-is) ∙ staged .room-narrow by (length (s .before)) (s .facts) h f);
       room-complete = λ s e h a. accepted-if a _ (completes s e ∙ staged .room-complete (length (s .before)) h);
     }
 
--- For every accepted sheet and known table, every accepted run of `partial_evaluate` on the sheet, and every list of runs of `narrow_residual` from its record on:
--- if the reduction's table and every accepted one agree with the known table, demand 3 holds of the words that the calls left.
+-- For every accepted sheet and known table, every accepted run of `partial_evaluate` or `partial_evaluate_in_order` on the sheet, and every list of runs of
+-- `narrow_residual` and `narrow_residual_in_order` from its record on: if the reduction's table and every accepted one agree with the known table, demand 3
+-- and request 8 hold of the words that the calls left.
 pub guaranteed : (sheet known : List ℕ) (t : Policy Outcome) → readSheet sheet ≡ got t [] → tableFault knownFacts known ≡ none
-    → (first : Run) (n : ℕ) (steps : List Run) → Reduced sheet first → first .answer ≡ Written n → NarrowedAll (take n (first .after)) steps
-    → AgreesOn t (tableOf known) (tableOf (first .facts)) → AllOf (AgreesOn t (tableOf known)) (tablesOf steps)
-    → Guaranteed sheet known t first (take n (first .after)) steps
-guaranteed sheet known t reads knows first n steps ran accepted later agrees all-agree = guaranteed-of sheet known t reads knows first n steps ran accepted later agrees all-agree
+    → (o : Order) (first : Run) (n : ℕ) (ns : List Narrowing) → Reduced o sheet first → first .answer ≡ Written n → NarrowedAll (take n (first .after)) ns
+    → AgreesOn t (tableOf known) (tableOf (first .facts)) → AllOf (λ s. AgreesOn t (tableOf known) (s .table)) (stepsOf ns)
+    → Guaranteed o sheet known t first (take n (first .after)) ns
+guaranteed sheet known t reads knows o first n ns ran took later agrees all-agree = guaranteed-of sheet known t reads knows o first n ns ran took later agrees all-agree

@@ -1,5 +1,6 @@
 // The staged guarantee of what the calls return, in specs/. The functions say that the runs it speaks of are the calls' own.
 use answer::Answer;
+ghost use Rattle.model.specs.Partial.{permitsFirst, sheetOrder};
 ghost use Rattle.stages.specs.Runs.{runOf, Evaluated, Reduced, Narrowed, Completed};
 
 pub fn evaluated(sheet: &[u32], facts: &[u8], out: &mut [u32]) -> Answer
@@ -9,15 +10,27 @@ pub fn evaluated(sheet: &[u32], facts: &[u8], out: &mut [u32]) -> Answer
 }
 
 pub fn reduced(sheet: &[u32], facts: &[u8], out: &mut [u32]) -> Answer
-    ensures { λ r. ⌜ Reduced (now (sheet .entry)) (runOf (now (facts .entry)) (now (out .entry)) (now (out .exit)) r) ⌝ }
+    ensures { λ r. ⌜ Reduced permitsFirst (now (sheet .entry)) (runOf (now (facts .entry)) (now (out .entry)) (now (out .exit)) r) ⌝ }
 {
     calls::partial_evaluate(sheet, facts, out)
 }
 
+pub fn reduced_in_order(sheet: &[u32], facts: &[u8], out: &mut [u32]) -> Answer
+    ensures { λ r. ⌜ Reduced sheetOrder (now (sheet .entry)) (runOf (now (facts .entry)) (now (out .entry)) (now (out .exit)) r) ⌝ }
+{
+    calls::partial_evaluate_in_order(sheet, facts, out)
+}
+
 pub fn narrowed(given: &[u32], facts: &[u8], out: &mut [u32]) -> Answer
-    ensures { λ r. ⌜ Narrowed (now (given .entry)) (runOf (now (facts .entry)) (now (out .entry)) (now (out .exit)) r) ⌝ }
+    ensures { λ r. ⌜ Narrowed permitsFirst (now (given .entry)) (runOf (now (facts .entry)) (now (out .entry)) (now (out .exit)) r) ⌝ }
 {
     calls::narrow_residual(given, facts, out)
+}
+
+pub fn narrowed_in_order(given: &[u32], facts: &[u8], out: &mut [u32]) -> Answer
+    ensures { λ r. ⌜ Narrowed sheetOrder (now (given .entry)) (runOf (now (facts .entry)) (now (out .entry)) (now (out .exit)) r) ⌝ }
+{
+    calls::narrow_residual_in_order(given, facts, out)
 }
 
 pub fn completed(given: &[u32], facts: &[u8], out: &mut [u32]) -> Answer

@@ -8,7 +8,7 @@ use Rattle.model.specs.Facts.{Table}
 use Rattle.model.specs.Outcome.{Outcomes}
 use Rattle.model.specs.Condition.{Condition, always, never, has, notC, allC, anyC, Conditions, cnil, ccons}
 use Rattle.model.specs.Policy.{Policy, permit, deny, grant, all, any, orElse, stored, Policies, pnil, pcons}
-use Rattle.model.specs.Partial.{ReducedPolicy, resolved, pending}
+use Rattle.model.specs.Partial.{ReducedPolicy, resolved, pending, Order}
 use Rattle.model.specs.Consulted.{Consulted, once}
 use Rattle.model.specs.Record.{Record, tree, evaluated, reduced, narrowedFrom, narrowed, completedFrom}
 use Rattle.laws.specs.Each.{EachC, EachCs, Each, Eachs}
@@ -17,7 +17,7 @@ use Rattle.laws.specs.Form.{FormC, FormCs, FormOf, FormsOf, Few, Form, depth}
 use Rattle.staging.specs.SizeLaws.{most, eval-words, red-most, words-most, most-words}
 use Rattle.staging.specs.FormLaws.{form-eval, form-red, depth-red}
 use Rattle.staging.specs.ConsultedLaws.{Good, good-once, good-read, good-walk, log-length}
-use Rattle.staging.specs.Chain.{run}
+use Rattle.staging.specs.Chain.{Step, run}
 
 -- A tree of good form names facts below 1,024.
 mutual
@@ -66,14 +66,14 @@ pub record Fit {O : Type 0} (G : O → Type 0) (n d : ℕ) (r : Record O) : Type
 
 module _ (L : Outcomes) (G : L .O → Type 0) (meets : (a b : L .O) → G a → G b → G (L .meet a b)) (joins : (a b : L .O) → G a → G b → G (L .join a b)) where
   module _ (n d : ℕ) where
-    pub fit-narrowBody : (P : Table) (b : ReducedPolicy (L .O)) (l : Consulted) → Fit G n d (record { body = b; log = l }) → Fit G n d (narrowedFrom L P b l)
-    fit-narrowBody P (resolved e) l h = h
-    fit-narrowBody P (pending t) l h =
+    pub fit-narrowBody : (o : Order) (P : Table) (b : ReducedPolicy (L .O)) (l : Consulted) → Fit G n d (record { body = b; log = l }) → Fit G n d (narrowedFrom L o P b l)
+    fit-narrowBody o P (resolved e) l h = h
+    fit-narrowBody o P (pending t) l h =
         record {
-          small = omega (arith, red-most L P t, h .small);
-          form = form-red L G meets joins P t (h .form);
-          deep = omega (arith, depth-red L P t, h .deep);
-          consulted = good-walk (λ f. f < 1024) L P t (once l) (small-T G Few t (h .form)) (good-once (λ f. f < 1024) l (h .consulted .1));
+          small = omega (arith, red-most L o P t, h .small);
+          form = form-red L G meets joins o P t (h .form);
+          deep = omega (arith, depth-red L o P t, h .deep);
+          consulted = good-walk (λ f. f < 1024) L o P t (once l) (small-T G Few t (h .form)) (good-once (λ f. f < 1024) l (h .consulted .1));
         }
 
     pub fit-completeBody : (K : Table) (b : ReducedPolicy (L .O)) (l : Consulted) → Fit G n d (record { body = b; log = l }) → Fit G n d (completedFrom L K b l)
@@ -86,17 +86,17 @@ module _ (L : Outcomes) (G : L .O → Type 0) (meets : (a b : L .O) → G a → 
           consulted = good-read (λ f. f < 1024) L K t (once l) (small-T G Few t (h .form)) (good-once (λ f. f < 1024) l (h .consulted .1));
         }
 
-    pub fit-run : (r : Record (L .O)) (Ps : List Table) → Fit G n d r → Fit G n d (run L r Ps)
+    pub fit-run : (r : Record (L .O)) (ss : List Step) → Fit G n d r → Fit G n d (run L r ss)
     fit-run r [] h = h
-    fit-run r (P ∷ Ps) h = fit-run (narrowed L P r) Ps (fit-narrowBody P (r .body) (r .log) h)
+    fit-run r (s ∷ ss) h = fit-run (narrowed L (s .order) (s .table) r) ss (fit-narrowBody (s .order) (s .table) (r .body) (r .log) h)
 
-  pub fit-reduce : (P : Table) (t : Policy (L .O)) → Form G t → Fit G (most t) (depth t) (reduced L P t)
-  fit-reduce P t h =
+  pub fit-reduce : (o : Order) (P : Table) (t : Policy (L .O)) → Form G t → Fit G (most t) (depth t) (reduced L o P t)
+  fit-reduce o P t h =
       record {
-        small = red-most L P t;
-        form = form-red L G meets joins P t h;
-        deep = depth-red L P t;
-        consulted = good-walk (λ f. f < 1024) L P t [] (small-T G Few t h) (tt, tt);
+        small = red-most L o P t;
+        form = form-red L G meets joins o P t h;
+        deep = depth-red L o P t;
+        consulted = good-walk (λ f. f < 1024) L o P t [] (small-T G Few t h) (tt, tt);
       }
 
   pub fit-evaluate : (K : Table) (t : Policy (L .O)) → Form G t → Fit G (most t) (depth t) (evaluated L K t)

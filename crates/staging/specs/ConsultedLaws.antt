@@ -12,7 +12,7 @@ use Rattle.model.specs.Condition.{Condition, always, never, has, notC, allC, an
 use Rattle.model.specs.Decision.{Decision, permits, denies, held, insert}
 use Rattle.model.specs.Policy.{Policy, permit, deny, grant, all, any, orElse, stored, Policies, pnil, pcons}
 use Rattle.model.specs.Evaluate.{evalPolicy}
-use Rattle.model.specs.Partial.{ReducedCondition, known, pendingC, reduceCondition, ReducedPolicy, resolved, pending, reducePolicy}
+use Rattle.model.specs.Partial.{ReducedCondition, known, pendingC, reduceCondition, ReducedPolicy, resolved, pending, Order, reducePolicy}
 use Rattle.model.specs.Consulted.{Entry, Consulted, isConsulted, consult, consultKnown, onceFrom, once, afterTrue, afterFalse, readC, readAllC, readAnyC, afterPermit, afterDeny, unlessFalse, unlessTrue, walkC, walkAllC, walkAnyC, unlessDenied, unlessPermitted, read, readAll, readAny, walk, walkAll, walkAny}
 use Rattle.laws.specs.Lists.{Distinct, Every, insert-distinct, insert-every, pigeon}
 use Rattle.laws.specs.Size.{wordsC, wordsCs, words, wordss}
@@ -163,25 +163,26 @@ module _ (Q : ℕ → Type 0) where
       good-readAny pnil l q h = h
       good-readAny (pcons t ts) l q h = good-readAny ts (read L T t l) (q .1) (good-read t l (q .0) h)
 
+  module _ (L : Outcomes) (o : Order) (T : Table) where
     mutual
-      pub good-walk : (t : Policy (L .O)) (l : Consulted) → Each Q t → Good Q l → Good Q (walk L T t l)
-      good-walk (permit o) l q h = h
+      pub good-walk : (t : Policy (L .O)) (l : Consulted) → Each Q t → Good Q l → Good Q (walk L o T t l)
+      good-walk (permit x) l q h = h
       good-walk deny l q h = h
       good-walk (grant g c) l q h = good-walkC T c l q h
       good-walk (all ts) l q h = good-walkAll ts l q h
       good-walk (any ts) l q h = good-walkAny ts l q h
       good-walk (orElse a b) l q h =
-          either-unlessPermitted (Good Q) (reducePolicy L T a) (walk L T a l) (walk L T b (walk L T a l)) (good-walk a l (q .0) h) (good-walk b (walk L T a l) (q .1) (good-walk a l (q .0) h))
+          either-unlessPermitted (Good Q) (reducePolicy L o T a) (walk L o T a l) (walk L o T b (walk L o T a l)) (good-walk a l (q .0) h) (good-walk b (walk L o T a l) (q .1) (good-walk a l (q .0) h))
       good-walk (stored d) l q h = h
 
-      good-walkAll : (ts : Policies (L .O)) (l : Consulted) → Eachs Q ts → Good Q l → Good Q (walkAll L T ts l)
+      good-walkAll : (ts : Policies (L .O)) (l : Consulted) → Eachs Q ts → Good Q l → Good Q (walkAll L o T ts l)
       good-walkAll pnil l q h = h
       good-walkAll (pcons t ts) l q h =
-          either-unlessDenied (Good Q) (reducePolicy L T t) (walk L T t l) (walkAll L T ts (walk L T t l)) (good-walk t l (q .0) h) (good-walkAll ts (walk L T t l) (q .1) (good-walk t l (q .0) h))
+          either-unlessDenied (Good Q) (reducePolicy L o T t) (walk L o T t l) (walkAll L o T ts (walk L o T t l)) (good-walk t l (q .0) h) (good-walkAll ts (walk L o T t l) (q .1) (good-walk t l (q .0) h))
 
-      good-walkAny : (ts : Policies (L .O)) (l : Consulted) → Eachs Q ts → Good Q l → Good Q (walkAny L T ts l)
+      good-walkAny : (ts : Policies (L .O)) (l : Consulted) → Eachs Q ts → Good Q l → Good Q (walkAny L o T ts l)
       good-walkAny pnil l q h = h
-      good-walkAny (pcons t ts) l q h = good-walkAny ts (walk L T t l) (q .1) (good-walk t l (q .0) h)
+      good-walkAny (pcons t ts) l q h = good-walkAny ts (walk L o T t l) (q .1) (good-walk t l (q .0) h)
 
 -- ---- no more entries come than the tree has words
 consult-at : (l : Consulted) (f : ℕ) (p : Presence) (b : Bool) → isConsulted f l ≡ b → length (consult l f p) ≤ length l + 1
@@ -295,33 +296,34 @@ module _ (L : Outcomes) (T : Table) where
     readAny-length pnil l = omega arith
     readAny-length (pcons t ts) l = omega (arith, read-length t l, readAny-length ts (read L T t l))
 
+module _ (L : Outcomes) (o : Order) (T : Table) where
   mutual
-    pub walk-length : (t : Policy (L .O)) (l : Consulted) → length (walk L T t l) ≤ length l + words t
-    walk-length (permit o) l = omega arith
+    pub walk-length : (t : Policy (L .O)) (l : Consulted) → length (walk L o T t l) ≤ length l + words t
+    walk-length (permit x) l = omega arith
     walk-length deny l = omega arith
     walk-length (grant g c) l = omega (arith, walkC-length T c l)
     walk-length (all ts) l = omega (arith, walkAll-length ts l)
     walk-length (any ts) l = omega (arith, walkAny-length ts l)
     walk-length (orElse a b) l =
-        let m = walk L T a l in
-        let n = walk L T b m in
+        let m = walk L o T a l in
+        let n = walk L o T b m in
         let h = walk-length a l in
         let k = walk-length b m in
-        either-unlessPermitted (λ k. length k ≤ length l + (1 + words a + words b)) (reducePolicy L T a) m n (omega arith) (omega arith)
+        either-unlessPermitted (λ k. length k ≤ length l + (1 + words a + words b)) (reducePolicy L o T a) m n (omega arith) (omega arith)
     walk-length (stored d) l = omega arith
 
-    walkAll-length : (ts : Policies (L .O)) (l : Consulted) → length (walkAll L T ts l) ≤ length l + wordss ts
+    walkAll-length : (ts : Policies (L .O)) (l : Consulted) → length (walkAll L o T ts l) ≤ length l + wordss ts
     walkAll-length pnil l = omega arith
     walkAll-length (pcons t ts) l =
-        let m = walk L T t l in
-        let n = walkAll L T ts m in
+        let m = walk L o T t l in
+        let n = walkAll L o T ts m in
         let h = walk-length t l in
         let k = walkAll-length ts m in
-        either-unlessDenied (λ k. length k ≤ length l + (words t + wordss ts)) (reducePolicy L T t) m n (first-walk l m n (words t) (wordss ts) h k) (both-walks l m n (words t) (wordss ts) h k)
+        either-unlessDenied (λ k. length k ≤ length l + (words t + wordss ts)) (reducePolicy L o T t) m n (first-walk l m n (words t) (wordss ts) h k) (both-walks l m n (words t) (wordss ts) h k)
 
-    walkAny-length : (ts : Policies (L .O)) (l : Consulted) → length (walkAny L T ts l) ≤ length l + wordss ts
+    walkAny-length : (ts : Policies (L .O)) (l : Consulted) → length (walkAny L o T ts l) ≤ length l + wordss ts
     walkAny-length pnil l = omega arith
-    walkAny-length (pcons t ts) l = omega (arith, walk-length t l, walkAny-length ts (walk L T t l))
+    walkAny-length (pcons t ts) l = omega (arith, walk-length t l, walkAny-length ts (walk L o T t l))
 
 -- A consulted list of facts below 1,024, each once, has at most 1,024 entries.
 pub log-length : (l : Consulted) → Good (λ f. f < 1024) l → length l ≤ 1024

@@ -1,4 +1,4 @@
--- Demand 3, proved: for every list of narrowings, over words and bytes, for any outcomes with commutative and associative meet and join.
+-- Demand 3, proved: for every list of narrowings, each by either order, over words and bytes, for any outcomes that are read as they are written.
 use mathlib.Core.Path.{_≡_, refl, sym, _∙_, ap, subst}
 use mathlib.Core.Bool.{Bool, true, false, cond, _&&_}
 use mathlib.Core.Option.{Option, none, some}
@@ -10,8 +10,10 @@ use lib.Dec.{leb}
 use lib.ListN.{length}
 use Rattle.model.specs.Facts.{unknown, Table, tableOf, partialFacts, knownFacts, tableFault}
 use Rattle.model.specs.Outcome.{Outcomes, productSets}
-use Rattle.model.specs.Decision.{Decision, permits, denies}
+use Rattle.model.specs.Decision.{Decision, permits, denies, products}
 use Rattle.model.specs.Policy.{Policy, permit, deny, grant, all, any, orElse, stored, Policies, pnil, pcons}
+use Rattle.model.specs.Evaluate.{evalPolicy}
+use Rattle.model.specs.Partial.{Order}
 use Rattle.model.specs.Consulted.{Consulted}
 use Rattle.model.specs.Record.{Record, tree, evaluated, reduced, narrowed, completed}
 use Rattle.model.specs.Writing.{encodeR, shortD, short, shorts}
@@ -25,13 +27,13 @@ use Rattle.laws.specs.Form.{FormD, Form, Forms, depth}
 use Rattle.laws.specs.Lengths.{length-encodeR}
 use Rattle.laws.specs.ReadBack.{back-R}
 use Rattle.laws.specs.ReadForm.{Named, OkSheet, ok-sheet}
-use Rattle.laws.specs.Products.{Lawful, Written, lawfulProducts, InRange, writtenProducts}
+use Rattle.laws.specs.Products.{Written, lawfulProducts, InRange, writtenProducts}
 use Rattle.staging.specs.SizeLaws.{most}
 use Rattle.staging.specs.ConsultedLaws.{consultedFacts, log-length}
-use Rattle.staging.specs.Chain.{AllOf, all-map, run}
+use Rattle.staging.specs.Chain.{Step, AllOf, all-map, run}
 use Rattle.staging.specs.Bound.{Fit, fit-narrowBody, fit-completeBody, fit-run, fit-reduce, fit-evaluate, roomy}
 use Rattle.staging.specs.Stages.{TreeStaged, staged}
-use Rattle.staging.specs.Statement.{Call, handedOn, ifWrote, AgreesOn, Settled, answerTo, after, accepted, Roomy, Staged}
+use Rattle.staging.specs.Statement.{Call, handedOn, stepOf, ifWrote, AgreesOn, Settled, answerTo, after, accepted, Roomy, Staged}
 
 and-is : (a b : Bool) → a ≡ true → b ≡ true → (a && b) ≡ true
 and-is a b p q = rw (p, q)
@@ -70,7 +72,7 @@ wrote-what none true u v e = cc
 wrote-what none false u v e = cc
 wrote-what (some n) b u v e = cc
 
-module _ (L : Outcomes) (lawful : Lawful L) (G : L .O → Type 0) (codec : Written L G) where
+module _ (L : Outcomes) (G : L .O → Type 0) (codec : Written L G) where
   -- A call on words that are read: the table's fault, or what is written.
   module _ {A : Type 0} (long : Bool) (fault : Option ℕ) (k : A → Answer) where
     called : (q : Parsed A) (a : A) (vs : List ℕ) → long ≡ true → q ≡ got a vs → unlessLong long (unlessFault fault (onRead q k)) ≡ unlessFault fault (k a)
@@ -117,18 +119,18 @@ module _ (L : Outcomes) (lawful : Lawful L) (G : L .O → Type 0) (codec : Writt
         back-R G (L .number) (L .value) (codec .small) (codec .again) r (omega (arith, log-length (r .log) (h .consulted))) (facts-of (r .log) (h .consulted .1)) (h .form) (y .nested) (omega arith)
 
     -- ---- calls on such a record
-    narrow-is : (room : ℕ) (bs : List ℕ) (r : Record (L .O)) → Within r
-        → narrowResidual L (encodeR (L .number) r) bs room ≡ unlessFault (tableFault partialFacts bs) (write L room (narrowed L (tableOf bs) r))
-    narrow-is room bs r h =
-        called (recordLength (encodeR (L .number) r)) (tableFault partialFacts bs) (λ x. write L room (narrowed L (tableOf bs) x)) (readRecord (L .value) (encodeR (L .number) r)) r [] (few r h) (back r h)
+    narrow-is : (o : Order) (room : ℕ) (bs : List ℕ) (r : Record (L .O)) → Within r
+        → narrowResidual L o (encodeR (L .number) r) bs room ≡ unlessFault (tableFault partialFacts bs) (write L room (narrowed L o (tableOf bs) r))
+    narrow-is o room bs r h =
+        called (recordLength (encodeR (L .number) r)) (tableFault partialFacts bs) (λ x. write L room (narrowed L o (tableOf bs) x)) (readRecord (L .value) (encodeR (L .number) r)) r [] (few r h) (back r h)
 
     complete-is : (room : ℕ) (bs : List ℕ) (r : Record (L .O)) → Within r
         → completeResidual L (encodeR (L .number) r) bs room ≡ unlessFault (tableFault knownFacts bs) (write L room (completed L (tableOf bs) r))
     complete-is room bs r h =
         called (recordLength (encodeR (L .number) r)) (tableFault knownFacts bs) (λ x. write L room (completed L (tableOf bs) x)) (readRecord (L .value) (encodeR (L .number) r)) r [] (few r h) (back r h)
 
-    reduce-is : (room : ℕ) (bs : List ℕ) → partialEvaluate L sheet bs room ≡ unlessFault (tableFault partialFacts bs) (write L room (reduced L (tableOf bs) t))
-    reduce-is room bs = called (sheetLength sheet) (tableFault partialFacts bs) (λ x. write L room (reduced L (tableOf bs) x)) (readSheet (L .value) sheet) t [] long-enough reads
+    reduce-is : (o : Order) (room : ℕ) (bs : List ℕ) → partialEvaluate L o sheet bs room ≡ unlessFault (tableFault partialFacts bs) (write L room (reduced L o (tableOf bs) t))
+    reduce-is o room bs = called (sheetLength sheet) (tableFault partialFacts bs) (λ x. write L room (reduced L o (tableOf bs) x)) (readSheet (L .value) sheet) t [] long-enough reads
 
     evaluate-is : (room : ℕ) (bs : List ℕ) → evaluate L sheet bs room ≡ unlessFault (tableFault knownFacts bs) (write L room (evaluated L (tableOf bs) t))
     evaluate-is room bs = called (sheetLength sheet) (tableFault knownFacts bs) (λ x. write L room (evaluated L (tableOf bs) x)) (readSheet (L .value) sheet) t [] long-enough reads
@@ -147,32 +149,32 @@ module _ (L : Outcomes) (lawful : Lawful L) (G : L .O → Type 0) (codec : Writt
     pub evaluate-back : (K : Table) → readRecord (L .value) (encodeR (L .number) (evaluated L K t)) ≡ got (evaluated L K t) []
     evaluate-back K = back (evaluated L K t) (fit-evaluate L G (codec .meets) (codec .joins) K t (good .0))
 
-    -- ---- the list of calls: the record after it is the record narrowed by the accepted tables
-    within-narrowed : (P : Table) (r : Record (L .O)) → Within r → Within (narrowed L P r)
-    within-narrowed P r h = fit-narrowBody L G (codec .meets) (codec .joins) (most t) (depth t) P (r .body) (r .log) h
+    -- ---- the list of calls: the record after it is the record narrowed by the accepted ones
+    within-narrowed : (o : Order) (P : Table) (r : Record (L .O)) → Within r → Within (narrowed L o P r)
+    within-narrowed o P r h = fit-narrowBody L G (codec .meets) (codec .joins) (most t) (depth t) o P (r .body) (r .log) h
 
     Runs : Record (L .O) → List Call → Type 0
     Runs r cs = after L (encodeR (L .number) r) cs ≡ encodeR (L .number) (run L r (accepted L (encodeR (L .number) r) cs))
 
-    runs-by : (P : Table) (r : Record (L .O)) (cs : List Call) (o : Option ℕ) (b : Bool) (a : Answer) → a ≡ unlessFault o (cond b (wrote (encodeR (L .number) (narrowed L P r))) (refusal 11))
-        → Runs r cs → Runs (narrowed L P r) cs
-        → after L (handedOn a (encodeR (L .number) r)) cs ≡ encodeR (L .number) (run L r (ifWrote a P (accepted L (handedOn a (encodeR (L .number) r)) cs)))
+    runs-by : (s : Step) (r : Record (L .O)) (cs : List Call) (fault : Option ℕ) (b : Bool) (a : Answer) → a ≡ unlessFault fault (cond b (wrote (encodeR (L .number) (narrowed L (s .order) (s .table) r))) (refusal 11))
+        → Runs r cs → Runs (narrowed L (s .order) (s .table) r) cs
+        → after L (handedOn a (encodeR (L .number) r)) cs ≡ encodeR (L .number) (run L r (ifWrote a s (accepted L (handedOn a (encodeR (L .number) r)) cs)))
     unfolding Runs
-    runs-by P r cs (some n) b a e same more = rw e same
-    runs-by P r cs none false a e same more = rw e same
-    runs-by P r cs none true a e same more = rw e more
+    runs-by s r cs (some n) b a e same more = rw e same
+    runs-by s r cs none false a e same more = rw e same
+    runs-by s r cs none true a e same more = rw e more
 
     runs : (cs : List Call) (r : Record (L .O)) → Within r → Runs r cs
     unfolding Runs
     runs [] r h = refl
     runs (c ∷ cs) r h =
-        let P = tableOf (c .facts) in
-        runs-by P r cs (tableFault partialFacts (c .facts)) (fits L (length (c .out)) (narrowed L P r)) (answerTo L (encodeR (L .number) r) c) (narrow-is (length (c .out)) (c .facts) r h)
-        (runs cs r h) (runs cs (narrowed L P r) (within-narrowed P r h))
+        let n = narrowed L (c .order) (tableOf (c .facts)) r in
+        runs-by (stepOf c) r cs (tableFault partialFacts (c .facts)) (fits L (length (c .out)) n) (answerTo L (encodeR (L .number) r) c) (narrow-is (c .order) (length (c .out)) (c .facts) r h)
+        (runs cs r h) (runs cs n (within-narrowed (c .order) (tableOf (c .facts)) r h))
 
     -- ---- the theorem
-    module _ (known facts given : List ℕ) (calls : List Call) (room₀ : ℕ) (knows : tableFault knownFacts known ≡ none) (wrote-given : partialEvaluate L sheet facts room₀ ≡ wrote given)
-        (agrees : AgreesOn t (tableOf known) (tableOf facts)) (later : AllOf (AgreesOn t (tableOf known)) (accepted L given calls)) where
+    module _ (o : Order) (known facts given : List ℕ) (calls : List Call) (room₀ : ℕ) (knows : tableFault knownFacts known ≡ none) (wrote-given : partialEvaluate L o sheet facts room₀ ≡ wrote given)
+        (agrees : AgreesOn t (tableOf known) (tableOf facts)) (later : AllOf (λ s. AgreesOn t (tableOf known) (s .table)) (accepted L given calls)) where
       K : Table
       K = tableOf known
 
@@ -180,33 +182,35 @@ module _ (L : Outcomes) (lawful : Lawful L) (G : L .O → Type 0) (codec : Writt
       P = tableOf facts
 
       r₀ : Record (L .O)
-      r₀ = reduced L P t
+      r₀ = reduced L o P t
 
       given-is : encodeR (L .number) r₀ ≡ given
       unfolding r₀ P
-      given-is = wrote-what (tableFault partialFacts facts) (fits L room₀ r₀) (encodeR (L .number) r₀) given (sym (reduce-is room₀ facts) ∙ wrote-given)
+      given-is = wrote-what (tableFault partialFacts facts) (fits L room₀ r₀) (encodeR (L .number) r₀) given (sym (reduce-is o room₀ facts) ∙ wrote-given)
 
-      Ps : List Table
-      Ps = accepted L given calls
+      ss : List Step
+      ss = accepted L given calls
 
       lastly : Record (L .O)
-      lastly = run L r₀ Ps
+      lastly = run L r₀ ss
 
       fit₀ : Within r₀
       unfolding r₀
-      fit₀ = fit-reduce L G (codec .meets) (codec .joins) P t (good .0)
+      fit₀ = fit-reduce L G (codec .meets) (codec .joins) o P t (good .0)
 
       fit : Within lastly
       unfolding lastly
-      fit = fit-run L G (codec .meets) (codec .joins) (most t) (depth t) r₀ Ps fit₀
+      fit = fit-run L G (codec .meets) (codec .joins) (most t) (depth t) r₀ ss fit₀
 
       after-is : after L given calls ≡ encodeR (L .number) lastly
-      unfolding lastly Ps Runs
+      unfolding lastly ss Runs
       after-is = subst (λ v. after L v calls ≡ encodeR (L .number) (run L r₀ (accepted L v calls))) given-is (runs calls r₀ fit₀)
 
-      steps : TreeStaged L K P t Ps
-      unfolding K P Ps
-      steps = staged L lawful K P t Ps (each-of (Agrees K P) t agrees) (all-map (AgreesOn t K) (λ S. Each (Agrees K S) t) Ps (λ S h. each-of (Agrees K S) t h) later)
+      steps : TreeStaged L K o P t ss
+      unfolding K P ss
+      steps =
+          staged L K o P t ss (each-of (Agrees K P) t agrees)
+          (all-map (λ s. AgreesOn t K (s .table)) (λ s. Each (Agrees K (s .table)) t) ss (λ s h. each-of (Agrees K (s .table)) t h) later)
 
       completion-is : (room : ℕ) (ws : List ℕ) → completeResidual L (after L given calls) known room ≡ wrote ws → ws ≡ encodeR (L .number) (completed L K lastly)
       unfolding K
@@ -214,60 +218,68 @@ module _ (L : Outcomes) (lawful : Lawful L) (G : L .O → Type 0) (codec : Writt
           sym (wrote-what (tableFault knownFacts known) (fits L room (completed L K lastly)) (encodeR (L .number) (completed L K lastly)) ws
           (sym (complete-is room known lastly fit) ∙ sym (ap (λ v. completeResidual L v known room) after-is) ∙ e))
 
-      pub demand3-of : Staged L sheet known facts given calls t
-      unfolding K P r₀ Ps lastly
+      pub demand3-of : Staged L o sheet known facts given calls t
+      unfolding K P r₀ ss lastly
       demand3-of = record {
         last = lastly;
         by-the-rules = refl;
         as-words = after-is;
         read-back = ap (readRecord (L .value)) after-is ∙ back lastly fit;
         settled-first = of-each (λ n. P n ≡ unknown) (tree lastly) (steps .settled-first);
-        settled-later = all-map (λ S. Each (λ n. S n ≡ unknown) (tree lastly)) (Settled (tree lastly)) Ps (λ S h. of-each (λ n. S n ≡ unknown) (tree lastly) h) (steps .settled-later);
+        settled-later =
+            all-map (λ s. Each (λ n. s .table n ≡ unknown) (tree lastly)) (λ s. Settled (tree lastly) (s .table)) ss (λ s h. of-each (λ n. s .table n ≡ unknown) (tree lastly) h) (steps .settled-later);
         decision = steps .decision;
         completion = completion-is;
         completion-reads = λ room ws e.
             ap (readRecord (L .value)) (completion-is room ws e) ∙ back (completed L K lastly) (fit-completeBody L G (codec .meets) (codec .joins) (most t) (depth t) K (lastly .body) (lastly .log) fit);
         resolves = steps .completes;
         same-products = steps .same-products;
+        same-but-facts = steps .same-but-facts;
         room-evaluate = λ room h. evaluate-fits known room knows h;
-        room-reduce = λ room bs h f. reduce-is room bs ∙ write-is room (reduced L (tableOf bs) t) (tableFault partialFacts bs) f (fits-within (reduced L (tableOf bs) t) room (fit-reduce L G (codec .meets) (codec .joins) (tableOf bs) t (good .0)) h);
-        room-narrow = λ room bs h f.
-            ap (λ v. narrowResidual L v bs room) after-is ∙ narrow-is room bs lastly fit
-            ∙ write-is room (narrowed L (tableOf bs) lastly) (tableFault partialFacts bs) f (fits-within (narrowed L (tableOf bs) lastly) room (within-narrowed (tableOf bs) lastly fit) h);
+        room-reduce = λ by room bs h f.
+            reduce-is by room bs
+            ∙ write-is room (reduced L by (tableOf bs) t) (tableFault partialFacts bs) f (fits-within (reduced L by (tableOf bs) t) room (fit-reduce L G (codec .meets) (codec .joins) by (tableOf bs) t (good .0)) h);
+        room-narrow = λ by room bs h f.
+            ap (λ v. narrowResidual L by v bs room) after-is ∙ narrow-is by room bs lastly fit
+            ∙ write-is room (narrowed L by (tableOf bs) lastly) (tableFault partialFacts bs) f (fits-within (narrowed L by (tableOf bs) lastly) room (within-narrowed by (tableOf bs) lastly fit) h);
         room-complete = λ room h.
             ap (λ v. completeResidual L v known room) after-is ∙ complete-is room known lastly fit
             ∙ write-is room (completed L K lastly) (tableFault knownFacts known) knows (fits-within (completed L K lastly) room (fit-completeBody L G (codec .meets) (codec .joins) (most t) (depth t) K (lastly .body) (lastly .log) fit) h);
       }
 
--- For every accepted sheet and known table, every reduction of the sheet that was accepted, and every list of narrowings:
--- if the reduction's table and every accepted one agree with the known table, the whole list is as document 01's "Stages" says.
-pub demand3 : (L : Outcomes) → Lawful L → (G : L .O → Type 0) → Written L G
-    → (sheet known facts given : List ℕ) (calls : List Call) (t : Policy (L .O)) (room : ℕ)
+-- For every accepted sheet and known table, every reduction of the sheet by either order that was accepted, and every list of narrowings, each by either order:
+-- if the reduction's table and every accepted one agree with the known table, the whole list is as document 01's "Stages" and request 8 say.
+pub demand3 : (L : Outcomes) (G : L .O → Type 0) → Written L G
+    → (o : Order) (sheet known facts given : List ℕ) (calls : List Call) (t : Policy (L .O)) (room : ℕ)
     → readSheet (L .value) sheet ≡ got t [] → tableFault knownFacts known ≡ none
-    → partialEvaluate L sheet facts room ≡ wrote given
+    → partialEvaluate L o sheet facts room ≡ wrote given
     → AgreesOn t (tableOf known) (tableOf facts)
-    → AllOf (AgreesOn t (tableOf known)) (accepted L given calls)
-    → Staged L sheet known facts given calls t
-demand3 L lawful G codec sheet known facts given calls t room reads knows first agrees later = demand3-of L lawful G codec sheet t reads known facts given calls room knows first agrees later
+    → AllOf (λ s. AgreesOn t (tableOf known) (s .table)) (accepted L given calls)
+    → Staged L o sheet known facts given calls t
+demand3 L G codec o sheet known facts given calls t room reads knows first agrees later = demand3-of L G codec sheet t reads o known facts given calls room knows first agrees later
 
 -- The same for sets of products.
-pub demand3-products : (sheet known facts given : List ℕ) (calls : List Call) (t : Policy ℕ) (room : ℕ)
+pub demand3-products : (o : Order) (sheet known facts given : List ℕ) (calls : List Call) (t : Policy ℕ) (room : ℕ)
     → readSheet (productSets .value) sheet ≡ got t [] → tableFault knownFacts known ≡ none
-    → partialEvaluate productSets sheet facts room ≡ wrote given
+    → partialEvaluate productSets o sheet facts room ≡ wrote given
     → AgreesOn t (tableOf known) (tableOf facts)
-    → AllOf (AgreesOn t (tableOf known)) (accepted productSets given calls)
-    → Staged productSets sheet known facts given calls t
-demand3-products = demand3 productSets lawfulProducts InRange writtenProducts
+    → AllOf (λ s. AgreesOn t (tableOf known) (s .table)) (accepted productSets given calls)
+    → Staged productSets o sheet known facts given calls t
+demand3-products = demand3 productSets InRange writtenProducts
+
+pub products-kept : {o : Order} {sheet known facts given : List ℕ} {calls : List Call} {t : Policy ℕ} (s : Staged productSets o sheet known facts given calls t)
+    → products (s .decision) ≡ products (evalPolicy productSets (tableOf known) t)
+products-kept s = s .same-products lawfulProducts
 
 -- Direct evaluation of an accepted sheet: what it writes, that it is accepted with room enough, and that its record reads back.
 pub evaluate-products-wrote : (sheet known : List ℕ) (t : Policy ℕ) (room : ℕ) (ws : List ℕ) → readSheet (productSets .value) sheet ≡ got t [] → evaluate productSets sheet known room ≡ wrote ws
     → ws ≡ encodeR (productSets .number) (evaluated productSets (tableOf known) t)
-evaluate-products-wrote sheet known t room ws reads e = evaluate-wrote productSets lawfulProducts InRange writtenProducts sheet t reads known room ws e
+evaluate-products-wrote sheet known t room ws reads e = evaluate-wrote productSets InRange writtenProducts sheet t reads known room ws e
 
 pub evaluate-products : (sheet known : List ℕ) (t : Policy ℕ) (room : ℕ) → readSheet (productSets .value) sheet ≡ got t [] → tableFault knownFacts known ≡ none → Roomy productSets sheet room
     → evaluate productSets sheet known room ≡ wrote (encodeR (productSets .number) (evaluated productSets (tableOf known) t))
-evaluate-products sheet known t room reads knows h = evaluate-fits productSets lawfulProducts InRange writtenProducts sheet t reads known room knows h
+evaluate-products sheet known t room reads knows h = evaluate-fits productSets InRange writtenProducts sheet t reads known room knows h
 
 pub evaluate-products-back : (sheet : List ℕ) (K : Table) (t : Policy ℕ) → readSheet (productSets .value) sheet ≡ got t []
     → readRecord (productSets .value) (encodeR (productSets .number) (evaluated productSets K t)) ≡ got (evaluated productSets K t) []
-evaluate-products-back sheet K t reads = evaluate-back productSets lawfulProducts InRange writtenProducts sheet t reads K
+evaluate-products-back sheet K t reads = evaluate-back productSets InRange writtenProducts sheet t reads K

@@ -7,6 +7,7 @@ use Rattle.model.specs.Facts.{Table}
 use Rattle.model.specs.Outcome.{Outcomes}
 use Rattle.model.specs.Condition.{Condition}
 use Rattle.model.specs.Policy.{Policy}
+use Rattle.model.specs.Partial.{Order}
 use Rattle.model.specs.Consulted.{Consulted, once, read, walk}
 use Rattle.laws.specs.Lists.{Every}
 use Rattle.laws.specs.Size.{words}
@@ -29,11 +30,11 @@ module _ (L : Outcomes) (T : Table) (G : L .O → Type 0) (B : Condition → Typ
         log-length (read L T t (once l)) (good-read (λ f. f < 1024) L T t (once l) (small-T G B t form) (good-once (λ f. f < 1024) l (named-small l named))),
       )
 
-  pub walk-fits : length (walk L T t (once l)) ≤ min 1024 (length l + words t)
-  walk-fits =
+  pub walk-fits : (o : Order) → length (walk L o T t (once l)) ≤ min 1024 (length l + words t)
+  walk-fits o =
       omega (
         arith,
         once-length l,
-        walk-length L T t (once l),
-        log-length (walk L T t (once l)) (good-walk (λ f. f < 1024) L T t (once l) (small-T G B t form) (good-once (λ f. f < 1024) l (named-small l named))),
+        walk-length L o T t (once l),
+        log-length (walk L o T t (once l)) (good-walk (λ f. f < 1024) L o T t (once l) (small-T G B t form) (good-once (λ f. f < 1024) l (named-small l named))),
       )

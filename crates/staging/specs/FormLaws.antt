@@ -12,12 +12,13 @@ use Rattle.model.specs.Condition.{Condition, always, never, has, notC, allC, an
 use Rattle.model.specs.Decision.{Permit, Denial, Decision, permits, denies, combined, genericDeny, unionObligations, meetPermit, joinPermit, meetIn, joinIn}
 use Rattle.model.specs.Policy.{Grant, Policy, permit, deny, grant, all, any, orElse, stored, Policies, pnil, pcons}
 use Rattle.model.specs.Evaluate.{evalGrant, firstOf, firstDeny, allEnd, allFrom, anyEnd, anyFrom, evalPolicy, evalPolicies}
-use Rattle.model.specs.Partial.{ReducedCondition, known, pendingC, reduceHas, flipR, ConditionWalk, stopped, through, stepAllC, stepAnyC, endAllC, endAnyC, reduceCondition, reduceConditionAll, reduceConditionAny, ReducedPolicy, resolved, pending, asResidual, arms, kept, AllWalk, stop, go, stepAll, AnyWalk, parts, stepAny, reduceGrant, reduceOrElse, endAll, endAny, reducePolicy, reduceAll, reduceAny}
+use Rattle.model.specs.Partial.{ReducedCondition, known, pendingC, reduceHas, flipR, ConditionWalk, stopped, through, stepAllC, stepAnyC, endAllC, endAnyC, reduceCondition, reduceConditionAll, reduceConditionAny, ReducedPolicy, resolved, pending, asResidual, arms, kept, AllWalk, stop, go, stepAll, walkedAll, AnyWalk, parts, stepAny, walkedAny, upToDeny, inOrder, reduceGrant, reduceOrElse, endAll, endAny, Order, permitsFirst, sheetOrder, allOf, anyOf, reducePolicy, reduceArms}
 use Rattle.model.specs.Writing.{countC, count}
 use Rattle.model.specs.Reading.{obligationCount}
 use Rattle.laws.specs.Lists.{Below, every-append, unite-distinct, unite-every}
 use Rattle.laws.specs.Size.{wordsC}
 use Rattle.laws.specs.Form.{FormC, FormCs, IfThere, FormF, FormO, FormP, FormN, FormD, FormG, Form, Forms, depthC, depthCs, depth, depths}
+use Rattle.staging.specs.Arms.{up-to-deny, ends-in-order}
 use Rattle.staging.specs.SizeLaws.{factsV, facts-le, wordsRC, size-redC}
 
 -- A choice has what both branches have.
@@ -377,13 +378,21 @@ module _ (L : Outcomes) (G : L .O → Type 0) (meets : (a b : L .O) → G a → 
   count-stepAny (resolved (permits p)) (parts ps first qs) = omega arith
   count-stepAny (pending q) (parts ps first qs) = omega arith
 
-  count-redAll : (P : Table) (ts : Policies (L .O)) → countAll (reduceAll L P ts) ≤ count ts
-  count-redAll P pnil = omega arith
-  count-redAll P (pcons t ts) = omega (arith, count-stepAll (reducePolicy L P t) (reduceAll L P ts), count-redAll P ts)
+  count-walkedAll : (rs : List (ReducedPolicy (L .O))) → countAll (walkedAll rs) ≤ count (inOrder rs)
+  count-walkedAll [] = omega arith
+  count-walkedAll (r ∷ rs) = omega (arith, count-stepAll r (walkedAll rs), count-walkedAll rs)
 
-  count-redAny : (P : Table) (ts : Policies (L .O)) → countAny (reduceAny L P ts) ≤ count ts
-  count-redAny P pnil = omega arith
-  count-redAny P (pcons t ts) = omega (arith, count-stepAny (reducePolicy L P t) (reduceAny L P ts), count-redAny P ts)
+  count-walkedAny : (rs : List (ReducedPolicy (L .O))) → countAny (walkedAny rs) ≤ count (inOrder rs)
+  count-walkedAny [] = omega arith
+  count-walkedAny (r ∷ rs) = omega (arith, count-stepAny r (walkedAny rs), count-walkedAny rs)
+
+  form-walkedAll : (rs : List (ReducedPolicy (L .O))) → Forms G (inOrder rs) → FormAll (walkedAll rs)
+  form-walkedAll [] h = (tt, tt)
+  form-walkedAll (r ∷ rs) h = form-stepAll r (walkedAll rs) (h .0) (form-walkedAll rs (h .1))
+
+  form-walkedAny : (rs : List (ReducedPolicy (L .O))) → Forms G (inOrder rs) → FormAny (walkedAny rs)
+  form-walkedAny [] h = (tt, tt, tt)
+  form-walkedAny (r ∷ rs) h = form-stepAny r (walkedAny rs) (h .0) (form-walkedAny rs (h .1))
 
   form-endAll : (T : Table) (w : AllWalk (L .O)) → countAll w ≤ 4095 → FormAll w → Form G (asResidual (endAll L T w))
   form-endAll T (stop d) n h = h
@@ -405,25 +414,38 @@ module _ (L : Outcomes) (G : L .O → Type 0) (meets : (a b : L .O) → G a → 
   form-redElse (resolved (denies d)) b h k = k
   form-redElse (pending a) b h k = (h, k)
 
-  module _ (P : Table) where
+  -- Lists under either order: what is asked of the list that holds all arms.
+  form-allOf : (o : Order) (T : Table) (rs : List (ReducedPolicy (L .O))) → Form G (all (inOrder rs)) → Form G (asResidual (allOf L o T rs))
+  form-allOf permitsFirst T rs h = form-endAll T (walkedAll rs) (omega (arith, count-walkedAll rs, h .0)) (form-walkedAll rs (h .1))
+  form-allOf sheetOrder T rs h =
+      let n = up-to-deny (λ ts us. count ts ≤ count us) (λ ts. omega arith) (λ t ts us h. omega arith) rs in
+      let f = up-to-deny (λ ts us. Forms G us → Forms G ts) (λ ts h. tt) (λ t ts us k h. (h .0, k (h .1))) rs (h .1) in
+      let held : Form G (all (inOrder (upToDeny rs))) = (omega (arith, h .0), f) in
+      ends-in-order L (Form G) all T (upToDeny rs) held (form-eval T (all (inOrder (upToDeny rs))) held)
+
+  form-anyOf : (o : Order) (T : Table) (rs : List (ReducedPolicy (L .O))) → Form G (any (inOrder rs)) → Form G (asResidual (anyOf L o T rs))
+  form-anyOf permitsFirst T rs h = form-endAny T (walkedAny rs) (omega (arith, count-walkedAny rs, h .0)) (form-walkedAny rs (h .1))
+  form-anyOf sheetOrder T rs h = ends-in-order L (Form G) any T rs h (form-eval T (any (inOrder rs)) h)
+
+  module _ (o : Order) (P : Table) where
+    count-arms-red : (ts : Policies (L .O)) → count (inOrder (reduceArms L o P ts)) ≡ count ts
+    count-arms-red pnil = refl
+    count-arms-red (pcons t ts) = omega (arith, count-arms-red ts)
+
     mutual
-      pub form-red : (t : Policy (L .O)) → Form G t → Form G (asResidual (reducePolicy L P t))
-      form-red (permit o) h = (h, (tt, tt), tt, few)
+      pub form-red : (t : Policy (L .O)) → Form G t → Form G (asResidual (reducePolicy L o P t))
+      form-red (permit x) h = (h, (tt, tt), tt, few)
       form-red deny h = form-plain
       form-red (grant g c) h =
           form-redGrant g (evalCondition P c) (reduceCondition P c) (h .0) (form-facts P c (h .1) (h .2)) (form-redC P c (h .1)) (omega (arith, size-redC P c, h .2))
-      form-red (all ts) h = form-endAll P (reduceAll L P ts) (omega (arith, count-redAll P ts, h .0)) (form-redAll ts (h .1))
-      form-red (any ts) h = form-endAny P (reduceAny L P ts) (omega (arith, count-redAny P ts, h .0)) (form-redAny ts (h .1))
-      form-red (orElse a b) h = form-redElse (reducePolicy L P a) (reducePolicy L P b) (form-red a (h .0)) (form-red b (h .1))
+      form-red (all ts) h = form-allOf o P (reduceArms L o P ts) (omega (arith, count-arms-red ts, h .0), form-redArms ts (h .1))
+      form-red (any ts) h = form-anyOf o P (reduceArms L o P ts) (omega (arith, count-arms-red ts, h .0), form-redArms ts (h .1))
+      form-red (orElse a b) h = form-redElse (reducePolicy L o P a) (reducePolicy L o P b) (form-red a (h .0)) (form-red b (h .1))
       form-red (stored d) h = h
 
-      form-redAll : (ts : Policies (L .O)) → Forms G ts → FormAll (reduceAll L P ts)
-      form-redAll pnil h = (tt, tt)
-      form-redAll (pcons t ts) h = form-stepAll (reducePolicy L P t) (reduceAll L P ts) (form-red t (h .0)) (form-redAll ts (h .1))
-
-      form-redAny : (ts : Policies (L .O)) → Forms G ts → FormAny (reduceAny L P ts)
-      form-redAny pnil h = (tt, tt, tt)
-      form-redAny (pcons t ts) h = form-stepAny (reducePolicy L P t) (reduceAny L P ts) (form-red t (h .0)) (form-redAny ts (h .1))
+      form-redArms : (ts : Policies (L .O)) → Forms G ts → Forms G (inOrder (reduceArms L o P ts))
+      form-redArms pnil h = tt
+      form-redArms (pcons t ts) h = (form-red t (h .0), form-redArms ts (h .1))
 
 -- ---- nesting of what is left of a policy
 module _ (L : Outcomes) where
@@ -477,22 +499,37 @@ module _ (L : Outcomes) where
   depth-redElse (resolved (denies d)) b = omega arith
   depth-redElse (pending a) b = omega arith
 
-  module _ (P : Table) where
+  depth-walkedAll : (rs : List (ReducedPolicy (L .O))) → depthAll (walkedAll rs) ≤ depths (inOrder rs)
+  depth-walkedAll [] = omega arith
+  depth-walkedAll (r ∷ rs) = omega (arith, depth-stepAll r (walkedAll rs), depth-walkedAll rs)
+
+  depth-walkedAny : (rs : List (ReducedPolicy (L .O))) → depthAny (walkedAny rs) ≤ depths (inOrder rs)
+  depth-walkedAny [] = omega arith
+  depth-walkedAny (r ∷ rs) = omega (arith, depth-stepAny r (walkedAny rs), depth-walkedAny rs)
+
+  -- Lists under either order.
+  depth-allOf : (o : Order) (T : Table) (rs : List (ReducedPolicy (L .O))) → depth (asResidual (allOf L o T rs)) ≤ 1 + depths (inOrder rs)
+  depth-allOf permitsFirst T rs = omega (arith, depth-endAll T (walkedAll rs), depth-walkedAll rs)
+  depth-allOf sheetOrder T rs =
+      let n = up-to-deny (λ ts us. depths ts ≤ depths us) (λ ts. omega arith) (λ t ts us h. omega arith) rs in
+      ends-in-order L (λ t. depth t ≤ 1 + depths (inOrder rs)) all T (upToDeny rs) (omega arith) (omega arith)
+
+  depth-anyOf : (o : Order) (T : Table) (rs : List (ReducedPolicy (L .O))) → depth (asResidual (anyOf L o T rs)) ≤ 1 + depths (inOrder rs)
+  depth-anyOf permitsFirst T rs = omega (arith, depth-endAny T (walkedAny rs), depth-walkedAny rs)
+  depth-anyOf sheetOrder T rs = ends-in-order L (λ t. depth t ≤ 1 + depths (inOrder rs)) any T rs (omega arith) (omega arith)
+
+  module _ (o : Order) (P : Table) where
     mutual
       -- What is left is no deeper than the source.
-      pub depth-red : (t : Policy (L .O)) → depth (asResidual (reducePolicy L P t)) ≤ depth t
-      depth-red (permit o) = omega arith
+      pub depth-red : (t : Policy (L .O)) → depth (asResidual (reducePolicy L o P t)) ≤ depth t
+      depth-red (permit x) = omega arith
       depth-red deny = omega arith
       depth-red (grant g c) = omega (arith, depth-redGrant g (evalCondition P c) (reduceCondition P c), depth-redC P c)
-      depth-red (all ts) = omega (arith, depth-endAll P (reduceAll L P ts), depth-redAll ts)
-      depth-red (any ts) = omega (arith, depth-endAny P (reduceAny L P ts), depth-redAny ts)
-      depth-red (orElse a b) = omega (arith, depth-redElse (reducePolicy L P a) (reducePolicy L P b), depth-red a, depth-red b)
+      depth-red (all ts) = omega (arith, depth-allOf o P (reduceArms L o P ts), depth-redArms ts)
+      depth-red (any ts) = omega (arith, depth-anyOf o P (reduceArms L o P ts), depth-redArms ts)
+      depth-red (orElse a b) = omega (arith, depth-redElse (reducePolicy L o P a) (reducePolicy L o P b), depth-red a, depth-red b)
       depth-red (stored d) = omega arith
 
-      depth-redAll : (ts : Policies (L .O)) → depthAll (reduceAll L P ts) ≤ depths ts
-      depth-redAll pnil = omega arith
-      depth-redAll (pcons t ts) = omega (arith, depth-stepAll (reducePolicy L P t) (reduceAll L P ts), depth-red t, depth-redAll ts)
-
-      depth-redAny : (ts : Policies (L .O)) → depthAny (reduceAny L P ts) ≤ depths ts
-      depth-redAny pnil = omega arith
-      depth-redAny (pcons t ts) = omega (arith, depth-stepAny (reducePolicy L P t) (reduceAny L P ts), depth-red t, depth-redAny ts)
+      depth-redArms : (ts : Policies (L .O)) → depths (inOrder (reduceArms L o P ts)) ≤ depths ts
+      depth-redArms pnil = omega arith
+      depth-redArms (pcons t ts) = omega (arith, depth-red t, depth-redArms ts)

@@ -1,5 +1,10 @@
 pub mod ConditionLaws
+pub mod Bare
+pub mod BareLaws
+pub mod OneSitting
 pub mod PolicyLaws
+pub mod Before
+pub mod Arms
 pub mod SizeLaws
 pub mod FormLaws
 pub mod ConsultedLaws

@@ -1,4 +1,5 @@
--- Reducing a policy keeps its effect and its products under every known table that agrees, and what is left names only open facts.
+-- Reducing permits first keeps a policy's effect and its products under every known table that agrees: arms may change places, since meet and join are commutative
+-- and associative.
 use mathlib.Core.Path.{_≡_, refl, sym, _∙_, ap, ap₂}
 use mathlib.Core.Bool.{Bool, true, false, cond}
 use mathlib.Core.Option.{Option, none, some}
@@ -6,15 +7,16 @@ use mathlib.Core.List.{List, [], _∷_, _++_}
 use Prim.Native.Nat.{ℕ}
 use Rattle.model.specs.Facts.{Table}
 use Rattle.model.specs.Outcome.{Outcomes}
-use Rattle.model.specs.Condition.{Condition, ConditionEval, satisfied, unsatisfied, evalCondition}
+use Rattle.model.specs.Condition.{evalCondition}
 use Rattle.model.specs.Decision.{Permit, Denial, Decision, permits, denies, products, meetIn, joinIn}
-use Rattle.model.specs.Policy.{Grant, Policy, permit, deny, grant, all, any, orElse, stored, Policies, pnil, pcons}
+use Rattle.model.specs.Policy.{Policy, permit, deny, grant, all, any, orElse, stored, Policies, pnil, pcons}
 use Rattle.model.specs.Evaluate.{evalGrant, firstOf, firstDeny, allEnd, allFrom, anyEnd, anyFrom, evalPolicy, evalPolicies}
-use Rattle.model.specs.Partial.{ReducedCondition, known, pendingC, reduceCondition, ReducedPolicy, resolved, pending, asResidual, arms, kept, AllWalk, stop, go, stepAll, AnyWalk, parts, stepAny, reduceGrant, reduceOrElse, endAll, endAny, reducePolicy, reduceAll, reduceAny}
+use Rattle.model.specs.Partial.{reduceCondition, ReducedPolicy, resolved, pending, asResidual, arms, kept, AllWalk, stop, go, stepAll, walkedAll, AnyWalk, parts, stepAny, walkedAny, reduceGrant, reduceOrElse, endAll, endAny, permitsFirst, reducePolicy, reduceArms}
 use Rattle.laws.specs.Each.{Each, Eachs, Agrees}
 use Rattle.laws.specs.Products.{Lawful}
 use Rattle.laws.specs.Folds.{meetPermit-outcome, joinPermit-outcome}
-use Rattle.staging.specs.ConditionLaws.{isSatisfied, truthR, redC-sound, known-again}
+use Rattle.staging.specs.BareLaws.{same-products}
+use Rattle.staging.specs.OneSitting.{grant-decided, else-decided}
 
 -- ---- an operation with a unit put on
 module _ {A : Type 0} (op : A → A → A) where
@@ -204,16 +206,6 @@ module _ (L : Outcomes) (lawful : Lawful L) where
     end-any T (parts ps first (pcons q qs)) =
         anyFrom-sum none none (evalPolicies L K (kept ps first (pcons q qs))) ∙ kept-sum K ps first (pcons q qs)
 
-    decide-truth : (g : Grant (L .O)) (v w : ConditionEval) → isSatisfied v ≡ isSatisfied w → products (evalGrant g v) ≡ products (evalGrant g w)
-    decide-truth g (satisfied fs) (satisfied gs) e = refl
-    decide-truth g (satisfied fs) (unsatisfied gs) e = cc
-    decide-truth g (unsatisfied fs) (satisfied gs) e = cc
-    decide-truth g (unsatisfied fs) (unsatisfied gs) e = refl
-
-    grant-value : (P : Table) (g : Grant (L .O)) (c : Condition) (r : ReducedCondition) → reduceCondition P c ≡ r → truthR K r ≡ isSatisfied (evalCondition K c) → value (reduceGrant g (evalCondition P c) r) ≡ products (evalGrant g (evalCondition K c))
-    grant-value P g c (known b) e h = decide-truth g (evalCondition P c) (evalCondition K c) (known-again P c b e ∙ h)
-    grant-value P g c (pendingC c′) e h = decide-truth g (evalCondition K c′) (evalCondition K c) h
-
     abbrev choose : Option (L .O) → Option (L .O) → Option (L .O)
     choose none y = y
     choose (some x) y = some x
@@ -223,29 +215,28 @@ module _ (L : Outcomes) (lawful : Lawful L) where
     firstOf-products (denies d) e = refl
 
     else-value : (a b : ReducedPolicy (L .O)) → value (reduceOrElse a b) ≡ choose (value a) (value b)
-    else-value (resolved (permits p)) b = refl
-    else-value (resolved (denies d)) b = refl
-    else-value (pending a) b = firstOf-products (evalPolicy L K a) (evalPolicy L K (asResidual b))
+    else-value a b = ap products (else-decided L K a b) ∙ firstOf-products (evalPolicy L K (asResidual a)) (evalPolicy L K (asResidual b))
 
     module _ (P : Table) where
       mutual
         -- Reducing keeps effect and products under K.
-        pub red-sound : (t : Policy (L .O)) → Each (Agrees K P) t → value (reducePolicy L P t) ≡ products (evalPolicy L K t)
-        red-sound (permit o) h = refl
+        pub red-sound : (t : Policy (L .O)) → Each (Agrees K P) t → value (reducePolicy L permitsFirst P t) ≡ products (evalPolicy L K t)
+        red-sound (permit x) h = refl
         red-sound deny h = refl
-        red-sound (grant g c) h = grant-value P g c (reduceCondition P c) refl (redC-sound K P c h)
-        red-sound (all ts) h = end-all P (reduceAll L P ts) ∙ ap close (redAll-sound ts h) ∙ sym (allFrom-sum none (evalPolicies L K ts))
-        red-sound (any ts) h = end-any P (reduceAny L P ts) ∙ redAny-sound ts h ∙ sym (anyFrom-sum none none (evalPolicies L K ts))
+        red-sound (grant g c) h =
+            same-products (evalPolicy L K (asResidual (reduceGrant g (evalCondition P c) (reduceCondition P c)))) (evalGrant g (evalCondition K c)) (grant-decided L K P g c h)
+        red-sound (all ts) h = end-all P (walkedAll (reduceArms L permitsFirst P ts)) ∙ ap close (redAll-sound ts h) ∙ sym (allFrom-sum none (evalPolicies L K ts))
+        red-sound (any ts) h = end-any P (walkedAny (reduceArms L permitsFirst P ts)) ∙ redAny-sound ts h ∙ sym (anyFrom-sum none none (evalPolicies L K ts))
         red-sound (orElse a b) h =
-            else-value (reducePolicy L P a) (reducePolicy L P b) ∙ ap₂ choose (red-sound a (h .0)) (red-sound b (h .1)) ∙ sym (firstOf-products (evalPolicy L K a) (evalPolicy L K b))
+            else-value (reducePolicy L permitsFirst P a) (reducePolicy L permitsFirst P b) ∙ ap₂ choose (red-sound a (h .0)) (red-sound b (h .1)) ∙ sym (firstOf-products (evalPolicy L K a) (evalPolicy L K b))
         red-sound (stored d) h = refl
 
-        redAll-sound : (ts : Policies (L .O)) → Eachs (Agrees K P) ts → allValue (reduceAll L P ts) ≡ allSum (evalPolicies L K ts)
+        redAll-sound : (ts : Policies (L .O)) → Eachs (Agrees K P) ts → allValue (walkedAll (reduceArms L permitsFirst P ts)) ≡ allSum (evalPolicies L K ts)
         redAll-sound pnil h = refl
         redAll-sound (pcons t ts) h =
-            step-all (reducePolicy L P t) (reduceAll L P ts) ∙ ap₂ (λ x y. some x ⊗ y) (red-sound t (h .0)) (redAll-sound ts (h .1))
+            step-all (reducePolicy L permitsFirst P t) (walkedAll (reduceArms L permitsFirst P ts)) ∙ ap₂ (λ x y. some x ⊗ y) (red-sound t (h .0)) (redAll-sound ts (h .1))
 
-        redAny-sound : (ts : Policies (L .O)) → Eachs (Agrees K P) ts → anyValue (reduceAny L P ts) ≡ anySum (evalPolicies L K ts)
+        redAny-sound : (ts : Policies (L .O)) → Eachs (Agrees K P) ts → anyValue (walkedAny (reduceArms L permitsFirst P ts)) ≡ anySum (evalPolicies L K ts)
         redAny-sound pnil h = refl
         redAny-sound (pcons t ts) h =
-            step-any (reducePolicy L P t) (reduceAny L P ts) ∙ ap₂ (λ x y. x ⊕ y) (red-sound t (h .0)) (redAny-sound ts (h .1))
+            step-any (reducePolicy L permitsFirst P t) (walkedAny (reduceArms L permitsFirst P ts)) ∙ ap₂ (λ x y. x ⊕ y) (red-sound t (h .0)) (redAny-sound ts (h .1))

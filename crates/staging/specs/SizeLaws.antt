@@ -12,8 +12,9 @@ use Rattle.model.specs.Condition.{Condition, always, never, has, notC, allC, an
 use Rattle.model.specs.Decision.{Permit, Denial, Decision, permits, denies, combined, held, insert, unionObligations, meetPermit, joinPermit, meetIn, joinIn}
 use Rattle.model.specs.Policy.{Grant, Policy, permit, deny, grant, all, any, orElse, stored, Policies, pnil, pcons}
 use Rattle.model.specs.Evaluate.{evalGrant, firstOf, firstDeny, allEnd, allFrom, anyEnd, anyFrom, evalPolicy, evalPolicies}
-use Rattle.model.specs.Partial.{ReducedCondition, known, pendingC, reduceHas, flipR, ConditionWalk, stopped, through, stepAllC, stepAnyC, endAllC, endAnyC, reduceCondition, reduceConditionAll, reduceConditionAny, ReducedPolicy, resolved, pending, asResidual, arms, kept, AllWalk, stop, go, stepAll, AnyWalk, parts, stepAny, reduceGrant, reduceOrElse, endAll, endAny, reducePolicy, reduceAll, reduceAny}
+use Rattle.model.specs.Partial.{ReducedCondition, known, pendingC, reduceHas, flipR, ConditionWalk, stopped, through, stepAllC, stepAnyC, endAllC, endAnyC, reduceCondition, reduceConditionAll, reduceConditionAny, ReducedPolicy, resolved, pending, asResidual, arms, kept, AllWalk, stop, go, stepAll, walkedAll, AnyWalk, parts, stepAny, walkedAny, upToDeny, inOrder, reduceGrant, reduceOrElse, endAll, endAny, Order, permitsFirst, sheetOrder, allOf, anyOf, reducePolicy, reduceArms}
 use Rattle.laws.specs.Size.{quads, wordsC, wordsCs, wordsP, wordsN, wordsD, words, wordss}
+use Rattle.staging.specs.Arms.{up-to-deny, ends-in-order}
 
 -- The bound: what a tree may grow to when it is reduced, narrowed or completed, however often.
 abbrev mutual
@@ -286,24 +287,42 @@ module _ (L : Outcomes) where
   redElse-most (resolved (denies d)) b = omega arith
   redElse-most (pending a) b = omega arith
 
-  module _ (P : Table) where
+  -- Lists under either order: no more than their arms, and 3 for an empty one that resolves.
+  walkedAll-most : (rs : List (ReducedPolicy (L .O))) → mostAll (walkedAll rs) ≤ mosts (inOrder rs)
+  walkedAll-most [] = omega arith
+  walkedAll-most (r ∷ rs) = omega (arith, stepAll-most r (walkedAll rs), walkedAll-most rs)
+
+  walkedAny-most : (rs : List (ReducedPolicy (L .O))) → mostAny (walkedAny rs) ≤ mosts (inOrder rs)
+  walkedAny-most [] = omega arith
+  walkedAny-most (r ∷ rs) = omega (arith, stepAny-most r (walkedAny rs), walkedAny-most rs)
+
+  upToDeny-most : (rs : List (ReducedPolicy (L .O))) → mosts (inOrder (upToDeny rs)) ≤ mosts (inOrder rs)
+  upToDeny-most rs = up-to-deny (λ ts us. mosts ts ≤ mosts us) (λ ts. omega arith) (λ t ts us h. omega arith) rs
+
+  allOf-most : (o : Order) (T : Table) (rs : List (ReducedPolicy (L .O))) → most (asResidual (allOf L o T rs)) ≤ 3 + mosts (inOrder rs)
+  allOf-most permitsFirst T rs = omega (arith, endAll-most T (walkedAll rs), walkedAll-most rs)
+  allOf-most sheetOrder T rs =
+      let n = upToDeny-most rs in
+      ends-in-order L (λ t. most t ≤ 3 + mosts (inOrder rs)) all T (upToDeny rs) (omega arith) (omega (arith, eval-words T (all (inOrder (upToDeny rs)))))
+
+  anyOf-most : (o : Order) (T : Table) (rs : List (ReducedPolicy (L .O))) → most (asResidual (anyOf L o T rs)) ≤ 3 + mosts (inOrder rs)
+  anyOf-most permitsFirst T rs = omega (arith, endAny-most T (walkedAny rs), walkedAny-most rs)
+  anyOf-most sheetOrder T rs = ends-in-order L (λ t. most t ≤ 3 + mosts (inOrder rs)) any T rs (omega arith) (omega (arith, eval-words T (any (inOrder rs))))
+
+  module _ (o : Order) (P : Table) where
     mutual
-      pub red-most : (t : Policy (L .O)) → most (asResidual (reducePolicy L P t)) ≤ most t
-      red-most (permit o) = omega arith
+      pub red-most : (t : Policy (L .O)) → most (asResidual (reducePolicy L o P t)) ≤ most t
+      red-most (permit x) = omega arith
       red-most deny = omega arith
       red-most (grant g c) = redGrant-most g (evalCondition P c) (reduceCondition P c) (wordsC c) (facts-le P c) (size-redC P c)
-      red-most (all ts) = omega (arith, endAll-most P (reduceAll L P ts), redAll-most ts)
-      red-most (any ts) = omega (arith, endAny-most P (reduceAny L P ts), redAny-most ts)
-      red-most (orElse a b) = omega (arith, redElse-most (reducePolicy L P a) (reducePolicy L P b), red-most a, red-most b)
+      red-most (all ts) = omega (arith, allOf-most o P (reduceArms L o P ts), redArms-most ts)
+      red-most (any ts) = omega (arith, anyOf-most o P (reduceArms L o P ts), redArms-most ts)
+      red-most (orElse a b) = omega (arith, redElse-most (reducePolicy L o P a) (reducePolicy L o P b), red-most a, red-most b)
       red-most (stored d) = omega arith
 
-      redAll-most : (ts : Policies (L .O)) → mostAll (reduceAll L P ts) ≤ mosts ts
-      redAll-most pnil = omega arith
-      redAll-most (pcons t ts) = omega (arith, stepAll-most (reducePolicy L P t) (reduceAll L P ts), red-most t, redAll-most ts)
-
-      redAny-most : (ts : Policies (L .O)) → mostAny (reduceAny L P ts) ≤ mosts ts
-      redAny-most pnil = omega arith
-      redAny-most (pcons t ts) = omega (arith, stepAny-most (reducePolicy L P t) (reduceAny L P ts), red-most t, redAny-most ts)
+      redArms-most : (ts : Policies (L .O)) → mosts (inOrder (reduceArms L o P ts)) ≤ mosts ts
+      redArms-most pnil = omega arith
+      redArms-most (pcons t ts) = omega (arith, red-most t, redArms-most ts)
 
 -- ---- words and the bound
 mutual
@@ -335,5 +354,5 @@ mutual
   mosts-wordss (pcons t ts) = omega (arith, most-words t, mosts-wordss ts)
 
 -- What is left of a tree takes at most three times its words.
-pub reduced-words : (L : Outcomes) (P : Table) (t : Policy (L .O)) → words (asResidual (reducePolicy L P t)) ≤ 3 * words t
-reduced-words L P t = omega (arith, words-most (asResidual (reducePolicy L P t)), red-most L P t, most-words t)
+pub reduced-words : (L : Outcomes) (o : Order) (P : Table) (t : Policy (L .O)) → words (asResidual (reducePolicy L o P t)) ≤ 3 * words t
+reduced-words L o P t = omega (arith, words-most (asResidual (reducePolicy L o P t)), red-most L o P t, most-words t)

@@ -10,14 +10,18 @@ use Rattle.model.specs.Condition.{Condition, always, never, has, notC, allC, an
 use Rattle.model.specs.Decision.{Permit, Denial, Decision, permits, denies, products}
 use Rattle.model.specs.Policy.{Grant, Policy, permit, deny, grant, all, any, orElse, stored, Policies, pnil, pcons}
 use Rattle.model.specs.Evaluate.{evalPolicy}
-use Rattle.model.specs.Partial.{ReducedCondition, known, pendingC, reduceCondition, ReducedPolicy, resolved, pending, asResidual, arms, kept, AllWalk, stop, go, stepAll, AnyWalk, parts, stepAny, reduceGrant, reduceOrElse, endAll, endAny, reducePolicy, reduceAll, reduceAny}
+use Rattle.model.specs.Partial.{ReducedCondition, known, pendingC, reduceCondition, ReducedPolicy, resolved, pending, asResidual, arms, kept, AllWalk, stop, go, stepAll, walkedAll, AnyWalk, parts, stepAny, walkedAny, upToDeny, inOrder, reduceGrant, reduceOrElse, endAll, endAny, Order, permitsFirst, sheetOrder, allOf, anyOf, reducePolicy, reduceArms}
 use Rattle.model.specs.Consulted.{Consulted}
 use Rattle.model.specs.Record.{Record, tree, reduced, narrowedFrom, narrowed, completedFrom, completed}
 use Rattle.laws.specs.Each.{EachC, EachCs, Each, Eachs, Agrees}
 use Rattle.laws.specs.Products.{Lawful}
 use Rattle.staging.specs.ConditionLaws.{each-all, EachR, Left, redC-left}
+use Rattle.staging.specs.Bare.{bare}
+use Rattle.staging.specs.BareLaws.{same-products}
+use Rattle.staging.specs.OneSitting.{ordered-sound}
 use Rattle.staging.specs.PolicyLaws.{red-sound}
-use Rattle.staging.specs.Chain.{AllOf, run}
+use Rattle.staging.specs.Arms.{up-to-deny, ends-in-order}
+use Rattle.staging.specs.Chain.{Step, InOrder, AllOf, all-map, run}
 
 -- ---- what holds of each fact that a tree names
 module _ {Q R : ℕ → Type 0} (f : (n : ℕ) → Q n → R n) where
@@ -111,91 +115,132 @@ module _ (L : Outcomes) (Q : ℕ → Type 0) where
   each-endAny T (parts ps first pnil) h = tt
   each-endAny T (parts ps first (pcons q qs)) h = each-kept Q ps first (pcons q qs) h
 
-module _ (L : Outcomes) (Q : ℕ → Type 0) (P : Table) where
+  each-walkedAll : (rs : List (ReducedPolicy (L .O))) → Eachs Q (inOrder rs) → EachAll Q (walkedAll rs)
+  each-walkedAll [] h = tt
+  each-walkedAll (r ∷ rs) h = each-stepAll Q r (walkedAll rs) (h .0) (each-walkedAll rs (h .1))
+
+  each-walkedAny : (rs : List (ReducedPolicy (L .O))) → Eachs Q (inOrder rs) → EachAny Q (walkedAny rs)
+  each-walkedAny [] h = tt
+  each-walkedAny (r ∷ rs) h = each-stepAny Q r (walkedAny rs) (h .0) (each-walkedAny rs (h .1))
+
+  each-allOf : (o : Order) (T : Table) (rs : List (ReducedPolicy (L .O))) → Eachs Q (inOrder rs) → Each Q (asResidual (allOf L o T rs))
+  each-allOf permitsFirst T rs h = each-endAll T (walkedAll rs) (each-walkedAll rs h)
+  each-allOf sheetOrder T rs h = ends-in-order L (Each Q) all T (upToDeny rs) (up-to-deny (λ ts us. Eachs Q us → Eachs Q ts) (λ ts h. tt) (λ t ts us k h. (h .0, k (h .1))) rs h) tt
+
+  each-anyOf : (o : Order) (T : Table) (rs : List (ReducedPolicy (L .O))) → Eachs Q (inOrder rs) → Each Q (asResidual (anyOf L o T rs))
+  each-anyOf permitsFirst T rs h = each-endAny T (walkedAny rs) (each-walkedAny rs h)
+  each-anyOf sheetOrder T rs h = ends-in-order L (Each Q) any T rs h tt
+
+module _ (L : Outcomes) (o : Order) (P : Table) (Q : ℕ → Type 0) where
   mutual
     -- What is left names only facts that the source names and that P reads as Unknown.
-    pub red-left : (t : Policy (L .O)) → Each Q t → Each (Left Q P) (asResidual (reducePolicy L P t))
-    red-left (permit o) h = tt
+    pub red-left : (t : Policy (L .O)) → Each Q t → Each (Left Q P) (asResidual (reducePolicy L o P t))
+    red-left (permit x) h = tt
     red-left deny h = tt
     red-left (grant g c) h = each-grant (Left Q P) g (evalCondition P c) (reduceCondition P c) (redC-left Q P c h)
-    red-left (all ts) h = each-endAll L (Left Q P) P (reduceAll L P ts) (redAll-left ts h)
-    red-left (any ts) h = each-endAny L (Left Q P) P (reduceAny L P ts) (redAny-left ts h)
-    red-left (orElse a b) h = each-else (Left Q P) (reducePolicy L P a) (reducePolicy L P b) (red-left a (h .0)) (red-left b (h .1))
+    red-left (all ts) h = each-allOf L (Left Q P) o P (reduceArms L o P ts) (redArms-left ts h)
+    red-left (any ts) h = each-anyOf L (Left Q P) o P (reduceArms L o P ts) (redArms-left ts h)
+    red-left (orElse a b) h = each-else (Left Q P) (reducePolicy L o P a) (reducePolicy L o P b) (red-left a (h .0)) (red-left b (h .1))
     red-left (stored d) h = tt
 
-    redAll-left : (ts : Policies (L .O)) → Eachs Q ts → EachAll (Left Q P) (reduceAll L P ts)
-    redAll-left pnil h = tt
-    redAll-left (pcons t ts) h = each-stepAll (Left Q P) (reducePolicy L P t) (reduceAll L P ts) (red-left t (h .0)) (redAll-left ts (h .1))
+    redArms-left : (ts : Policies (L .O)) → Eachs Q ts → Eachs (Left Q P) (inOrder (reduceArms L o P ts))
+    redArms-left pnil h = tt
+    redArms-left (pcons t ts) h = (red-left t (h .0), redArms-left ts (h .1))
 
-    redAny-left : (ts : Policies (L .O)) → Eachs Q ts → EachAny (Left Q P) (reduceAny L P ts)
-    redAny-left pnil h = tt
-    redAny-left (pcons t ts) h = each-stepAny (Left Q P) (reducePolicy L P t) (reduceAny L P ts) (red-left t (h .0)) (redAny-left ts (h .1))
+-- Reducing by either order keeps effect and products; in sheet order with no law of meet and join.
+either-sound : (L : Outcomes) (lawful : Lawful L) (K : Table) (o : Order) (P : Table) (t : Policy (L .O)) → Each (Agrees K P) t → products (evalPolicy L K (asResidual (reducePolicy L o P t))) ≡ products (evalPolicy L K t)
+either-sound L lawful K permitsFirst P t h = red-sound L lawful K P t h
+either-sound L lawful K sheetOrder P t h = same-products (evalPolicy L K (asResidual (reducePolicy L sheetOrder P t))) (evalPolicy L K t) (ordered-sound L K P t h)
 
 -- ---- the chain
 module _ (L : Outcomes) where
-  narrow-left : (Q : ℕ → Type 0) (P : Table) (b : ReducedPolicy (L .O)) (l : Consulted) → Each Q (asResidual b) → Each (Left Q P) (tree (narrowedFrom L P b l))
-  narrow-left Q P (resolved d) l h = tt
-  narrow-left Q P (pending t) l h = red-left L Q P t h
+  -- What a narrowing leaves names what the record names, and open facts only.
+  narrow-left : (Q : ℕ → Type 0) (o : Order) (P : Table) (b : ReducedPolicy (L .O)) (l : Consulted) → Each Q (asResidual b) → Each (Left Q P) (tree (narrowedFrom L o P b l))
+  narrow-left Q o P (resolved d) l h = tt
+  narrow-left Q o P (pending t) l h = red-left L o P Q t h
 
-  -- Narrowing names nothing new.
-  narrow-keeps : (Q : ℕ → Type 0) (P : Table) (r : Record (L .O)) → Each Q (tree r) → Each Q (tree (narrowed L P r))
-  narrow-keeps Q P r h = each-map (λ n x. x .0) (tree (narrowed L P r)) (narrow-left Q P (r .body) (r .log) h)
+  narrow-keeps : (Q : ℕ → Type 0) (s : Step) (r : Record (L .O)) → Each Q (tree r) → Each Q (tree (narrowed L (s .order) (s .table) r))
+  narrow-keeps Q s r h = each-map (λ n x. x .0) (tree (narrowed L (s .order) (s .table) r)) (narrow-left Q (s .order) (s .table) (r .body) (r .log) h)
 
-  -- Narrowing leaves open facts only.
-  narrow-settles : (P : Table) (r : Record (L .O)) → Each (λ f. P f ≡ unknown) (tree (narrowed L P r))
-  narrow-settles P r =
-      each-map (λ n x. x .1) (tree (narrowed L P r)) (narrow-left (λ _. Unit {0}) P (r .body) (r .log) (each-every (λ _. tt) (tree r)))
+  narrow-settles : (s : Step) (r : Record (L .O)) → Each (λ f. s .table f ≡ unknown) (tree (narrowed L (s .order) (s .table) r))
+  narrow-settles s r =
+      each-map (λ n x. x .1) (tree (narrowed L (s .order) (s .table) r)) (narrow-left (λ _. Unit {0}) (s .order) (s .table) (r .body) (r .log) (each-every (λ _. tt) (tree r)))
 
-  -- Narrowing keeps effect and products under K.
-  narrow-sound : (lawful : Lawful L) (K P : Table) (b : ReducedPolicy (L .O)) (l : Consulted) → Each (Agrees K P) (asResidual b) → products (evalPolicy L K (tree (narrowedFrom L P b l))) ≡ products (evalPolicy L K (asResidual b))
-  narrow-sound lawful K P (resolved d) l h = refl
-  narrow-sound lawful K P (pending t) l h = red-sound L lawful K P t h
-
-  run-keeps : (Q : ℕ → Type 0) (r : Record (L .O)) (Ps : List Table) → Each Q (tree r) → Each Q (tree (run L r Ps))
+  run-keeps : (Q : ℕ → Type 0) (r : Record (L .O)) (ss : List Step) → Each Q (tree r) → Each Q (tree (run L r ss))
   run-keeps Q r [] h = h
-  run-keeps Q r (P ∷ Ps) h = run-keeps Q (narrowed L P r) Ps (narrow-keeps Q P r h)
+  run-keeps Q r (s ∷ ss) h = run-keeps Q (narrowed L (s .order) (s .table) r) ss (narrow-keeps Q s r h)
 
-  run-settles : (r : Record (L .O)) (Ps : List Table) → AllOf (λ P. Each (λ f. P f ≡ unknown) (tree (run L r Ps))) Ps
+  run-settles : (r : Record (L .O)) (ss : List Step) → AllOf (λ s. Each (λ f. s .table f ≡ unknown) (tree (run L r ss))) ss
   run-settles r [] = tt
-  run-settles r (P ∷ Ps) = (run-keeps (λ f. P f ≡ unknown) (narrowed L P r) Ps (narrow-settles P r), run-settles (narrowed L P r) Ps)
+  run-settles r (s ∷ ss) =
+      let n = narrowed L (s .order) (s .table) r in
+      (run-keeps (λ f. s .table f ≡ unknown) n ss (narrow-settles s r), run-settles n ss)
 
-  accepted-keeps : (K P : Table) (r : Record (L .O)) (Ps : List Table) → AllOf (λ S. Each (Agrees K S) (tree r)) Ps → AllOf (λ S. Each (Agrees K S) (tree (narrowed L P r))) Ps
-  accepted-keeps K P r [] h = tt
-  accepted-keeps K P r (S ∷ Ps) h = (narrow-keeps (Agrees K S) P r (h .0), accepted-keeps K P r Ps (h .1))
+  -- ---- under a known table
+  module _ (K : Table) where
+    -- The tables of the list agree on what the tree names.
+    abbrev AgreeOn : Policy (L .O) → List Step → Type 0
+    AgreeOn t ss = AllOf (λ s. Each (Agrees K (s .table)) t) ss
 
-  run-sound : (lawful : Lawful L) (K : Table) (r : Record (L .O)) (Ps : List Table) → AllOf (λ P. Each (Agrees K P) (tree r)) Ps → products (evalPolicy L K (tree (run L r Ps))) ≡ products (evalPolicy L K (tree r))
-  run-sound lawful K r [] h = refl
-  run-sound lawful K r (P ∷ Ps) h = run-sound lawful K (narrowed L P r) Ps (accepted-keeps K P r Ps (h .1)) ∙ narrow-sound lawful K P (r .body) (r .log) (h .0)
+    narrow-agrees : (s : Step) (r : Record (L .O)) (ss : List Step) → AgreeOn (tree r) ss → AgreeOn (tree (narrowed L (s .order) (s .table) r)) ss
+    narrow-agrees s r ss h =
+        all-map (λ u. Each (Agrees K (u .table)) (tree r)) (λ u. Each (Agrees K (u .table)) (tree (narrowed L (s .order) (s .table) r))) ss (λ u k. narrow-keeps (Agrees K (u .table)) s r k) h
 
-  -- Completing resolves, with the products that the record's tree has under K.
-  complete-sound : (K : Table) (b : ReducedPolicy (L .O)) (l : Consulted) → (d : Decision (L .O)) × (completedFrom L K b l .body ≡ resolved d) × (products d ≡ products (evalPolicy L K (asResidual b)))
-  complete-sound K (resolved d) l = (d, refl, refl)
-  complete-sound K (pending t) l = (evalPolicy L K t, refl, refl)
+    reduce-agrees : (o : Order) (P : Table) (t : Policy (L .O)) (ss : List Step) → AgreeOn t ss → AgreeOn (asResidual (reducePolicy L o P t)) ss
+    reduce-agrees o P t ss h =
+        all-map (λ s. Each (Agrees K (s .table)) t) (λ s. Each (Agrees K (s .table)) (asResidual (reducePolicy L o P t))) ss
+        (λ s k. each-map (λ n x. x .0) (asResidual (reducePolicy L o P t)) (red-left L o P (Agrees K (s .table)) t k)) h
 
-  -- The tables of the list that agree on what the sheet names agree on what the reduction's record names.
-  accepted-left : (K P : Table) (t : Policy (L .O)) (Ps : List Table) → AllOf (λ S. Each (Agrees K S) t) Ps → AllOf (λ S. Each (Agrees K S) (asResidual (reducePolicy L P t))) Ps
-  accepted-left K P t [] h = tt
-  accepted-left K P t (S ∷ Ps) h =
-      (each-map (λ n x. x .0) (asResidual (reducePolicy L P t)) (red-left L (Agrees K S) P t (h .0)), accepted-left K P t Ps (h .1))
+    -- Effect and products: by either order, and by both mixed.
+    narrow-sound : Lawful L → (o : Order) (P : Table) (b : ReducedPolicy (L .O)) (l : Consulted) → Each (Agrees K P) (asResidual b) → products (evalPolicy L K (tree (narrowedFrom L o P b l))) ≡ products (evalPolicy L K (asResidual b))
+    narrow-sound lawful o P (resolved d) l h = refl
+    narrow-sound lawful o P (pending t) l h = either-sound L lawful K o P t h
 
--- The whole list of calls, from a reduction of the sheet t with the table P, under the known table K.
-pub record TreeStaged (L : Outcomes) (K P : Table) (t : Policy (L .O)) (Ps : List Table) : Type 0 where
+    run-sound : Lawful L → (r : Record (L .O)) (ss : List Step) → AgreeOn (tree r) ss → products (evalPolicy L K (tree (run L r ss))) ≡ products (evalPolicy L K (tree r))
+    run-sound lawful r [] h = refl
+    run-sound lawful r (s ∷ ss) h =
+        run-sound lawful (narrowed L (s .order) (s .table) r) ss (narrow-agrees s r ss (h .1)) ∙ narrow-sound lawful (s .order) (s .table) (r .body) (r .log) (h .0)
+
+    -- All but the facts: in sheet order.
+    reduce-whole : (o : Order) (P : Table) (t : Policy (L .O)) → o ≡ sheetOrder → Each (Agrees K P) t → bare (evalPolicy L K (asResidual (reducePolicy L o P t))) ≡ bare (evalPolicy L K t)
+    reduce-whole o P t e h = ap (λ x. bare (evalPolicy L K (asResidual (reducePolicy L x P t)))) e ∙ ordered-sound L K P t h
+
+    narrow-whole : (o : Order) (P : Table) (b : ReducedPolicy (L .O)) (l : Consulted) → o ≡ sheetOrder → Each (Agrees K P) (asResidual b) → bare (evalPolicy L K (tree (narrowedFrom L o P b l))) ≡ bare (evalPolicy L K (asResidual b))
+    narrow-whole o P (resolved d) l e h = refl
+    narrow-whole o P (pending t) l e h = reduce-whole o P t e h
+
+    run-whole : (r : Record (L .O)) (ss : List Step) → AllOf InOrder ss → AgreeOn (tree r) ss → bare (evalPolicy L K (tree (run L r ss))) ≡ bare (evalPolicy L K (tree r))
+    run-whole r [] e h = refl
+    run-whole r (s ∷ ss) e h =
+        run-whole (narrowed L (s .order) (s .table) r) ss (e .1) (narrow-agrees s r ss (h .1)) ∙ narrow-whole (s .order) (s .table) (r .body) (r .log) (e .0) (h .0)
+
+    -- Completing resolves, to what the record's tree decides under K.
+    complete-is : (b : ReducedPolicy (L .O)) (l : Consulted) → completedFrom L K b l .body ≡ resolved (evalPolicy L K (asResidual b))
+    complete-is (resolved d) l = refl
+    complete-is (pending t) l = refl
+
+-- The whole list of calls, from a reduction of the sheet t by the order o with the table P, under the known table K.
+pub record TreeStaged (L : Outcomes) (K : Table) (o : Order) (P : Table) (t : Policy (L .O)) (ss : List Step) : Type 0 where
   -- the completion is resolved, with direct evaluation's effect and products
   pub decision : Decision (L .O)
-  pub completes : completed L K (run L (reduced L P t) Ps) .body ≡ resolved decision
-  pub same-products : products decision ≡ products (evalPolicy L K t)
+  pub completes : completed L K (run L (reduced L o P t) ss) .body ≡ resolved decision
+  pub same-products : Lawful L → products decision ≡ products (evalPolicy L K t)
+  -- in sheet order throughout, with its whole decision but for the facts
+  pub same-but-facts : o ≡ sheetOrder → AllOf InOrder ss → bare decision ≡ bare (evalPolicy L K t)
   -- what is left names no fact that one of the tables reads as Present or Absent
-  pub settled-first : Each (λ f. P f ≡ unknown) (tree (run L (reduced L P t) Ps))
-  pub settled-later : AllOf (λ S. Each (λ f. S f ≡ unknown) (tree (run L (reduced L P t) Ps))) Ps
+  pub settled-first : Each (λ f. P f ≡ unknown) (tree (run L (reduced L o P t) ss))
+  pub settled-later : AllOf (λ s. Each (λ f. s .table f ≡ unknown) (tree (run L (reduced L o P t) ss))) ss
 
-pub staged : (L : Outcomes) (lawful : Lawful L) (K P : Table) (t : Policy (L .O)) (Ps : List Table) → Each (Agrees K P) t → AllOf (λ S. Each (Agrees K S) t) Ps → TreeStaged L K P t Ps
-staged L lawful K P t Ps h hs =
-    let r = run L (reduced L P t) Ps in
-    let c = complete-sound L K (r .body) (r .log) in
+pub staged : (L : Outcomes) (K : Table) (o : Order) (P : Table) (t : Policy (L .O)) (ss : List Step) → Each (Agrees K P) t → AllOf (λ s. Each (Agrees K (s .table)) t) ss → TreeStaged L K o P t ss
+staged L K o P t ss h hs =
+    let r₀ = reduced L o P t in
+    let r = run L r₀ ss in
+    let agree = reduce-agrees L K o P t ss hs in
     record {
-      decision = c .0;
-      completes = c .1;
-      same-products = c .2 ∙ run-sound L lawful K (reduced L P t) Ps (accepted-left L K P t Ps hs) ∙ red-sound L lawful K P t h;
-      settled-first = run-keeps L (λ f. P f ≡ unknown) (reduced L P t) Ps (each-map (λ n x. x .1) (asResidual (reducePolicy L P t)) (red-left L (Agrees K P) P t h));
-      settled-later = run-settles L (reduced L P t) Ps;
+      decision = evalPolicy L K (tree r);
+      completes = complete-is L K (r .body) (r .log);
+      same-products = λ lawful. run-sound L K lawful r₀ ss agree ∙ either-sound L lawful K o P t h;
+      same-but-facts = λ e es. run-whole L K r₀ ss es agree ∙ reduce-whole L K o P t e h;
+      settled-first = run-keeps L (λ f. P f ≡ unknown) r₀ ss (each-map (λ n x. x .1) (asResidual (reducePolicy L o P t)) (red-left L o P (Agrees K P) t h));
+      settled-later = run-settles L r₀ ss;
     }

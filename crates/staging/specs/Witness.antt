@@ -4,13 +4,19 @@ use mathlib.Core.Logic.{_⊎_, inl, inr}
 use mathlib.Core.Option.{none}
 use mathlib.Core.List.{List, [], _∷_}
 use Prim.Native.Nat.{ℕ}
+use native.Mathlib.Omega.{arith}
 use lib.ListN.{length, replicate}
 use Rattle.model.specs.Facts.{tableOf}
 use Rattle.model.specs.Outcome.{productSets}
 use Rattle.model.specs.Condition.{has}
-use Rattle.model.specs.Decision.{forbidden, hidden}
-use Rattle.model.specs.Policy.{Policy, grant, any, pnil, pcons}
-use Rattle.model.specs.Calls.{wrote, completeResidual}
+use Rattle.model.specs.Decision.{Decision, permits, denies, forbidden, hidden}
+use Rattle.model.specs.Policy.{Policy, permit, grant, all, any, pnil, pcons}
+use Rattle.model.specs.Evaluate.{evalPolicy}
+use Rattle.model.specs.Partial.{ReducedPolicy, resolved, pending, permitsFirst, sheetOrder}
+use Rattle.model.specs.Record.{Record}
+use Rattle.model.specs.Reading.{Parsed, refuse, got}
+use Rattle.model.specs.Calls.{wrote, evaluate, completeResidual}
+use Rattle.staging.specs.Bare.{bare}
 use Rattle.staging.specs.Statement.{Call, AgreesOn, after, accepted, Staged}
 use Rattle.staging.specs.Demand3.{demand3-products}
 
@@ -33,10 +39,10 @@ givenD = 0xF0000000 ∷ 0x88000003 ∷ 0 ∷ 0x20000005 ∷ []
 
 abbrev callsD : List Call
 callsD =
-    record { facts = 0 ∷ 0x30 ∷ []; out = replicate 100 0 }
-    ∷ record { facts = knownD; out = replicate 2 7 }
-    ∷ record { facts = openD; out = replicate 4 1 }
-    ∷ record { facts = knownD; out = replicate 522 0 }
+    record { order = permitsFirst; facts = 0 ∷ 0x30 ∷ []; out = replicate 100 0 }
+    ∷ record { order = permitsFirst; facts = knownD; out = replicate 2 7 }
+    ∷ record { order = permitsFirst; facts = openD; out = replicate 4 1 }
+    ∷ record { order = permitsFirst; facts = knownD; out = replicate 522 0 }
     ∷ []
 
 -- Fact 5 is the only one that the sheet names.
@@ -46,8 +52,8 @@ open-agrees f n = inl (ap (tableOf openD) n)
 known-agrees : AgreesOn treeD (tableOf knownD) (tableOf knownD)
 known-agrees f n = inr refl
 
-pub chainD : Staged productSets sheetD knownD openD givenD callsD treeD
-chainD = demand3-products sheetD knownD openD givenD callsD treeD 4 refl refl refl open-agrees (open-agrees, (known-agrees, tt))
+pub chainD : Staged productSets permitsFirst sheetD knownD openD givenD callsD treeD
+chainD = demand3-products permitsFirst sheetD knownD openD givenD callsD treeD 4 refl refl refl open-agrees (open-agrees, (known-agrees, tt))
 
 -- What the list comes to: two of its calls are refused, and the record after it is Resolved.
 pub acceptedD : length (accepted productSets givenD callsD) ≡ 2
@@ -86,8 +92,73 @@ district-agrees : AgreesOn treeR (tableOf archive) (tableOf district)
 district-agrees f (inl n) = inr (ap (tableOf district) n ∙ sym (ap (tableOf archive) n))
 district-agrees f (inr (inl n)) = inl (ap (tableOf district) n)
 
-pub chainR : Staged productSets sheetR archive relay givenR (record { facts = district; out = replicate 534 0 } ∷ []) treeR
-chainR = demand3-products sheetR archive relay givenR (record { facts = district; out = replicate 534 0 } ∷ []) treeR 8 refl refl refl relay-agrees (district-agrees, tt)
+pub chainR : Staged productSets permitsFirst sheetR archive relay givenR (record { order = permitsFirst; facts = district; out = replicate 534 0 } ∷ []) treeR
+chainR = demand3-products permitsFirst sheetR archive relay givenR (record { order = permitsFirst; facts = district; out = replicate 534 0 } ∷ []) treeR 8 refl refl refl relay-agrees (district-agrees, tt)
 
-pub completedR : completeResidual productSets (after productSets givenR (record { facts = district; out = replicate 534 0 } ∷ [])) archive 534 ≡ wrote (0xE0000002 ∷ 0x40004001 ∷ 0xC0000003 ∷ 0 ∷ [])
+pub completedR : completeResidual productSets (after productSets givenR (record { order = permitsFirst; facts = district; out = replicate 534 0 } ∷ [])) archive 534 ≡ wrote (0xE0000002 ∷ 0x40004001 ∷ 0xC0000003 ∷ 0 ∷ [])
 completedR = refl
+
+-- All of a grant on fact 5, with obligation 7, and a permit of the same product; fact 5 is Unknown at first, then Present. One sitting owes obligation 7: the
+-- grant's permit comes first.
+abbrev sheetH : List ℕ
+sheetH = 0x90000002 ∷ 0x80100001 ∷ 0 ∷ 0x07000000 ∷ 0x20000005 ∷ 0x60000001 ∷ []
+
+abbrev treeH : Policy ℕ
+treeH = all (pcons (grant (record { outcome = 1; obligations = 7 ∷ []; label = none; reason = none; shape = forbidden }) (has 5)) (pcons (permit 1) pnil))
+
+abbrev givenH : List ℕ
+givenH = 0xF0000000 ∷ 0x90000002 ∷ 0x80100001 ∷ 0 ∷ 0x07000000 ∷ 0x20000005 ∷ 0xC0000001 ∷ 0 ∷ []
+
+openH-agrees : AgreesOn treeH (tableOf knownD) (tableOf openD)
+openH-agrees f (inl n) = inl (ap (tableOf openD) n)
+openH-agrees f (inr (inr n)) = absurd n
+
+pub sittingH : evaluate productSets sheetH knownD 531 ≡ wrote (0xE0000001 ∷ 0x40050000 ∷ 0xC0100001 ∷ 1 ∷ 0x07000000 ∷ 0x00050000 ∷ [])
+sittingH = refl
+
+-- In sheet order throughout, with a refused narrowing of the first pair between: completed to the clause of one sitting.
+abbrev callsH : List Call
+callsH = record { order = permitsFirst; facts = openD; out = replicate 7 0 } ∷ record { order = sheetOrder; facts = openD; out = replicate 8 0 } ∷ []
+
+pub chainH : Staged productSets sheetOrder sheetH knownD openD givenH callsH treeH
+chainH = demand3-products sheetOrder sheetH knownD openD givenH callsH treeH 8 refl refl refl openH-agrees (openH-agrees, tt)
+
+pub one-sittingH : bare (chainH .decision) ≡ bare (evalPolicy productSets (tableOf knownD) treeH)
+one-sittingH = chainH .same-but-facts refl (refl, tt)
+
+pub completedH : completeResidual productSets (after productSets givenH callsH) knownD 531 ≡ wrote (0xE0000001 ∷ 0x40050000 ∷ 0xC0100001 ∷ 1 ∷ 0x07000000 ∷ 0x00050000 ∷ [])
+completedH = refl
+
+-- With an accepted narrowing of the first pair between, the permit moves before the grant, and the completion owes nothing: effect and products alone are kept.
+abbrev mixedH : List Call
+mixedH = record { order = permitsFirst; facts = openD; out = replicate 8 0 } ∷ []
+
+pub chainMixed : Staged productSets sheetOrder sheetH knownD openD givenH mixedH treeH
+chainMixed = demand3-products sheetOrder sheetH knownD openD givenH mixedH treeH 8 refl refl refl openH-agrees (openH-agrees, tt)
+
+pub completedMixed : completeResidual productSets (after productSets givenH mixedH) knownD 531 ≡ wrote (0xE0000001 ∷ 0x40050000 ∷ 0xC0000001 ∷ 0 ∷ [])
+completedMixed = refl
+
+-- What a decision owes.
+abbrev owes : Decision ℕ → List ℕ
+owes (permits p) = p .obligations
+owes (denies d) = []
+
+abbrev owesIn : ReducedPolicy ℕ → List ℕ
+owesIn (resolved d) = owes d
+owesIn (pending t) = []
+
+abbrev owesRead : Parsed (Record ℕ) → List ℕ
+owesRead (refuse n) = []
+owesRead (got r ws) = owesIn (r .body)
+
+owes-bare : (d : Decision ℕ) → owes (bare d) ≡ owes d
+owes-bare (permits p) = refl
+owes-bare (denies d) = refl
+
+pub mixed-differs : bare (chainMixed .decision) ≡ bare (evalPolicy productSets (tableOf knownD) treeH) → ⊥
+mixed-differs e =
+    let none-owed : [] ≡ owes (chainMixed .decision) = ap owesRead (chainMixed .completion-reads 531 (0xE0000001 ∷ 0x40050000 ∷ 0xC0000001 ∷ 0 ∷ []) completedMixed) ∙ ap owesIn (chainMixed .resolves) in
+    let seven-owed : owes (chainMixed .decision) ≡ 7 ∷ [] = sym (owes-bare (chainMixed .decision)) ∙ ap owes e in
+    let lengths : _≡_ {A = ℕ} 0 1 = ap length (none-owed ∙ seven-owed) in
+    omega arith

@@ -3,6 +3,7 @@ use mathlib.Core.Path.{_≡_}
 use mathlib.Core.List.{List, [], _∷_}
 use Prim.Native.Nat.{ℕ}
 use lib.ListN.{length, getD}
+use Rattle.model.specs.Partial.{permitsFirst}
 use Rattle.model.specs.Calls.{Answer, numberOf, writtenOf, afterwards}
 use Rattle.model.specs.Required.{oneBit, Required, Asked}
 use Rattle.model.specs.Products.{evaluate, partialEvaluate, narrowResidual, completeResidual, requiredFacts, requiredResidualFacts, isPermitConstant, isDenyConstant, carriesObligation}
@@ -31,8 +32,8 @@ nothing before = record { number = 0; value = 0; output = before }
 abbrev pub replies : List ℕ → List ℕ → List ℕ → List Replies
 replies words table before =
     writing (evaluate words table (length before)) before
-    ∷ writing (partialEvaluate words table (length before)) before
-    ∷ writing (narrowResidual words table (length before)) before
+    ∷ writing (partialEvaluate permitsFirst words table (length before)) before
+    ∷ writing (narrowResidual permitsFirst words table (length before)) before
     ∷ writing (completeResidual words table (length before)) before
     ∷ requiring (requiredFacts words) before
     ∷ requiring (requiredResidualFacts words) before

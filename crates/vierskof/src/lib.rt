@@ -4,6 +4,7 @@ use answer::Answer;
 use questions::Told;
 use required::Required;
 ghost use Rattle.model.specs.Products.{evaluate, requiredFacts, requiredResidualFacts, isPermitConstant, isDenyConstant, carriesObligation, partialEvaluate, narrowResidual, completeResidual};
+ghost use Rattle.model.specs.Partial.{permitsFirst, sheetOrder};
 ghost use mathlib.Core.Path.{_≡_};
 ghost use lib.ListN.{length};
 ghost use Rattle.answer.specs.Answers.{numberOf as Answer·numberOf, writtenOf};
@@ -43,17 +44,41 @@ pub extern "C" fn vierskof_evaluate(sheet: &[u32], facts: &[u8], out: &mut [u32]
 // Reduces a sheet with a table that may leave facts open, and writes the record.
 #[no_mangle]
 pub extern "C" fn vierskof_partial_evaluate(sheet: &[u32], facts: &[u8], out: &mut [u32]) -> u64
-    ensures { λ r. ⌜ Writes (partialEvaluate (now (sheet .entry)) (now (facts .entry)) (length (now (out .entry)))) (now (out .entry)) (now (out .exit)) r ⌝ }
+    ensures { λ r. ⌜ Writes (partialEvaluate permitsFirst (now (sheet .entry)) (now (facts .entry)) (length (now (out .entry)))) (now (out .entry)) (now (out .exit)) r ⌝ }
 {
     written(calls::partial_evaluate(sheet, facts, out))
+}
+
+// Reduces a sheet, and leaves arms in sheet order.
+#[no_mangle]
+pub extern "C" fn vierskof_partial_evaluate_in_order(
+    sheet: &[u32],
+    facts: &[u8],
+    out: &mut [u32],
+) -> u64
+    ensures { λ r. ⌜ Writes (partialEvaluate sheetOrder (now (sheet .entry)) (now (facts .entry)) (length (now (out .entry)))) (now (out .entry)) (now (out .exit)) r ⌝ }
+{
+    written(calls::partial_evaluate_in_order(sheet, facts, out))
 }
 
 // Narrows a record by a table of further facts, and writes the record that results.
 #[no_mangle]
 pub extern "C" fn vierskof_narrow_residual(residual: &[u32], facts: &[u8], out: &mut [u32]) -> u64
-    ensures { λ r. ⌜ Writes (narrowResidual (now (residual .entry)) (now (facts .entry)) (length (now (out .entry)))) (now (out .entry)) (now (out .exit)) r ⌝ }
+    ensures { λ r. ⌜ Writes (narrowResidual permitsFirst (now (residual .entry)) (now (facts .entry)) (length (now (out .entry)))) (now (out .entry)) (now (out .exit)) r ⌝ }
 {
     written(calls::narrow_residual(residual, facts, out))
+}
+
+// Narrows a record, and leaves arms in sheet order.
+#[no_mangle]
+pub extern "C" fn vierskof_narrow_residual_in_order(
+    residual: &[u32],
+    facts: &[u8],
+    out: &mut [u32],
+) -> u64
+    ensures { λ r. ⌜ Writes (narrowResidual sheetOrder (now (residual .entry)) (now (facts .entry)) (length (now (out .entry)))) (now (out .entry)) (now (out .exit)) r ⌝ }
+{
+    written(calls::narrow_residual_in_order(residual, facts, out))
 }
 
 // Completes a record with a known table, and writes the record that results.

@@ -1,10 +1,11 @@
-//! The proved calls and the original's functions on one sheet. Narrowing, which the original lacks, stands beside the comparison's own.
+//! The proved calls and the original's functions on one sheet. Narrowing, and reduction in sheet order, which the original lacks, stand beside the comparison's
+//! own.
 
 use std::hint::black_box;
 
 use compare::case::{Call, Case};
-use compare::narrow::narrow;
-use compare::proved::{Writer, agrees};
+use compare::narrow::{Order, narrow, reduce};
+use compare::proved::{Writer, agrees, pair};
 use compare::words::convert::{
     known_facts, partial_facts, to_policy, to_residual, to_residual_policy,
 };
@@ -21,14 +22,16 @@ const PENDING: u32 = 0xF000_0000;
 /// Times one call on a sheet.
 pub type Timing = fn(&Sheet) -> Timed;
 
-/// Each call, by document 01's name.
-pub const CALLS: [(&str, Timing); 6] = [
+/// Each call, by its name.
+pub const CALLS: [(&str, Timing); 8] = [
     ("evaluate", evaluate),
     ("partial_evaluate", partial_evaluate),
     ("narrow_residual", narrow_residual),
     ("complete_residual", complete_residual),
     ("required_facts", required_facts),
     ("required_residual_facts", required_residual_facts),
+    ("partial_evaluate_in_order", partial_evaluate_in_order),
+    ("narrow_residual_in_order", narrow_residual_in_order),
 ];
 
 fn evaluate(sheet: &Sheet) -> Timed {
@@ -55,15 +58,38 @@ fn partial_evaluate(sheet: &Sheet) -> Timed {
     })
 }
 
+/// With the table of `partial_evaluate`.
+fn partial_evaluate_in_order(sheet: &Sheet) -> Timed {
+    let words = &sheet.words;
+    let table = &sheet.partial();
+    let tree = read::sheet(words).expect("a sheet").into();
+    let facts = Table::partial(table).expect("a partial table");
+    let call = vierskof::partial_evaluate_in_order;
+    writes(Call::PartialEvaluateInOrder, call, words, table, || {
+        let (tree, facts) = (black_box(&tree), black_box(&facts));
+        black_box(reduce(&[], tree, facts, Order::SheetOrder));
+    })
+}
+
 /// Of the record whose tree is the sheet, with the table of `partial_evaluate`.
 fn narrow_residual(sheet: &Sheet) -> Timed {
+    let call = vierskof::narrow_residual;
+    narrows(Call::NarrowResidual, call, sheet, Order::PermitsFirst)
+}
+
+/// Of the same record, with the same table.
+fn narrow_residual_in_order(sheet: &Sheet) -> Timed {
+    let call = vierskof::narrow_residual_in_order;
+    narrows(Call::NarrowResidualInOrder, call, sheet, Order::SheetOrder)
+}
+
+fn narrows(call: Call, proved: Writer, sheet: &Sheet, order: Order) -> Timed {
     let words = &record(sheet);
     let table = &sheet.partial();
     let given = read::record(words).expect("a record");
     let facts = Table::partial(table).expect("a partial table");
-    let call = vierskof::narrow_residual;
-    writes(Call::NarrowResidual, call, words, table, || {
-        black_box(narrow(black_box(&given), black_box(&facts)));
+    writes(call, proved, words, table, || {
+        black_box(narrow(black_box(&given), black_box(&facts), order));
     })
 }
 
@@ -109,6 +135,24 @@ fn writing<'a>(proved: Writer, words: &'a [u32], table: &'a [u8]) -> impl FnMut(
         black_box(written).expect("accepted");
     }
 }
+
+/// The proved reduction in each of the two orders, with the table of `partial_evaluate`.
+pub fn reduced_in(sheet: &Sheet) -> [f64; 2] {
+    let table = sheet.partial();
+    let calls = ORDERS.map(|order| pair(order).0);
+    let [mut first, mut second] = calls.map(|call| writing(call, &sheet.words, &table));
+    by_turns([&mut first, &mut second])
+}
+
+/// The proved narrowing, of the record whose tree is the sheet, in each of the two orders.
+pub fn narrowed_in(sheet: &Sheet) -> [f64; 2] {
+    let (words, table) = (record(sheet), sheet.partial());
+    let calls = ORDERS.map(|order| pair(order).1);
+    let [mut first, mut second] = calls.map(|call| writing(call, &words, &table));
+    by_turns([&mut first, &mut second])
+}
+
+const ORDERS: [Order; 2] = [Order::PermitsFirst, Order::SheetOrder];
 
 /// The proved reduction with each of two tables.
 pub fn reduced_by(words: &[u32], tables: [&[u8]; 2]) -> [f64; 2] {

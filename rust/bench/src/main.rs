@@ -18,7 +18,7 @@ use timing::Timed;
 fn main() {
     println!("nanoseconds a call, medians; ratio: proved to the column before it\n");
     println!(
-        "{:24} {:>14} {:>6} {:>10} {:>10} {:>7} {:>11} {:>7}",
+        "{:26} {:>14} {:>6} {:>10} {:>10} {:>7} {:>11} {:>7}",
         "call", "sheet", "words", "proved", "original", "ratio", "from words", "ratio"
     );
     for (name, call) in CALLS {
@@ -26,6 +26,7 @@ fn main() {
             row(name, &sheet, &call(&sheet));
         }
     }
+    by_order();
     by_table();
     growth("words", &sheets::lengths());
     growth("levels", &sheets::depths());
@@ -38,12 +39,32 @@ fn row(call: &str, sheet: &Sheet, timed: &Timed) {
         from_words,
     } = timed;
     println!(
-        "{call:24} {:>14} {:>6} {proved:>10.0} {original:>10.0} {:>7.3} {from_words:>11.0} {:>7.3}",
+        "{call:26} {:>14} {:>6} {proved:>10.0} {original:>10.0} {:>7.3} {from_words:>11.0} {:>7.3}",
         sheet.name,
         sheet.words.len(),
         proved / original,
         proved / from_words,
     );
+}
+
+/// Both pairs in turns, on the same words and tables.
+fn by_order() {
+    println!("\nnanoseconds a call, permits first and in sheet order\n");
+    println!(
+        "{:24} {:>14} {:>10} {:>10} {:>7}",
+        "call", "sheet", "first", "in order", "ratio"
+    );
+    for sheet in sheets::cases() {
+        let order_row = |call: &str, [first, second]: [f64; 2]| {
+            println!(
+                "{call:24} {:>14} {first:>10.0} {second:>10.0} {:>7.2}",
+                sheet.name,
+                second / first
+            );
+        };
+        order_row("partial_evaluate", calls::reduced_in(&sheet));
+        order_row("narrow_residual", calls::narrowed_in(&sheet));
+    }
 }
 
 /// A reduction and a narrowing read the facts that are named, and not the whole table.
@@ -73,7 +94,7 @@ fn by_table() {
 /// How the time of a word goes as sheets grow.
 fn growth(by: &str, sheets: &[Sheet]) {
     println!("\nnanoseconds a word, as {by} grow\n");
-    print!("{:24} {:>10}", "call", "");
+    print!("{:26} {:>10}", "call", "");
     for sheet in sheets {
         print!(" {:>8}", sheet.name);
     }
@@ -81,7 +102,7 @@ fn growth(by: &str, sheets: &[Sheet]) {
     for (name, call) in CALLS {
         let times: Vec<Timed> = sheets.iter().map(call).collect();
         let line = |side: &str, time: fn(&Timed) -> f64| {
-            print!("{name:24} {side:>10}");
+            print!("{name:26} {side:>10}");
             for (sheet, timed) in sheets.iter().zip(&times) {
                 print!(" {:>8.2}", sheet.a_word(time(timed)));
             }

@@ -30,12 +30,12 @@ Example:
     #[command(after_help = "\
 Example:
   vierskof reduce licence.txt --facts 6=absent > relay.txt")]
-    Reduce(Call),
+    Reduce(Reduction),
     /// Narrows a record with further facts.
     #[command(after_help = "\
 Example:
   vierskof narrow relay.txt --facts 7=present > district.txt")]
-    Narrow(Call),
+    Narrow(Reduction),
     /// Completes a record with all facts, and so decides it.
     #[command(after_help = "\
 Example:
@@ -84,6 +84,19 @@ pub struct Call {
     /// Has the exit status say the effect: 0 permit, 3 deny, 4 pending.
     #[arg(long)]
     pub status: bool,
+}
+
+/// A call that leaves facts open.
+#[derive(Args, Debug)]
+pub struct Reduction {
+    /// What is brought, and how the record is written.
+    #[command(flatten)]
+    pub call: Call,
+    /// Leaves the policies of a list in sheet order.
+    ///
+    /// If every reduce and narrow of a road has this option, and no table contradicts the one that completes it, obligations, label, reason and shape are at its end those of one sitting too.
+    #[arg(long)]
+    pub in_order: bool,
 }
 
 /// A document in the text form.

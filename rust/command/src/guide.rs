@@ -70,7 +70,8 @@ The road in three commands
   record with its own, and the archive completes it with all of them. If none
   of them contradicts another, the road ends in the effect and the products
   that evaluate gives in one sitting with all facts: this is proved, for every
-  sheet. Paste this into a shell:
+  sheet. With reduce --in-order and narrow --in-order it ends in the same
+  obligations, label, reason and shape as well. Paste this into a shell:
 
 ";
 

@@ -7,7 +7,7 @@ use std::io::Read;
 use vierskof::read::{Decision, Record};
 use vierskof::{Presence, RECORD_WORDS, Refusal};
 
-use crate::arguments::{Arguments, Call, Command, Facts, Input};
+use crate::arguments::{Arguments, Call, Command, Facts, Input, Reduction};
 use crate::document::Document;
 use crate::facts;
 use crate::form::Form;
@@ -67,12 +67,31 @@ type Proved = for<'o> fn(&[u32], &[u8], &'o mut [u32]) -> Result<&'o [u32], Refu
 /// Carries a command out; what a file is due to hold and none is named comes from `stdin`.
 pub fn run(arguments: &Arguments, stdin: impl Read) -> Result<Done, Failure> {
     use Presence::{Absent, Unknown};
-    use vierskof::{complete_residual, evaluate, narrow_residual, partial_evaluate};
     match &arguments.command {
-        Command::Evaluate(call) => decide(call, stdin, Due::Sheet, evaluate, Absent),
-        Command::Reduce(call) => decide(call, stdin, Due::Sheet, partial_evaluate, Unknown),
-        Command::Narrow(call) => decide(call, stdin, Due::Record, narrow_residual, Unknown),
-        Command::Complete(call) => decide(call, stdin, Due::Record, complete_residual, Absent),
+        Command::Evaluate(call) => decide(call, stdin, Due::Sheet, vierskof::evaluate, Absent),
+        Command::Reduce(Reduction { call, in_order }) => {
+            let proved = if *in_order {
+                vierskof::partial_evaluate_in_order
+            } else {
+                vierskof::partial_evaluate
+            };
+            decide(call, stdin, Due::Sheet, proved, Unknown)
+        }
+        Command::Narrow(Reduction { call, in_order }) => {
+            let proved = if *in_order {
+                vierskof::narrow_residual_in_order
+            } else {
+                vierskof::narrow_residual
+            };
+            decide(call, stdin, Due::Record, proved, Unknown)
+        }
+        Command::Complete(call) => decide(
+            call,
+            stdin,
+            Due::Record,
+            vierskof::complete_residual,
+            Absent,
+        ),
         Command::Required(input) => required(input, stdin),
         Command::Show(shown) => rewritten(&shown.input, stdin, shown.to),
         Command::Assemble(assembled) => rewritten(&assembled.input, stdin, assembled.to),

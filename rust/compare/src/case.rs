@@ -3,7 +3,7 @@
 use crate::reference::{self, FactSet};
 use crate::refusal::Refusal;
 
-/// One of document 01's nine calls.
+/// One of document 01's nine calls, or of request 8's two. Stored answers number them in this order.
 #[derive(Clone, Copy, Debug, PartialEq, Eq)]
 pub enum Call {
     /// A sheet and a known table, to a record.
@@ -24,11 +24,15 @@ pub enum Call {
     IsDenyConstant,
     /// A question to a record.
     CarriesObligation,
+    /// A sheet and a partial table, to a record in sheet order.
+    PartialEvaluateInOrder,
+    /// A record and a partial table, to a record in sheet order.
+    NarrowResidualInOrder,
 }
 
 impl Call {
-    /// All nine.
-    pub const ALL: [Self; 9] = [
+    /// All eleven.
+    pub const ALL: [Self; 11] = [
         Self::Evaluate,
         Self::PartialEvaluate,
         Self::NarrowResidual,
@@ -38,9 +42,11 @@ impl Call {
         Self::IsPermitConstant,
         Self::IsDenyConstant,
         Self::CarriesObligation,
+        Self::PartialEvaluateInOrder,
+        Self::NarrowResidualInOrder,
     ];
 
-    /// The call's name in document 01.
+    /// The call's name.
     pub const fn name(self) -> &'static str {
         match self {
             Self::Evaluate => "evaluate",
@@ -52,28 +58,44 @@ impl Call {
             Self::IsPermitConstant => "is_permit_constant",
             Self::IsDenyConstant => "is_deny_constant",
             Self::CarriesObligation => "carries_obligation",
+            Self::PartialEvaluateInOrder => "partial_evaluate_in_order",
+            Self::NarrowResidualInOrder => "narrow_residual_in_order",
         }
     }
 
     /// Whether the call takes a table and writes a record.
     pub const fn writes(self) -> bool {
-        matches!(
-            self,
-            Self::Evaluate | Self::PartialEvaluate | Self::NarrowResidual | Self::CompleteResidual
-        )
+        matches!(self, Self::Evaluate | Self::CompleteResidual) || self.allows_unknown()
     }
 
     /// Whether the call reads a sheet, and not a record.
     pub const fn reads_sheet(self) -> bool {
         matches!(
             self,
-            Self::Evaluate | Self::PartialEvaluate | Self::RequiredFacts
+            Self::Evaluate
+                | Self::PartialEvaluate
+                | Self::PartialEvaluateInOrder
+                | Self::RequiredFacts
         )
     }
 
     /// Whether the call's table may hold Unknown.
     pub const fn allows_unknown(self) -> bool {
-        matches!(self, Self::PartialEvaluate | Self::NarrowResidual)
+        matches!(
+            self,
+            Self::PartialEvaluate
+                | Self::NarrowResidual
+                | Self::PartialEvaluateInOrder
+                | Self::NarrowResidualInOrder
+        )
+    }
+
+    /// Whether the call leaves arms in sheet order.
+    pub const fn in_order(self) -> bool {
+        matches!(
+            self,
+            Self::PartialEvaluateInOrder | Self::NarrowResidualInOrder
+        )
     }
 }
 
@@ -123,6 +145,12 @@ impl Case {
             Call::IsPermitConstant => reference::is_permit_constant(words).map(Answer::Says),
             Call::IsDenyConstant => reference::is_deny_constant(words).map(Answer::Says),
             Call::CarriesObligation => reference::carries_obligation(words).map(Answer::Says),
+            Call::PartialEvaluateInOrder => {
+                reference::partial_evaluate_in_order(words, table, room).map(Answer::Record)
+            }
+            Call::NarrowResidualInOrder => {
+                reference::narrow_residual_in_order(words, table, room).map(Answer::Record)
+            }
         }
     }
 }

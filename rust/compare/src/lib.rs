@@ -1,6 +1,6 @@
 //! Document 01's calls on words and bytes, answered by the original evaluation core.
 //!
-//! [`words`] is document 01's format, [`reference`] the nine calls, [`listing`] the listing's
+//! [`words`] is document 01's format, [`reference`] the eleven calls, [`listing`] the listing's
 //! bytes. [`worked`] has document 01's worked sheets as cases, [`generate`] makes cases from a seed;
 //! [`answers`] and [`rows`] write cases with their answers. With the feature `proved`, `proved` compares the proved calls with them.
 

@@ -23,7 +23,7 @@ enum Command {
         #[command(flatten)]
         sample: Sample,
     },
-    /// Stored answers of all nine calls: cases at the limits, then drawn ones.
+    /// Stored answers of all eleven calls: cases at the limits, then drawn ones.
     Calls {
         #[command(flatten)]
         sample: Sample,
@@ -70,6 +70,8 @@ enum Part {
     CompleteResidual,
     /// Narrowing, which the original lacks.
     NarrowResidual,
+    /// Reduction and narrowing in sheet order, which it lacks too.
+    InOrder,
 }
 
 /// The calls of the stored answers: those that write come most often.
@@ -90,6 +92,15 @@ const ANSWERED: [Call; 14] = [
     Call::CarriesObligation,
 ];
 
+/// The reductions and narrowings.
+#[cfg(feature = "proved")]
+const REDUCING: [Call; 4] = [
+    Call::PartialEvaluate,
+    Call::NarrowResidual,
+    Call::PartialEvaluateInOrder,
+    Call::NarrowResidualInOrder,
+];
+
 impl Part {
     const fn calls(self) -> &'static [Call] {
         match self {
@@ -102,6 +113,7 @@ impl Part {
             Self::PartialEvaluate => &[Call::PartialEvaluate],
             Self::CompleteResidual => &[Call::CompleteResidual],
             Self::NarrowResidual => &[Call::NarrowResidual],
+            Self::InOrder => &[Call::PartialEvaluateInOrder, Call::NarrowResidualInOrder],
         }
     }
 
@@ -151,7 +163,7 @@ fn main() -> io::Result<()> {
 }
 
 /// Cases are drawn in batches, so that a long run holds few of them at a time. One in ten has a list of many arms, one in ten is a reduction or a narrowing of
-/// grants on several facts.
+/// grants on several facts, one in ten has lists in lists, and records of either pair.
 #[cfg(feature = "proved")]
 fn proved(sample: &Sample) -> io::Result<()> {
     use compare::proved::agrees;
@@ -162,10 +174,11 @@ fn proved(sample: &Sample) -> io::Result<()> {
         let count = BATCH.min(sample.count - first);
         let seed = sample.seed + batch as u64;
         let wide = cases::draw_wide(seed, count / 10, &Call::ALL);
-        let reducing = [Call::PartialEvaluate, Call::NarrowResidual];
-        let several = cases::draw_half_known(seed, count / 10, &reducing);
-        let others = cases::draw(seed, count - wide.len() - several.len(), &Call::ALL);
-        for case in others.into_iter().chain(wide).chain(several) {
+        let several = cases::draw_half_known(seed, count / 10, &REDUCING);
+        let layered = cases::draw_layered(seed, count / 10, &REDUCING);
+        let drawn = wide.len() + several.len() + layered.len();
+        let others = cases::draw(seed, count - drawn, &Call::ALL);
+        for case in [others, wide, several, layered].into_iter().flatten() {
             if !agrees(&case) {
                 let line = answers::line(&case, &case.answer());
                 return Err(io::Error::other(format!(

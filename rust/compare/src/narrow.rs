@@ -1,4 +1,6 @@
-//! Narrowing, from document 01's 'Reducing' and 'Narrowing' alone: the original has no such call.
+//! Narrowing, and reduction in sheet order, from document 01's 'Reducing' and 'Narrowing' and from request 8 alone: the original has no such calls.
+
+mod in_order;
 
 use gatekeep::Presence;
 
@@ -6,23 +8,33 @@ use crate::products::Products;
 use crate::words::table::Table;
 use crate::words::tree::{Condition, Decided, Deny, Entry, Grant, Permit, Record, Residual, Tree};
 
+/// How a policy list that stays pending holds its arms.
+#[derive(Clone, Copy, Debug, PartialEq, Eq)]
+pub enum Order {
+    /// Resolved permits first, as document 01 has it.
+    PermitsFirst,
+    /// As the sheet has them, as request 8 has it.
+    SheetOrder,
+}
+
 /// Decides a Pending record further; a Resolved one comes back equal.
-pub fn narrow(record: &Record, table: &Table) -> Record {
-    let Record::Pending {
-        consulted,
-        residual,
-    } = record
-    else {
-        return record.clone();
-    };
-    let mut walk = Walk {
-        table,
-        consulted: Vec::new(),
-    };
+pub fn narrow(record: &Record, table: &Table, order: Order) -> Record {
+    match record {
+        Record::Resolved { .. } => record.clone(),
+        Record::Pending {
+            consulted,
+            residual,
+        } => reduce(consulted, residual, table, order),
+    }
+}
+
+/// Decides a tree as far as the table goes, after these consulted entries.
+pub fn reduce(consulted: &[Entry], tree: &Residual, table: &Table, order: Order) -> Record {
+    let mut walk = Walk::new(table, order);
     for entry in consulted {
         walk.consult(*entry);
     }
-    let reduced = walk.tree(residual);
+    let reduced = walk.tree(tree);
     let consulted = walk.consulted;
     match reduced {
         Reduced::Resolved(decided) => Record::Resolved { consulted, decided },
@@ -38,10 +50,7 @@ pub fn known_by_part(tree: &Residual, table: &Table) -> bool {
     match tree {
         Tree::Permit(_) | Tree::Deny | Tree::Stored(_) => false,
         Tree::Grant(Grant { condition, .. }) => {
-            let mut walk = Walk {
-                table,
-                consulted: Vec::new(),
-            };
+            let mut walk = Walk::new(table, Order::PermitsFirst);
             let known = matches!(walk.condition(condition), ReducedCondition::Known(_));
             known && names_unknown(condition, table)
         }
@@ -68,6 +77,16 @@ enum Reduced {
     Pending(Residual),
 }
 
+impl Reduced {
+    /// What a residual holds of it: a resolved part as node 12 or 13.
+    fn kept(self) -> Residual {
+        match self {
+            Self::Resolved(decided) => Tree::Stored(decided),
+            Self::Pending(residual) => residual,
+        }
+    }
+}
+
 enum ReducedCondition {
     Known(bool),
     Pending(Condition),
@@ -83,10 +102,19 @@ struct Arms {
 
 struct Walk<'a> {
     table: &'a Table,
+    order: Order,
     consulted: Vec<Entry>,
 }
 
-impl Walk<'_> {
+impl<'a> Walk<'a> {
+    const fn new(table: &'a Table, order: Order) -> Self {
+        Self {
+            table,
+            order,
+            consulted: Vec::new(),
+        }
+    }
+
     /// Each fact is consulted once; its first entry stays.
     fn consult(&mut self, entry: Entry) {
         if self.consulted.iter().all(|(fact, _)| *fact != entry.0) {
@@ -100,8 +128,14 @@ impl Walk<'_> {
             Tree::Deny => Reduced::Resolved(Decided::Deny(Deny::plain())),
             Tree::Stored(decided) => Reduced::Resolved(decided.clone()),
             Tree::Grant(grant) => self.grant(grant),
-            Tree::All(arms) => self.all(arms),
-            Tree::Any(arms) => self.any(arms),
+            Tree::All(arms) => match self.order {
+                Order::PermitsFirst => self.all(arms),
+                Order::SheetOrder => self.all_in_order(arms),
+            },
+            Tree::Any(arms) => match self.order {
+                Order::PermitsFirst => self.any(arms),
+                Order::SheetOrder => self.any_in_order(arms),
+            },
             Tree::OrElse(primary, fallback) => self.or_else(primary, fallback),
         }
     }
@@ -138,11 +172,7 @@ impl Walk<'_> {
     fn any(&mut self, arms: &[Residual]) -> Reduced {
         let mut walked = Arms::default();
         for arm in arms {
-            match self.tree(arm) {
-                Reduced::Resolved(Decided::Deny(deny)) => walked.denies.push(deny),
-                Reduced::Resolved(Decided::Permit(permit)) => walked.permits.push(permit),
-                Reduced::Pending(residual) => walked.pending.push(residual),
-            }
+            walked.add(self.tree(arm));
         }
         if walked.pending.is_empty() {
             Reduced::Resolved(folded(walked, join))
@@ -158,10 +188,7 @@ impl Walk<'_> {
             }
             Reduced::Resolved(Decided::Deny(_)) => self.tree(fallback),
             Reduced::Pending(primary) => {
-                let fallback = match self.tree(fallback) {
-                    Reduced::Resolved(decided) => Tree::Stored(decided),
-                    Reduced::Pending(residual) => residual,
-                };
+                let fallback = self.tree(fallback).kept();
                 Reduced::Pending(Tree::OrElse(Box::new(primary), Box::new(fallback)))
             }
         }
@@ -220,6 +247,14 @@ impl Walk<'_> {
 }
 
 impl Arms {
+    fn add(&mut self, arm: Reduced) {
+        match arm {
+            Reduced::Resolved(Decided::Deny(deny)) => self.denies.push(deny),
+            Reduced::Resolved(Decided::Permit(permit)) => self.permits.push(permit),
+            Reduced::Pending(residual) => self.pending.push(residual),
+        }
+    }
+
     /// What a residual list holds: the resolved permits, or in an Any without them the first
     /// resolved deny, and then the pending arms. An All with a resolved deny isn't kept at all.
     fn kept(self) -> Vec<Residual> {

@@ -1,10 +1,22 @@
-//! The proved calls against the original: answer, every word of the output before and after, sets and refusals.
+//! The proved calls against the original, or against the comparison's own where it has no such call: answer, every word of the output before and after, sets and refusals.
 
 use crate::case::{Answer, Call, Case};
+use crate::narrow::Order;
 use crate::refusal::Refusal;
 
 /// A proved call that takes words, a table and an output.
 pub type Writer = for<'o> fn(&[u32], &[u8], &'o mut [u32]) -> Result<&'o [u32], vierskof::Refusal>;
+
+/// The proved reduction and narrowing that hold arms in this order.
+pub fn pair(order: Order) -> (Writer, Writer) {
+    match order {
+        Order::PermitsFirst => (vierskof::partial_evaluate, vierskof::narrow_residual),
+        Order::SheetOrder => (
+            vierskof::partial_evaluate_in_order,
+            vierskof::narrow_residual_in_order,
+        ),
+    }
+}
 
 /// Whether the proved call answers as the original does, and leaves what it must.
 pub fn agrees(case: &Case) -> bool {
@@ -19,6 +31,10 @@ pub fn agrees(case: &Case) -> bool {
         Call::IsPermitConstant => says(case, &expected, vierskof::is_permit_constant),
         Call::IsDenyConstant => says(case, &expected, vierskof::is_deny_constant),
         Call::CarriesObligation => says(case, &expected, vierskof::carries_obligation),
+        Call::PartialEvaluateInOrder => {
+            writes(case, &expected, vierskof::partial_evaluate_in_order)
+        }
+        Call::NarrowResidualInOrder => writes(case, &expected, vierskof::narrow_residual_in_order),
     }
 }
 

@@ -1,4 +1,4 @@
-//! Document 01's nine calls. All but narrowing are answered by the original.
+//! Document 01's nine calls and request 8's two. All but narrowing, and reduction in sheet order, are answered by the original.
 //!
 //! A call that writes takes the room of its output in words and gives the record's words;
 //! [`put`] brings them, or a refusal, to an output.
@@ -7,7 +7,7 @@ use std::collections::BTreeSet;
 
 use gatekeep::{FactId, ResidualPolicy};
 
-use crate::narrow;
+use crate::narrow::{self, Order};
 use crate::products::Products;
 use crate::refusal::Refusal;
 use crate::words::table::Table;
@@ -38,6 +38,17 @@ fn place(fact: u16) -> (usize, u64) {
     (usize::from(fact / 64), 1 << (63 - fact % 64))
 }
 
+/// A call that writes: words, a table, and the room of the output in words.
+pub type Writing = fn(&[u32], &[u8], usize) -> Result<Vec<u32>, Refusal>;
+
+/// The reduction and the narrowing that hold arms in this order.
+pub fn pair(order: Order) -> (Writing, Writing) {
+    match order {
+        Order::PermitsFirst => (partial_evaluate, narrow_residual),
+        Order::SheetOrder => (partial_evaluate_in_order, narrow_residual_in_order),
+    }
+}
+
 /// Decides a sheet in one sitting.
 pub fn evaluate(sheet: &[u32], table: &[u8], room: usize) -> Result<Vec<u32>, Refusal> {
     read::sheet_length(sheet)?;
@@ -58,10 +69,28 @@ pub fn partial_evaluate(sheet: &[u32], table: &[u8], room: usize) -> Result<Vec<
 
 /// Decides a record further, as far as a partial table goes.
 pub fn narrow_residual(record: &[u32], table: &[u8], room: usize) -> Result<Vec<u32>, Refusal> {
-    read::record_length(record)?;
+    narrowed(record, table, room, Order::PermitsFirst)
+}
+
+/// Decides a sheet as far as a partial table goes, and leaves arms in sheet order.
+pub fn partial_evaluate_in_order(
+    sheet: &[u32],
+    table: &[u8],
+    room: usize,
+) -> Result<Vec<u32>, Refusal> {
+    read::sheet_length(sheet)?;
     let table = Table::partial(table)?;
-    let record = read::record(record)?;
-    fitted(&narrow::narrow(&record, &table), room)
+    let tree = read::sheet(sheet)?.into();
+    fitted(&narrow::reduce(&[], &tree, &table, Order::SheetOrder), room)
+}
+
+/// Decides a record further, as far as a partial table goes, and leaves arms in the record's order.
+pub fn narrow_residual_in_order(
+    record: &[u32],
+    table: &[u8],
+    room: usize,
+) -> Result<Vec<u32>, Refusal> {
+    narrowed(record, table, room, Order::SheetOrder)
 }
 
 /// Decides a record to its end.
@@ -107,6 +136,13 @@ pub fn put(given: Result<&[u32], Refusal>, output: &mut [u32]) -> Result<usize, 
     let part = output.get_mut(..words.len()).ok_or(Refusal::Room)?;
     part.copy_from_slice(words);
     Ok(words.len())
+}
+
+fn narrowed(record: &[u32], table: &[u8], room: usize, order: Order) -> Result<Vec<u32>, Refusal> {
+    read::record_length(record)?;
+    let table = Table::partial(table)?;
+    let record = read::record(record)?;
+    fitted(&narrow::narrow(&record, &table, order), room)
 }
 
 /// The record's tree as the original's residual. The original asks its questions of residuals

@@ -6,7 +6,7 @@ use crate::refusal::Refusal;
 const HEAD: &str = "\
 use mathlib.Core.List.{List, [], _∷_}
 use Prim.Native.Nat.{ℕ}
-use Rattle.model.specs.Worked.{Row, evaluates, reduces, narrows, completes, row, refuses, writes}
+use Rattle.model.specs.Worked.{Row, evaluates, completes, reduces, narrows, reducesInOrder, narrowsInOrder, row, refuses, writes}
 
 abbrev pub rows : List Row
 rows =
@@ -40,6 +40,8 @@ fn constructor(call: Call) -> &'static str {
         Call::PartialEvaluate => "reduces",
         Call::NarrowResidual => "narrows",
         Call::CompleteResidual => "completes",
+        Call::PartialEvaluateInOrder => "reducesInOrder",
+        Call::NarrowResidualInOrder => "narrowsInOrder",
         other => unreachable!("{} writes no record", other.name()),
     }
 }

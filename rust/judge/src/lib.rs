@@ -1,9 +1,11 @@
-//! The original's answer to a call, for the fuzzer, which is a program in C.
+//! The original's answer to a call, for the fuzzer, which is a program in C. Where the original has no such call, the comparison's own answers.
 
 use std::slice;
 
 use compare::case::{Answer, Call, Case};
-use compare::reference::FactSet;
+use compare::reference::{FactSet, evaluate};
+use compare::words::tree::{Decided, Record};
+use compare::words::{RECORD_WORDS, read};
 
 /// Answers as the C interface does, and leaves in `out` what it leaves: a record's words, or a set's numbers, the lower half of each first.
 ///
@@ -51,6 +53,40 @@ pub unsafe extern "C" fn judge_answer(
             }
             u64::from(refusal.number()) << 32
         }
+    }
+}
+
+/// Whether the original evaluates a sheet to the clause of a Resolved record: effect, outcome, denied outcome, obligations, label, reason and shape. Fact
+/// lists and consulted facts are not looked at.
+///
+/// # Safety
+///
+/// Behind each pointer there are as many elements as the number after it says.
+#[unsafe(no_mangle)]
+pub unsafe extern "C" fn judge_clause(
+    words: *const u32,
+    count: usize,
+    known: *const u8,
+    bytes: usize,
+    record: *const u32,
+    length: usize,
+) -> bool {
+    // SAFETY: what the caller has to see to.
+    let (sheet, known, record) = unsafe {
+        (
+            slice::from_raw_parts(words, count),
+            slice::from_raw_parts(known, bytes),
+            slice::from_raw_parts(record, length),
+        )
+    };
+    let sitting = evaluate(sheet, known, RECORD_WORDS);
+    sitting.is_ok_and(|sitting| clause(record).is_some_and(|found| clause(&sitting) == Some(found)))
+}
+
+fn clause(record: &[u32]) -> Option<Decided> {
+    match read::record(record) {
+        Ok(Record::Resolved { decided, .. }) => Some(decided.without_facts()),
+        _ => None,
     }
 }
 

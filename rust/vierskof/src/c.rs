@@ -64,6 +64,8 @@ writes! {
     partial_evaluate = vierskof_partial_evaluate;
     narrow_residual = vierskof_narrow_residual;
     complete_residual = vierskof_complete_residual;
+    partial_evaluate_in_order = vierskof_partial_evaluate_in_order;
+    narrow_residual_in_order = vierskof_narrow_residual_in_order;
 }
 
 names! {

@@ -1,4 +1,4 @@
-//! The nine calls.
+//! The eleven calls.
 
 use crate::{FactSet, Refusal, c};
 
@@ -84,6 +84,70 @@ pub fn narrow_residual<'o>(
     out: &'o mut [u32],
 ) -> Result<&'o [u32], Refusal> {
     written(c::narrow_residual(record, facts, out), out)
+}
+
+/// Reduces a sheet as [`partial_evaluate`] does, but leaves arms in sheet order.
+///
+/// A list that stays pending holds its arms where the sheet has them: an All up to and including its first resolved deny, an Any all of them. So an All
+/// resolves to a deny only if no pending arm stands before it. Where no table contradicts
+/// the one that completes it, the record that comes of this reduction and of [`narrow_residual_in_order`] alone is completed to the clause of one sitting: effect, outcome, denied outcome, obligations, label, reason and shape. Fact lists and consulted facts may differ.
+///
+/// # Errors
+///
+/// Every [`Refusal`] but [`Refusal::UnknownFact`].
+///
+/// # Examples
+///
+/// ```
+/// // All of a grant with obligation 7, on fact 5, and a permit.
+/// let sheet = [0x9000_0002, 0x8010_0001, 0, 0x0700_0000, 0x2000_0005, 0x6000_0001];
+/// let mut out = [0; 8];
+/// let record = vierskof::partial_evaluate_in_order(&sheet, &[0x00, 0x20], &mut out)?;
+/// // The grant stays before the permit, which is resolved.
+/// assert_eq!(record[2..6], sheet[1..5]);
+/// assert_eq!(record[6..], [0xC000_0001, 0x0000_0000]);
+///
+/// // So its obligation is owed, as it is in one sitting.
+/// let mut completed = [0; 8];
+/// let completed = vierskof::complete_residual(record, &[0x00, 0x10], &mut completed)?;
+/// let mut sitting = [0; 8];
+/// assert_eq!(Ok(completed), vierskof::evaluate(&sheet, &[0x00, 0x10], &mut sitting));
+/// assert_eq!(vierskof::carries_obligation(completed), Ok(true));
+/// # Ok::<(), vierskof::Refusal>(())
+/// ```
+pub fn partial_evaluate_in_order<'o>(
+    sheet: &[u32],
+    facts: &[u8],
+    out: &'o mut [u32],
+) -> Result<&'o [u32], Refusal> {
+    written(c::partial_evaluate_in_order(sheet, facts, out), out)
+}
+
+/// Narrows a record as [`narrow_residual`] does, but leaves arms in the order that it finds.
+///
+/// The record may come from either reduction or narrowing; one that [`partial_evaluate`] or [`narrow_residual`] had a part in keeps their promise: the
+/// effect and the products of one sitting, where no table contradicts the one that completes it.
+///
+/// # Errors
+///
+/// Every [`Refusal`] but [`Refusal::UnknownFact`].
+///
+/// # Examples
+///
+/// ```
+/// // An Any of a stored deny, a grant on fact 0 and a permit: what is resolved stays in its place.
+/// let pending = [0xF000_0000, 0xA000_0003, 0xD000_0000, 0, 0, 0x8000_0001, 0, 0x2000_0000, 0xC000_0001, 0];
+/// let mut out = [0; 16];
+/// let record = vierskof::narrow_residual_in_order(&pending, &[0x80], &mut out)?;
+/// assert_eq!(record, pending);
+/// # Ok::<(), vierskof::Refusal>(())
+/// ```
+pub fn narrow_residual_in_order<'o>(
+    record: &[u32],
+    facts: &[u8],
+    out: &'o mut [u32],
+) -> Result<&'o [u32], Refusal> {
+    written(c::narrow_residual_in_order(record, facts, out), out)
 }
 
 /// Completes a record with a known table: the Resolved record is the first words of `out`.

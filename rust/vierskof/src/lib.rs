@@ -78,6 +78,10 @@
 //! # }
 //! ```
 //!
+//! Obligations and traces may differ from those of one sitting. Where the obligations and the shape of a
+//! deny are wanted as well, [`partial_evaluate_in_order`] and [`narrow_residual_in_order`] take the place
+//! of the first two calls. Either way no table may contradict the one that completes the record.
+//!
 //! # Refusals
 //!
 //! A call that can't answer says why by a [`Refusal`], and leaves its output as it was.
@@ -117,7 +121,8 @@ pub mod read;
 
 pub use calls::{
     carries_obligation, complete_residual, evaluate, is_deny_constant, is_permit_constant,
-    narrow_residual, partial_evaluate, required_facts, required_residual_facts,
+    narrow_residual, narrow_residual_in_order, partial_evaluate, partial_evaluate_in_order,
+    required_facts, required_residual_facts,
 };
 pub use facts::{FactSet, FactSetIter, FactTable, Presence};
 pub use numbers::{Fact, Label, Obligation, OutOfRange, Reason};

@@ -52,7 +52,7 @@ returns c =
     let load = reduced .before .before .before .before .before .before .before .before .before .before in
     let start = load .before .before .before .before .before .before .before .before .before .before .before in
     reduces-from (load .load-consulted .ensures) (no-facts _) (start .pre .7 .0)
-    (reduces-pending (start .pre .1) (start .pre .2) (reduced .reduce-policy .ensures) (put .before .before .before .before .if1 .taken) (start .pre .5) (omega (arith, start .pre .6, tree .tree .given)) (put .put-pending .ensures))
+    (reduces-pending _ (start .pre .1) (start .pre .2) (reduced .reduce-policy .ensures) (put .before .before .before .before .if1 .taken) (start .pre .5) (omega (arith, start .pre .6, tree .tree .given)) (put .put-pending .ensures))
 
 put-record-requires : tie.Need-put-record-requires
 put-record-requires c κs =
@@ -91,7 +91,7 @@ returns-2 c =
     let load = reduced .before .before .before .before .before .before .before .before .before .before in
     let start = load .before .before .before .before .before .before .before .before .before .before .before in
     reduces-from (load .load-consulted .ensures) (no-facts _) (start .pre .7 .0)
-    (reduces-resolved (start .pre .1) (start .pre .2) (reduced .reduce-policy .ensures) (put .before .before .before .before .before .if1 .left) (put .put-record .ensures))
+    (reduces-resolved _ (start .pre .1) (start .pre .2) (reduced .reduce-policy .ensures) (put .before .before .before .before .before .if1 .left) (put .put-record .ensures))
 
 pub reduce-with-spec : {M : Type 1} → statement M
 reduce-with-spec =

@@ -1,5 +1,5 @@
 -- `partial_policy::as_residual` meets its contract: by whether it is pending. Assumes nothing.
-use Rattle.partial_policy.proofs.Ending.{residual-open, residual-node}
+use Rattle.partial_policy.proofs.Parts.{residual-open, residual-node}
 use borrow.Author.Needs.{needs}
 use Rattle.partial_policy.proofs.as_residual.Statement.{statement}
 use Rattle.partial_policy.proofs.as_residual.Tie as tie

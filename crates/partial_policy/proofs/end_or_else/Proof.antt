@@ -1,6 +1,6 @@
 -- `partial_policy::end_or_else` meets its contract. Assumes nothing.
 use native.Mathlib.Omega.{arith}
-use Rattle.partial_policy.proofs.Ending.{or-else-put}
+use Rattle.partial_policy.proofs.Parts.{or-else-put}
 use borrow.Author.Needs.{needs}
 use Rattle.partial_policy.proofs.end_or_else.Statement.{statement}
 use Rattle.partial_policy.proofs.end_or_else.Tie as tie

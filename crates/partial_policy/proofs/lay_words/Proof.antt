@@ -1,6 +1,6 @@
 -- `partial_policy::lay_words` meets its contract: by whether there is room. Assumes nothing.
 use native.Mathlib.Omega.{arith}
-use Rattle.partial_policy.proofs.Ending.{words-laid, words-not-laid}
+use Rattle.partial_policy.proofs.Parts.{words-laid, words-not-laid}
 use borrow.Author.Needs.{needs}
 use Rattle.partial_policy.proofs.lay_words.Statement.{statement}
 use Rattle.partial_policy.proofs.lay_words.Tie as tie

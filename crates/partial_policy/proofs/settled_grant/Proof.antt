@@ -3,7 +3,7 @@ use mathlib.Core.Path.{refl, sym, _∙_}
 use mathlib.Core.Bool.{false}
 use borrow.Author.Tests.{not-false}
 use Rattle.policy_model.specs.PlainLaws.{plain-inside}
-use Rattle.partial_policy.proofs.Adding.{clash}
+use Rattle.partial_list.proofs.Adding.{clash}
 use borrow.Author.Needs.{needs}
 use Rattle.partial_policy.proofs.settled_grant.Statement.{statement}
 use Rattle.partial_policy.proofs.settled_grant.Tie as tie

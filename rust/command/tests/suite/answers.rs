@@ -40,6 +40,27 @@ fn facts_that_are_not_named() {
 }
 
 #[test]
+fn policies_may_stay_in_sheet_order() {
+    let sheet = "all\n  grant 0001 obligations 7\n    has 5\n  permit 0001\n";
+    let record = answer("reduce --in-order --to hex", sheet);
+    let held = "F0000000 90000002 80100001 00000000 07000000 20000005 C0000001 00000000\n";
+    assert_eq!(record, held);
+    assert_ne!(record, answer("reduce --to hex", sheet));
+    // The narrowing keeps the order that it finds, and the other one doesn't.
+    assert_eq!(answer("narrow --in-order --to hex", &record), record);
+    assert_ne!(answer("narrow --to hex", &record), record);
+    let sitting = answer("evaluate --facts 5=present --to hex", sheet);
+    for last in ["complete", "narrow --in-order"] {
+        let staged = answer(&format!("{last} --facts 5=present --to hex"), &record);
+        assert_eq!(staged, sitting, "{last}");
+    }
+    for other in ["evaluate", "complete", "required", "show"] {
+        let message = failure(2, &format!("{other} --in-order"), sheet);
+        assert!(message.contains("--in-order"), "{message}");
+    }
+}
+
+#[test]
 fn all_facts_can_be_named() {
     let sheet = "grant 0001\n  all\n    has 0\n    has 1023\n";
     let record = answer("reduce --facts 0=present,1023=present --to hex", sheet);

@@ -96,6 +96,8 @@ fn help_tells_of_each_subcommand_and_status() {
         let help = answer(&format!("{name} --help"), "");
         let said = "absent in evaluate and complete, and unknown in reduce and narrow";
         assert!(help.contains(said), "{help}");
+        let reduces = ["reduce", "narrow"].contains(&name);
+        assert_eq!(help.contains("--in-order\n"), reduces, "{help}");
     }
 }
 

@@ -23,6 +23,8 @@ fn refusals_say_their_number() {
         ("complete --table-hex 80", "F0000000 60000001", 4),
         ("evaluate", "pending\ndeny", 5),
         ("narrow", SHEET, 5),
+        ("reduce --in-order", "pending\ndeny", 5),
+        ("narrow --in-order", SHEET, 5),
         ("required", "C0000001 00000000", 5),
         ("required", "88000003", 6),
         ("reduce", "70000001", 8),
@@ -120,6 +122,8 @@ fn a_status_may_say_the_effect() {
         ("reduce", SHEET, 4),
         ("narrow --facts 6=present", &pending, 4),
         ("narrow --facts 5=present", &pending, 0),
+        ("reduce --in-order", SHEET, 4),
+        ("narrow --in-order --facts 5=present", &pending, 0),
         ("complete", &pending, 3),
         ("evaluate", "permit 0000", 0),
     ] {

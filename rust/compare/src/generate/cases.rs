@@ -5,7 +5,7 @@ use super::grow::{Alphabet, Grower};
 use super::rng::Rng;
 use super::{damage, tables};
 use crate::case::{Answer, Call, Case};
-use crate::narrow::known_by_part;
+use crate::narrow::{Order, known_by_part};
 use crate::words::table::Table;
 use crate::words::tree::Record;
 use crate::words::{read, write};
@@ -22,7 +22,7 @@ pub fn draw(seed: u64, count: usize, calls: &[Call]) -> Vec<Case> {
         if call.reads_sheet() {
             grown(rng, |rng| Grower::of_sheets(rng, alphabet))
         } else {
-            record(rng, alphabet)
+            record(rng, alphabet, call)
         }
     })
 }
@@ -51,11 +51,34 @@ pub fn draw_half_known(seed: u64, count: usize, calls: &[Call]) -> Vec<Case> {
     })
 }
 
+/// The same with lists in lists, for which the two orders differ most, and with records of chains in either order and in both.
+pub fn draw_layered(seed: u64, count: usize, calls: &[Call]) -> Vec<Case> {
+    draw_of(seed, count, calls, |rng, alphabet, call| {
+        let tree = Grower::of_sheets(rng, alphabet).layered();
+        let sheet = write::tree(&tree);
+        if call.reads_sheet() {
+            return sheet;
+        }
+        let in_order = rng.pick(&[0, 50, 100]);
+        let chain = Chain::over(rng, sheet);
+        let mut records = chain.records_by(|| {
+            if rng.percent(in_order) {
+                Order::SheetOrder
+            } else {
+                Order::PermitsFirst
+            }
+        });
+        records.swap_remove(rng.below(records.len()))
+    })
+}
+
 /// Whether an accepted reduction or narrowing has a grant that is known, though its condition names an Unknown fact.
 pub fn is_half_known(case: &Case) -> bool {
     let words = match case.call {
-        Call::PartialEvaluate => [&[PENDING], case.words.as_slice()].concat(),
-        Call::NarrowResidual => case.words.clone(),
+        Call::PartialEvaluate | Call::PartialEvaluateInOrder => {
+            [&[PENDING], case.words.as_slice()].concat()
+        }
+        Call::NarrowResidual | Call::NarrowResidualInOrder => case.words.clone(),
         _ => return false,
     };
     let (Ok(Record::Pending { residual, .. }), Ok(table)) =
@@ -98,11 +121,16 @@ fn case(rng: &mut Rng, call: Call, words: Words) -> Case {
     case
 }
 
-/// A record that a chain of reductions and narrowings wrote, or one written by hand.
-fn record(rng: &mut Rng, alphabet: &Alphabet) -> Vec<u32> {
+/// A record that a chain of reductions and narrowings in the call's order wrote, or one written by hand.
+fn record(rng: &mut Rng, alphabet: &Alphabet, call: Call) -> Vec<u32> {
     let words = size(rng);
+    let order = if call.in_order() {
+        Order::SheetOrder
+    } else {
+        Order::PermitsFirst
+    };
     match rng.below(100) {
-        0..=29 => staged(rng, alphabet),
+        0..=29 => staged(rng, alphabet, order),
         30..=69 => {
             let tree = grown(rng, |rng| Grower::of_records(rng, alphabet));
             [&[PENDING], tree.as_slice()].concat()
@@ -112,14 +140,14 @@ fn record(rng: &mut Rng, alphabet: &Alphabet) -> Vec<u32> {
 }
 
 /// A record of some stage of a chain, seldom a Resolved one if there are others.
-fn staged(rng: &mut Rng, alphabet: &Alphabet) -> Vec<u32> {
+fn staged(rng: &mut Rng, alphabet: &Alphabet, order: Order) -> Vec<u32> {
     let tree = if rng.percent(50) {
         Grower::of_sheets(rng, alphabet).mixed()
     } else {
         let words = size(rng);
         Grower::of_sheets(rng, alphabet).tree(words, 1)
     };
-    let mut records = Chain::over(rng, write::tree(&tree)).records();
+    let mut records = Chain::over(rng, write::tree(&tree)).records(order);
     let pending = |record: &Vec<u32>| record[0] >= PENDING;
     if records.iter().any(pending) && rng.percent(80) {
         records.retain(pending);

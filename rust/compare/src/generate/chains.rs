@@ -3,6 +3,7 @@
 use super::grow::{Alphabet, Grower};
 use super::rng::Rng;
 use super::tables;
+use crate::narrow::Order;
 use crate::reference;
 use crate::words::write;
 
@@ -49,14 +50,21 @@ impl Chain {
         room(self.sheet.len())
     }
 
-    /// The record of the reduction, and the one of each narrowing after it.
-    pub fn records(&self) -> Vec<Vec<u32>> {
+    /// The record of the reduction, and the one of each narrowing after it, all in one order.
+    pub fn records(&self, order: Order) -> Vec<Vec<u32>> {
+        self.records_by(|| order)
+    }
+
+    /// The same, each call in an order of its own.
+    pub fn records_by(&self, mut order: impl FnMut() -> Order) -> Vec<Vec<u32>> {
         let room = self.room();
-        let reduced = reference::partial_evaluate(&self.sheet, &self.reduction, room);
+        let (reduce, _) = reference::pair(order());
+        let reduced = reduce(&self.sheet, &self.reduction, room);
         let mut records = vec![reduced.expect("room for the reduction")];
         for table in &self.narrowings {
             let given = records.last().expect("the reduction's record");
-            let narrowed = reference::narrow_residual(given, table, room);
+            let (_, narrow) = reference::pair(order());
+            let narrowed = narrow(given, table, room);
             records.push(narrowed.expect("room for the narrowing"));
         }
         records

@@ -165,6 +165,32 @@ impl<'a> Grower<'a> {
         self.list(arms)
     }
 
+    /// Lists and `OrElse`s in lists, three deep, of small arms.
+    pub fn layered(&mut self) -> Residual {
+        let focus = self.fact();
+        let arms = self.layer(focus, 2);
+        self.list(arms)
+    }
+
+    fn layer(&mut self, focus: u16, below: usize) -> Vec<Residual> {
+        let count = self.rng.between(1, 4);
+        (0..count)
+            .map(|_| match self.rng.below(6) {
+                0..=2 if below > 0 => {
+                    let arms = self.layer(focus, below - 1);
+                    self.list(arms)
+                }
+                3 if below > 0 => {
+                    let primary = self.layer(focus, below - 1);
+                    let primary = self.list(primary);
+                    let fallback = self.arm(focus);
+                    Tree::OrElse(Box::new(primary), Box::new(fallback))
+                }
+                _ => self.arm(focus),
+            })
+            .collect()
+    }
+
     /// A list of grants on several facts each: a table that leaves some of them open still decides
     /// many.
     pub fn half_known(&mut self) -> Residual {

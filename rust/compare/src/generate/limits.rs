@@ -7,7 +7,7 @@ use super::rng::Rng;
 use crate::case::{Answer, Call, Case};
 use crate::products::Products;
 use crate::words::table::pack;
-use crate::words::tree::{Condition, Decided, Entry, Grant, Permit, Record, Residual, Tree};
+use crate::words::tree::{Condition, Decided, Deny, Entry, Grant, Permit, Record, Residual, Tree};
 use crate::words::write;
 use crate::words::{FACTS, LEVELS, LIST, OBLIGATIONS, RECORD_WORDS, SHEET_WORDS, TABLE_BYTES};
 
@@ -47,8 +47,9 @@ pub fn sheets(rng: &mut Rng) -> Vec<Vec<u32>> {
     for obligations in OBLIGATIONS - 1..=OBLIGATIONS + 1 {
         trees.push(Grower::of_sheets(rng, &alphabet).bulky(obligations));
     }
+    trees.extend([deep(4_000, &[]), deep(3_900, &[waiting()])]);
     let mut found: Vec<Vec<u32>> = trees.iter().map(write::tree).collect();
-    found.push(Vec::new());
+    found.extend([denying(SHEET_WORDS), Vec::new()]);
     found
 }
 
@@ -61,6 +62,7 @@ pub fn records(rng: &mut Rng) -> Vec<Vec<u32>> {
         let tree = Grower::of_records(rng, &alphabet).exactly(words - 1);
         records.push(pending(tree));
         records.push(growing(words));
+        records.push(growing_in_order(words));
     }
     for nodes in LEVELS - 1..=LEVELS + 2 {
         records.push(pending(Grower::of_records(rng, &alphabet).tall(nodes)));
@@ -81,15 +83,22 @@ pub fn records(rng: &mut Rng) -> Vec<Vec<u32>> {
             residual: naming(rng, length),
         });
     }
+    records.extend([
+        deep_stored(LEVELS - 1, &[]),
+        deep_stored(LEVELS - 2, &[waiting()]),
+    ]);
     let mut found: Vec<Vec<u32>> = records.iter().map(write::record).collect();
     found.extend([Vec::new(), vec![0xE000_0000], vec![0xF000_0000]]);
     found
 }
 
-/// Tables around the longest, the empty one, and one that is all Present.
+/// Tables around the longest, the empty one, one that is all Present, and one that leaves fact 0 open, if a table may.
 pub fn tables(rng: &mut Rng, unknown: bool) -> Vec<Vec<u8>> {
     let readings: &[u8] = if unknown { &[0, 1, 2] } else { &[0, 1] };
     let mut found = vec![Vec::new(), vec![0x55; TABLE_BYTES]];
+    if unknown {
+        found.push(vec![0x80]);
+    }
     for bytes in TABLE_BYTES - 1..=TABLE_BYTES + 1 {
         let fields: Vec<u8> = (0..4 * bytes).map(|_| rng.pick(readings)).collect();
         found.push(pack(&fields));
@@ -112,6 +121,58 @@ pub fn growing(words: usize) -> Record {
         Tree::All(arms)
     });
     pending(Tree::Any(lists.collect()))
+}
+
+/// A record whose narrowing in sheet order, while fact 0 is Unknown, has this many words: each of
+/// its denies takes a word, and three once it is resolved.
+pub fn growing_in_order(words: usize) -> Record {
+    // The lead, the list above and two lists with a grant of three words each; then denies, and
+    // permits of two words for what is left over.
+    let left = words - 10;
+    let permits = [0, 2, 1][left % 3];
+    let denies = (left - 2 * permits) / 3;
+    let lists = [denies / 2, denies.div_ceil(2)].map(|share| {
+        let mut arms = vec![Tree::Deny; share];
+        arms.push(waiting());
+        arms
+    });
+    let [mut first, second] = lists;
+    first.extend(vec![Tree::Permit(Products(3)); permits]);
+    pending(Tree::Any(vec![Tree::Any(first), Tree::Any(second)]))
+}
+
+/// A sheet of this many words: an Any of denies and a grant on fact 0.
+fn denying(words: usize) -> Vec<u32> {
+    let mut arms = vec![Tree::Deny; words - 4];
+    arms.push(waiting());
+    write::tree::<Decided>(&Tree::Any(arms))
+}
+
+/// Lists within each other, as many as there may be, over a grant that without a Present fact is
+/// false and names this many facts. Each list has these arms besides.
+pub fn deep(facts: usize, beside: &[Residual]) -> Residual {
+    // The grant, its condition and a Has take a level each.
+    let facts = (1..FACTS).cycle().take(facts);
+    let condition = Condition::Any(facts.map(Condition::Has).collect());
+    nested(LEVELS - 3, grant(condition, Vec::new()), beside)
+}
+
+/// A record of this many lists within each other, over a node 13 of 4,000 facts.
+pub fn deep_stored(lists: usize, beside: &[Residual]) -> Record {
+    let deny = Deny {
+        unsatisfied: (1..FACTS).cycle().take(4_000).collect(),
+        ..Deny::plain()
+    };
+    pending(nested(lists, Tree::Stored(Decided::Deny(deny)), beside))
+}
+
+fn nested(lists: usize, bottom: Residual, beside: &[Residual]) -> Residual {
+    (0..lists).fold(bottom, |below, _| Tree::Any([&[below], beside].concat()))
+}
+
+/// A grant on fact 0.
+fn waiting() -> Residual {
+    grant(Condition::Has(0), Vec::new())
 }
 
 /// A Resolved record with this many consulted entries and as many facts, repeats among them.

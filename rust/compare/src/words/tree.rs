@@ -158,11 +158,38 @@ impl Decided {
         }
     }
 
+    /// The same without its facts: effect, outcome, denied outcome, obligations, label, reason and shape.
+    #[must_use]
+    pub fn without_facts(mut self) -> Self {
+        match &mut self {
+            Self::Permit(permit) => permit.satisfied.clear(),
+            Self::Deny(deny) => deny.unsatisfied.clear(),
+        }
+        self
+    }
+
     /// The products of a permit; a deny has none, whatever outcome it denied.
     pub const fn products(&self) -> Option<Products> {
         match self {
             Self::Permit(permit) => Some(permit.outcome),
             Self::Deny(_) => None,
+        }
+    }
+}
+
+impl From<Sheet> for Residual {
+    fn from(sheet: Sheet) -> Self {
+        let arms = |arms: Vec<Sheet>| arms.into_iter().map(Self::from).collect();
+        match sheet {
+            Tree::Permit(outcome) => Self::Permit(outcome),
+            Tree::Deny => Self::Deny,
+            Tree::Grant(grant) => Self::Grant(grant),
+            Tree::All(found) => Self::All(arms(found)),
+            Tree::Any(found) => Self::Any(arms(found)),
+            Tree::OrElse(primary, fallback) => {
+                Self::OrElse(Box::new((*primary).into()), Box::new((*fallback).into()))
+            }
+            Tree::Stored(never) => match never {},
         }
     }
 }

@@ -10,6 +10,7 @@ use compare::generate::cases;
 use compare::generate::chains::Chain;
 use compare::generate::grow::Alphabet;
 use compare::generate::rng::Rng;
+use compare::narrow::Order;
 use compare::reference;
 use compare::refusal::Refusal;
 use compare::words::RECORD_WORDS;
@@ -54,6 +55,14 @@ fn said(shown: &str) -> Vec<u32> {
     words(&answer("assemble", shown))
 }
 
+/// Whether the call is one of the three questions about a record.
+const fn is_question(call: Call) -> bool {
+    matches!(
+        call,
+        Call::IsPermitConstant | Call::IsDenyConstant | Call::CarriesObligation
+    )
+}
+
 /// The subcommand of a call; the questions have none.
 fn subcommand(call: Call) -> &'static str {
     match call {
@@ -62,6 +71,8 @@ fn subcommand(call: Call) -> &'static str {
         Call::NarrowResidual => "narrow",
         Call::CompleteResidual => "complete",
         Call::RequiredFacts | Call::RequiredResidualFacts => "required",
+        Call::PartialEvaluateInOrder => "reduce --in-order",
+        Call::NarrowResidualInOrder => "narrow --in-order",
         _ => panic!("{call:?} has no subcommand"),
     }
 }
@@ -90,11 +101,10 @@ fn drawn_calls() {
         let record = case.words.first().is_some_and(|word| word >> 28 >= 14);
         case.call.writes() || record != case.call.reads_sheet()
     };
+    let calls = Call::ALL.into_iter();
+    let calls: Vec<Call> = calls.filter(|call| !is_question(*call)).collect();
     let mut refused = 0;
-    for mut case in cases::draw(5, 500, &Call::ALL[..6])
-        .into_iter()
-        .filter(asks)
-    {
+    for mut case in cases::draw(5, 700, &calls).into_iter().filter(asks) {
         case.room = RECORD_WORDS;
         let due = case
             .answer()
@@ -117,19 +127,22 @@ fn chains_of_stages() {
         let alphabet = Alphabet::draw(&mut rng);
         let chain = Chain::draw(&mut rng, &alphabet, 40);
         let sheet = answer("show", &hex(&chain.sheet));
-        let mut record = staged("reduce", &sheet, &chain.reduction);
-        let mut records = vec![said(&record)];
-        for table in &chain.narrowings {
-            record = staged("narrow", &record, table);
-            records.push(said(&record));
+        for (order, option) in [
+            (Order::PermitsFirst, ""),
+            (Order::SheetOrder, " --in-order"),
+        ] {
+            let mut record = staged(&format!("reduce{option}"), &sheet, &chain.reduction);
+            let mut records = vec![said(&record)];
+            for table in &chain.narrowings {
+                record = staged(&format!("narrow{option}"), &record, table);
+                records.push(said(&record));
+            }
+            assert_eq!(records, chain.records(order));
+            let last = records.last().expect("the reduction's record");
+            let completed = reference::complete_residual(last, &chain.known, chain.room());
+            let found = said(&staged("complete", &record, &chain.known));
+            assert_eq!(Ok(found), completed);
         }
-        assert_eq!(records, chain.records());
-        let last = records.last().expect("the reduction's record");
-        let completed = reference::complete_residual(last, &chain.known, chain.room());
-        assert_eq!(
-            Ok(said(&staged("complete", &record, &chain.known))),
-            completed
-        );
         let direct = reference::evaluate(&chain.sheet, &chain.known, chain.room());
         assert_eq!(Ok(said(&staged("evaluate", &sheet, &chain.known))), direct);
     }

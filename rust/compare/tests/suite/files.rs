@@ -31,6 +31,7 @@ fn the_same_seed_gives_the_same_bytes() {
         "answers --seed 5 --count 300",
         "rows --seed 5 --count 300 --part original",
         "rows --seed 5 --count 300 --part narrow_residual",
+        "rows --seed 5 --count 300 --part in_order",
     ] {
         let file = run(arguments);
         assert_eq!(run(arguments), file);
@@ -235,7 +236,7 @@ fn rows_of_the_checker() {
 -- Made by: hand
 use mathlib.Core.List.{List, [], _∷_}
 use Prim.Native.Nat.{ℕ}
-use Rattle.model.specs.Worked.{Row, evaluates, reduces, narrows, completes, row, refuses, writes}
+use Rattle.model.specs.Worked.{Row, evaluates, completes, reduces, narrows, reducesInOrder, narrowsInOrder, row, refuses, writes}
 
 abbrev pub rows : List Row
 rows =

@@ -1,8 +1,13 @@
 //! Both sides of each limit.
 
-use compare::case::Call::{CompleteResidual, Evaluate, NarrowResidual, PartialEvaluate};
+use compare::case::Call::{
+    CompleteResidual, Evaluate, NarrowResidual, NarrowResidualInOrder, PartialEvaluate,
+    PartialEvaluateInOrder,
+};
 use compare::case::Case;
-use compare::generate::limits::{cases, growing, listed, naming, records, sheets, tables};
+use compare::generate::limits::{
+    cases, deep, growing, growing_in_order, listed, naming, records, sheets, tables,
+};
 use compare::generate::rng::Rng;
 use compare::refusal::Refusal;
 use compare::words::{read, write};
@@ -24,8 +29,8 @@ fn sheets_pass_up_to_their_limits() {
     let sheets = sheets(&mut Rng::new(1));
     let found = tally(sheets.iter().map(|words| read::sheet(words)));
     // Accepted: three sheets of each of 4,095 and 4,096 words, four of each of 31 and 32 levels,
-    // one of each of 63 and 64 obligations.
-    assert_eq!(found, [16, 4, 0, 0, 0, 0, 0, 8, 1, 0, 0, 0]);
+    // one of each of 63 and 64 obligations, two of 29 lists over a grant, one of denies.
+    assert_eq!(found, [19, 4, 0, 0, 0, 0, 0, 8, 1, 0, 0, 0]);
 }
 
 #[test]
@@ -34,7 +39,7 @@ fn records_pass_up_to_their_limits() {
     let found = tally(records.iter().map(|words| read::record(words)));
     // Refused: no words and 16,385 of them, two leads alone, levels 33 and 34, twice 65
     // obligations.
-    assert_eq!(found, [21, 2, 0, 0, 0, 0, 2, 2, 2, 0, 0, 0]);
+    assert_eq!(found, [26, 2, 0, 0, 0, 0, 2, 2, 2, 0, 0, 0]);
 }
 
 #[test]
@@ -46,7 +51,7 @@ fn fact_lists_end_at_4095() {
             write::tree(&naming(&mut rng, facts)).as_slice(),
         ]
         .concat();
-        for call in [NarrowResidual, CompleteResidual] {
+        for call in [NarrowResidual, NarrowResidualInOrder, CompleteResidual] {
             // A list of Present facts is true under All and names all; Any names its first.
             let (number, found) = written(call, &record, &[0x55; 256], 16_384);
             let (missing, found_missing) = written(call, &record, &[], 16_384);
@@ -62,7 +67,7 @@ fn fact_lists_end_at_4095() {
 fn stored_lists_come_back() {
     let mut rng = Rng::new(1);
     let record = write::record(&listed(&mut rng, 4_095));
-    for call in [NarrowResidual, CompleteResidual] {
+    for call in [NarrowResidual, NarrowResidualInOrder, CompleteResidual] {
         let found = written(call, &record, &[], record.len());
         assert_eq!(found, (0, record.clone()));
     }
@@ -71,11 +76,37 @@ fn stored_lists_come_back() {
 #[test]
 fn a_narrowing_may_outgrow_a_record() {
     for words in 16_380..=16_390 {
-        let record = write::record(&growing(words));
-        let (number, found) = written(NarrowResidual, &record, &[0x80], 20_000);
         let expected = if words <= 16_384 { (0, words) } else { (11, 0) };
-        assert_eq!((number, found.len()), expected);
+        for (call, record) in [
+            (NarrowResidual, growing(words)),
+            (NarrowResidualInOrder, growing(words)),
+            (NarrowResidualInOrder, growing_in_order(words)),
+        ] {
+            let (number, found) = written(call, &write::record(&record), &[0x80], 20_000);
+            assert_eq!((number, found.len()), expected);
+        }
+        // Permits first, the denies drop out.
+        let record = write::record(&growing_in_order(words));
+        let (number, found) = written(NarrowResidual, &record, &[0x80], 20_000);
+        assert!(number == 0 && found.len() < 20, "{}", found.len());
     }
+}
+
+/// In sheet order a Deny of a sheet's Any comes to three words, and a deny under many lists stays where it stands.
+#[test]
+fn sheets_grow_within_their_room() {
+    let denies = [vec![0xA000_0FFD], vec![0x7000_0000; 4_092]].concat();
+    let sheet = [denies, vec![0x8000_0001, 0, 0x2000_0000]].concat();
+    let room = 3 * sheet.len() + 513;
+    let (number, found) = written(PartialEvaluateInOrder, &sheet, &[0x80], room);
+    assert_eq!((number, found.len()), (0, 3 * 4_092 + 5));
+    assert_eq!(written(PartialEvaluate, &sheet, &[0x80], room).1.len(), 8);
+    let sheet = write::tree(&deep(4_000, &[]));
+    let (number, found) = written(PartialEvaluateInOrder, &sheet, &[], 3 * sheet.len() + 513);
+    assert_eq!(
+        (number, found[0] >> 28, found.len()),
+        (0, 14, 1 + 512 + 2_003)
+    );
 }
 
 #[test]

@@ -4,6 +4,7 @@ mod codec;
 #[cfg(feature = "proved")]
 mod command;
 mod files;
+mod in_order;
 mod limits;
 mod listing;
 mod original;

@@ -4,15 +4,18 @@ use std::thread;
 
 use compare::answers;
 use compare::case::{Call, Case};
-use compare::generate::cases::{draw, draw_half_known, draw_wide, is_half_known};
+use compare::generate::cases::{draw, draw_half_known, draw_layered, draw_wide, is_half_known};
 use compare::generate::chains::{Chain, room};
 use compare::generate::grow::{Alphabet, Grower};
-use compare::generate::limits;
 use compare::generate::rng::Rng;
-use compare::proved::{Writer, agrees};
+use compare::generate::{limits, tables};
+use compare::narrow::Order;
+use compare::proved::{Writer, agrees, pair};
+use compare::reference;
 use compare::words::write;
 
-use super::stages::{decided, settled};
+use super::in_order::{clause, layered};
+use super::stages::{decided, settled, small_chains};
 
 const SEED: u64 = 20_261_115;
 
@@ -41,57 +44,119 @@ fn written(
     call(words, table, &mut out).map(<[u32]>::to_vec)
 }
 
-/// The whole road on the proved calls, refused narrowings on the way: settled facts are gone, and the end is one sitting's effect and products.
+/// The whole road on the proved calls, each in one of these orders, with refused narrowings of both pairs on the way: settled facts are gone. What the
+/// completion writes.
 #[track_caller]
-fn ends_as_one_sitting(rng: &mut Rng, chain: &Chain) {
+fn completed(rng: &mut Rng, chain: &Chain, orders: &[Order]) -> Vec<u32> {
     let room = room(chain.sheet.len());
-    let mut record = written(
-        vierskof::partial_evaluate,
-        &chain.sheet,
-        &chain.reduction,
-        room,
-    )
-    .expect("room for the reduction");
+    let (reduce, _) = pair(rng.pick(orders));
+    let reduced = written(reduce, &chain.sheet, &chain.reduction, room);
+    let mut record = reduced.expect("room for the reduction");
     let mut accepted: Vec<&[u8]> = vec![&chain.reduction];
     for table in &chain.narrowings {
+        let (_, narrow) = pair(rng.pick(orders));
         let room = if rng.percent(30) { rng.below(9) } else { room };
-        if let Ok(narrowed) = written(vierskof::narrow_residual, &record, table, room) {
+        if let Ok(narrowed) = written(narrow, &record, table, room) {
             record = narrowed;
             accepted.push(table);
         }
+        let faulty = [table.as_slice(), &[0xFF]].concat();
+        let (_, refused) = pair(rng.pick(&BOTH));
+        assert!(written(refused, &record, &faulty, room).is_err());
         assert!(settled(&record, &accepted), "seed {SEED}: {chain:X?}");
     }
+    if orders == [Order::SheetOrder] {
+        comes_back(&record, chain);
+    }
     let completed = written(vierskof::complete_residual, &record, &chain.known, room);
+    completed.expect("room for the completion")
+}
+
+const BOTH: [Order; 2] = [Order::PermitsFirst, Order::SheetOrder];
+
+/// A record in sheet order is the same after a narrowing with a table of Unknown, with exact room, and is refused with a word less.
+#[track_caller]
+fn comes_back(record: &[u32], chain: &Chain) {
+    let unknown = tables::unknown(&chain.facts);
+    let narrowed = |room| written(vierskof::narrow_residual_in_order, record, &unknown, room);
+    let same = narrowed(record.len());
+    assert_eq!(same.as_deref(), Ok(record), "seed {SEED}: {chain:X?}");
+    let refused = narrowed(record.len() - 1);
+    assert_eq!(refused, Err(vierskof::Refusal::Room));
+}
+
+/// The road's end has the effect and the products of one sitting.
+#[track_caller]
+fn ends_as_one_sitting(rng: &mut Rng, chain: &Chain, orders: &[Order]) {
+    let room = room(chain.sheet.len());
     let sitting = written(vierskof::evaluate, &chain.sheet, &chain.known, room);
     assert_eq!(
-        decided(&completed.expect("room for the completion")),
+        decided(&completed(rng, chain, orders)),
         decided(&sitting.expect("room for one sitting")),
         "seed {SEED}: {chain:X?}"
     );
 }
 
-#[test]
-fn chains_end_as_one_sitting() {
+/// In sheet order it has the clause that the original gives in one sitting, facts aside.
+#[track_caller]
+fn ends_in_the_originals_clause(rng: &mut Rng, chain: &Chain) {
+    let room = room(chain.sheet.len());
+    let sitting = reference::evaluate(&chain.sheet, &chain.known, room);
+    assert_eq!(
+        clause(&completed(rng, chain, &[Order::SheetOrder])),
+        clause(&sitting.expect("room for one sitting")),
+        "seed {SEED}: {chain:X?}"
+    );
+}
+
+/// Random chains, chains over lists in lists and over lists of many arms, and long ones.
+fn each_chain(mut check: impl FnMut(&mut Rng, &Chain)) {
     let mut rng = Rng::new(SEED);
     for _ in 0..20_000 {
         let alphabet = Alphabet::draw(&mut rng);
         let words = rng.between(1, 100);
         let chain = Chain::draw(&mut rng, &alphabet, words);
-        ends_as_one_sitting(&mut rng, &chain);
+        check(&mut rng, &chain);
+    }
+    for _ in 0..10_000 {
+        let chain = layered(&mut rng);
+        check(&mut rng, &chain);
     }
     for _ in 0..1_000 {
         let alphabet = Alphabet::draw(&mut rng);
         let tree = Grower::of_sheets(&mut rng, &alphabet).wide();
         let chain = Chain::over(&mut rng, write::tree(&tree));
-        ends_as_one_sitting(&mut rng, &chain);
+        check(&mut rng, &chain);
     }
     for _ in 0..50 {
         let alphabet = Alphabet::wide(&mut rng);
         let words = rng.between(500, 4_096);
         let tree = Grower::of_sheets(&mut rng, &alphabet).exactly(words);
         let chain = Chain::over(&mut rng, write::tree(&tree));
-        ends_as_one_sitting(&mut rng, &chain);
+        check(&mut rng, &chain);
     }
+}
+
+#[test]
+fn chains_end_as_one_sitting() {
+    each_chain(|rng, chain| ends_as_one_sitting(rng, chain, &[Order::PermitsFirst]));
+}
+
+#[test]
+fn chains_of_both_pairs_end_as_one_sitting() {
+    each_chain(|rng, chain| ends_as_one_sitting(rng, chain, &BOTH));
+}
+
+#[test]
+fn chains_in_order_end_in_the_originals_clause() {
+    each_chain(ends_in_the_originals_clause);
+}
+
+/// Of five words, the fewest with which the first pair ends in another clause.
+#[test]
+fn all_small_chains_in_order_end_in_the_originals_clause() {
+    let mut rng = Rng::new(SEED);
+    small_chains(5, |chain| ends_in_the_originals_clause(&mut rng, chain));
 }
 
 #[test]
@@ -109,13 +174,43 @@ fn lists_of_many_arms_agree() {
 
 #[test]
 fn known_grants_that_name_an_unknown_fact_agree() {
-    let calls = [Call::PartialEvaluate, Call::NarrowResidual];
-    let cases = draw_half_known(SEED, 8_000, &calls);
+    let cases = draw_half_known(SEED, 8_000, &REDUCING);
     assert!(cases.iter().filter(|case| is_half_known(case)).count() > 2_000);
     all_agree(cases);
 }
 
-/// 4,095 arms, 32 levels, 4,096 words and their neighbours, in a thread with 256 KiB of stack.
+/// The reductions and narrowings of both pairs.
+const REDUCING: [Call; 4] = [
+    Call::PartialEvaluate,
+    Call::NarrowResidual,
+    Call::PartialEvaluateInOrder,
+    Call::NarrowResidualInOrder,
+];
+
+/// Lists in lists, and records of either pair and of both.
+#[test]
+fn lists_in_lists_agree() {
+    let cases = draw_layered(SEED, 16_000, &REDUCING);
+    let other = |case: &&Case| {
+        let first = match case.call {
+            Call::PartialEvaluateInOrder => Call::PartialEvaluate,
+            Call::NarrowResidualInOrder => Call::NarrowResidual,
+            _ => return false,
+        };
+        let first = Case {
+            call: first,
+            ..(*case).clone()
+        };
+        case.answer().is_ok() && case.answer() != first.answer()
+    };
+    // The two orders differ on many of them.
+    let differ = cases.iter().filter(other).count();
+    assert!(differ > 1_500, "{differ}");
+    all_agree(cases);
+}
+
+/// 4,095 arms, 32 levels, 4,096 words and their neighbours, a false grant of 4,000 facts under as many lists as there may be, and the like of records, in a
+/// thread with 256 KiB of stack.
 #[test]
 fn the_limits_agree_on_a_small_stack() {
     let cases = limits::cases(&mut Rng::new(SEED));
@@ -133,6 +228,8 @@ fn the_limits_agree_on_a_small_stack() {
             let _ = vierskof::partial_evaluate(words, table, &mut out);
             let _ = vierskof::narrow_residual(words, table, &mut out);
             let _ = vierskof::complete_residual(words, table, &mut out);
+            let _ = vierskof::partial_evaluate_in_order(words, table, &mut out);
+            let _ = vierskof::narrow_residual_in_order(words, table, &mut out);
             let _ = vierskof::required_facts(words);
             let _ = vierskof::required_residual_facts(words);
             let _ = vierskof::is_permit_constant(words);

@@ -59,7 +59,12 @@ fn drawn_documents() {
 
 #[test]
 fn records_of_drawn_calls() {
-    let calls = [Call::PartialEvaluate, Call::NarrowResidual];
+    let calls = [
+        Call::PartialEvaluate,
+        Call::NarrowResidual,
+        Call::PartialEvaluateInOrder,
+        Call::NarrowResidualInOrder,
+    ];
     let drawn = cases::draw(2, 5_000, &calls);
     let records = drawn.iter().filter_map(|case| match case.answer() {
         Ok(compare::case::Answer::Record(record)) => Some(record),
@@ -86,8 +91,8 @@ fn worked_sheets() {
 #[test]
 fn documents_at_the_limits() {
     // The tallies that the comparison's own test of these has.
-    assert_eq!(tally(limits::sheets(&mut Rng::new(1))), [16, 13]);
-    assert_eq!(tally(limits::records(&mut Rng::new(1))), [21, 8]);
+    assert_eq!(tally(limits::sheets(&mut Rng::new(1))), [19, 13]);
+    assert_eq!(tally(limits::records(&mut Rng::new(1))), [26, 8]);
 }
 
 /// A text with one or two edits, each in one place.

@@ -5,6 +5,7 @@ use compare::generate::exhaustive::sheets;
 use compare::generate::grow::{Alphabet, Grower};
 use compare::generate::rng::Rng;
 use compare::generate::tables;
+use compare::narrow::Order;
 use compare::products::Products;
 use compare::reference::{
     complete_residual, evaluate, narrow_residual, partial_evaluate, required_residual_facts,
@@ -40,7 +41,7 @@ fn check(chain: &Chain) {
     let sitting = evaluate(&chain.sheet, &chain.known, room).expect("room for it");
     let unknown = tables::unknown(&chain.facts);
     let mut accepted: Vec<&[u8]> = vec![&chain.reduction];
-    for (stage, record) in chain.records().iter().enumerate() {
+    for (stage, record) in chain.records(Order::PermitsFirst).iter().enumerate() {
         if stage > 0 {
             accepted.push(&chain.narrowings[stage - 1]);
         }
@@ -76,10 +77,9 @@ fn long_chains() {
     }
 }
 
-/// All small sheets, known tables of two facts, and two tables that agree with each.
-#[test]
-fn all_small_chains() {
-    for sheet in sheets(4) {
+/// All sheets of at most this many words, known tables of two facts, and two tables that agree with each.
+pub fn small_chains(words: usize, mut check: impl FnMut(&Chain)) {
+    for sheet in sheets(words) {
         for known in 0..4 {
             let (first, second) = (known / 2, known % 2);
             for hidden in 0..16 {
@@ -94,6 +94,11 @@ fn all_small_chains() {
             }
         }
     }
+}
+
+#[test]
+fn all_small_chains() {
+    small_chains(4, check);
 }
 
 /// A refused narrowing hands on what it was given, so it changes nothing of the chain.

@@ -3,7 +3,10 @@
 use std::collections::BTreeSet;
 
 use vierskof::read::{Record, Sheet};
-use vierskof::{Refusal, complete_residual, evaluate, narrow_residual, partial_evaluate};
+use vierskof::{
+    Refusal, complete_residual, evaluate, narrow_residual, narrow_residual_in_order,
+    partial_evaluate, partial_evaluate_in_order,
+};
 
 /// A Deny node.
 const DENY: u32 = 0x7000_0000;
@@ -73,6 +76,36 @@ fn words_are_5_to_10() {
     unread(8, &[0x8010_0001, 0, 0x4000_0000, 0]);
     unread(9, &[0x8020_0001, 0, 0x0707_0000, 0]);
     unread(10, &[DENY, DENY]);
+}
+
+/// Reduction and narrowing are refused alike in either order, for the first cause.
+#[test]
+fn both_pairs_are_refused_alike() {
+    let long = vec![DENY; 4_097];
+    let cases: [(&[u32], &[u8], u32); 10] = [
+        (&[], &[0; 257], 1),
+        (&long, &[], 1),
+        (&[DENY, DENY], &[0; 257], 2),
+        (&[DENY, DENY], &[0x00, 0x03], 3),
+        (&[0x0000_0000], &[0x02], 5),
+        (&[0x9000_0001], &[0x02], 6),
+        (&[0x9000_0001; 33], &[], 7),
+        (&[0x7000_0001], &[], 8),
+        (&[0x8020_0001, 0, 0x0707_0000, 0], &[], 9),
+        (&[DENY, DENY], &[], 10),
+    ];
+    for (sheet, facts, number) in cases {
+        let refusal = Err(Refusal::try_from(number).unwrap());
+        let mut out = [0x5A5A_5A5A; 600];
+        assert_eq!(partial_evaluate(sheet, facts, &mut out), refusal);
+        assert_eq!(partial_evaluate_in_order(sheet, facts, &mut out), refusal);
+        if number != 1 {
+            let record = [&[PENDING], sheet].concat();
+            assert_eq!(narrow_residual(&record, facts, &mut out), refusal);
+            assert_eq!(narrow_residual_in_order(&record, facts, &mut out), refusal);
+        }
+        assert_eq!(out, [0x5A5A_5A5A; 600]);
+    }
 }
 
 /// Stored decisions stand in records only, and alone in a Resolved one.

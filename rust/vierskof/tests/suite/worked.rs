@@ -3,10 +3,11 @@
 use vierskof::build::{Condition, Grant, Policy};
 use vierskof::read::{self, Decision, PermitWithTrace, Reading, Record, Status};
 use vierskof::{
-    FactTable, Presence, Shape, complete_residual, evaluate, narrow_residual, partial_evaluate,
+    FactTable, Presence, Shape, complete_residual, evaluate, narrow_residual,
+    narrow_residual_in_order, partial_evaluate, partial_evaluate_in_order,
 };
 
-use super::{fact, obligation, products};
+use super::{fact, products};
 
 /// Room for every record here.
 const ROOM: usize = 16;
@@ -124,20 +125,21 @@ fn g_meets_and_joins() {
     }
 }
 
+const SEVEN: [vierskof::Obligation; 1] = [vierskof::Obligation::new(7).unwrap()];
+
+/// H's sheet.
+const H: Policy = Policy::All(&[
+    Policy::Grant(Grant::new(products(1), &Condition::Has(FIVE)).obligations(&SEVEN)),
+    Policy::Permit(products(1)),
+]);
+
 #[test]
 fn h_loses_an_obligation_on_the_way() {
-    let has = Condition::Has(fact(5));
-    let seven = [obligation(7)];
-    let arms = [
-        Policy::Grant(Grant::new(products(1), &has).obligations(&seven)),
-        Policy::Permit(products(1)),
-    ];
-    let policy = Policy::All(&arms);
-    let one = sitting(&policy, &five(Presence::Present));
-    assert!(permit(&one).obligations().eq(seven));
+    let one = sitting(&H, &five(Presence::Present));
+    assert!(permit(&one).obligations().eq(SEVEN));
 
     let (mut out, mut completed) = ([0; ROOM], [0; ROOM]);
-    let sheet = built(&policy);
+    let sheet = built(&H);
     let pending = partial_evaluate(&sheet, five(Presence::Unknown).as_bytes(), &mut out).unwrap();
     assert_eq!(vierskof::carries_obligation(pending), Ok(true));
     let present = five(Presence::Present);
@@ -146,4 +148,26 @@ fn h_loses_an_obligation_on_the_way() {
     assert_eq!(vierskof::is_deny_constant(staged), Ok(false));
     assert_eq!(permit(staged).outcome(), permit(&one).outcome());
     assert_eq!(permit(staged).obligations().len(), 0);
+}
+
+#[test]
+fn h_keeps_it_in_sheet_order() {
+    let sheet = built(&H);
+    let [mut out, mut again, mut narrowed, mut completed] = [[0; ROOM]; 4];
+    let (unknown, present) = (five(Presence::Unknown), five(Presence::Present));
+    let pending = partial_evaluate_in_order(&sheet, unknown.as_bytes(), &mut out).unwrap();
+    let permit_node = [0xC000_0001, 0x0000_0000];
+    assert_eq!(pending[1..], [&sheet[..5], &permit_node].concat());
+    let same = narrow_residual_in_order(pending, unknown.as_bytes(), &mut again);
+    assert_eq!(same, Ok(pending));
+    let one = sitting(&H, &present);
+    let staged = narrow_residual_in_order(pending, present.as_bytes(), &mut narrowed);
+    assert_eq!(staged, Ok(&one[..]));
+    let staged = complete_residual(pending, present.as_bytes(), &mut completed);
+    assert_eq!(staged, Ok(&one[..]));
+    // The output as it was, where there is no room.
+    let mut short = [9; 7];
+    let refused = partial_evaluate_in_order(&sheet, unknown.as_bytes(), &mut short);
+    assert_eq!(refused, Err(vierskof::Refusal::Room));
+    assert_eq!(short, [9; 7]);
 }

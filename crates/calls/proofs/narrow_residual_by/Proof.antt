@@ -1,0 +1,82 @@
+-- `calls::narrow_residual_by` meets its contract. Assumes nothing.
+use mathlib.Core.Path.{refl, sym, ap, _∙_}
+use mathlib.Core.Bool.{false}
+use Rattle.model.specs.Facts.{tableOf}
+use Rattle.model.specs.Products.{narrowedFrom}
+use Rattle.policy_model.specs.Answers.{recordLead}
+use Rattle.partial_policy.specs.Reducing.{orderOf}
+use Rattle.partial.specs.Answers.{reducedAfter}
+use Rattle.calls.proofs.Records.{record-few, record-refused, record-copied, record-made}
+use borrow.Author.Needs.{needs}
+use Rattle.calls.proofs.narrow_residual_by.Statement.{statement}
+use Rattle.calls.proofs.narrow_residual_by.Tie as tie
+
+judge-record-requires : tie.Need-judge-record-requires
+judge-record-requires c κs = search needs
+
+enum-known-number : tie.Need-enum-known-number
+enum-known-number c = search needs
+
+enum-told : tie.Need-enum-told
+enum-told c = search needs
+
+copy-record-requires : tie.Need-copy-record-requires
+copy-record-requires c κs = search needs
+
+enum-known-consulted : tie.Need-enum-known-consulted
+enum-known-consulted c = search needs
+
+cast-narrow : tie.Need-cast-narrow
+cast-narrow c = search needs
+
+narrow-requires : tie.Need-narrow-requires
+narrow-requires c κs =
+    let told = c .before .before in
+    let judge = told .before .before in
+    let args = judge .before .before .before .before .args in
+    record-few false (args .words .now) (args .facts .now) _ (ap recordLead (sym (told .consulted .given .1)) ∙ judge .judge-record .ensures)
+
+returns : tie.Need-returns
+returns c =
+    let judge = c .before .before .before in
+    let args = judge .before .before .before .before .args in
+    record-refused false (args .words .now) (args .facts .now) (narrowedFrom (orderOf (args .in-order)) (tableOf (args .facts .now))) (args .out .now) _ (ap recordLead (sym (c .before .number .given .1)) ∙ judge .judge-record .ensures)
+
+same-length : tie.Need-same-length
+same-length c = search needs
+
+returns-2 : tie.Need-returns-2
+returns-2 c =
+    let done = c .before .before in
+    let told = done .before .before in
+    let judge = told .before .before in
+    let args = judge .before .before .before .before .args in
+    record-copied false (args .words .now) (args .facts .now) (narrowedFrom (orderOf (args .in-order)) (tableOf (args .facts .now))) (args .out .now) (λ d l. refl) _ _ (ap recordLead (sym (told .enum-told .given .1)) ∙ judge .judge-record .ensures) (done .copy-record .ensures)
+
+same-length-2 : tie.Need-same-length-2
+same-length-2 c = search needs
+
+returns-3 : tie.Need-returns-3
+returns-3 c =
+    let done = c .before .before in
+    let told = done .before .before .before in
+    let judge = told .before .before in
+    let args = judge .before .before .before .before .args in
+    record-made false (args .words .now) (args .facts .now) (narrowedFrom (orderOf (args .in-order)) (tableOf (args .facts .now))) (args .out .now) (reducedAfter (orderOf (args .in-order)) (tableOf (args .facts .now))) (λ t l. refl) _ _ (ap recordLead (sym (told .consulted .given .1)) ∙ judge .judge-record .ensures) (done .narrow .ensures)
+
+pub narrow-residual-by-spec : {M : Type 1} → statement M
+narrow-residual-by-spec =
+    tie.close
+    (tie.spec
+    judge-record-requires
+    enum-known-number
+    enum-told
+    copy-record-requires
+    enum-known-consulted
+    cast-narrow
+    narrow-requires
+    returns
+    same-length
+    returns-2
+    same-length-2
+    returns-3)

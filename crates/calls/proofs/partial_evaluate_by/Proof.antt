@@ -1,0 +1,56 @@
+-- `calls::partial_evaluate_by` meets its contract. Assumes nothing.
+use mathlib.Core.Path.{sym, ap, _∙_}
+use mathlib.Core.Bool.{false}
+use Rattle.model.specs.Facts.{tableOf}
+use Rattle.policy_model.specs.Answers.{sheetRefusal}
+use Rattle.partial_policy.specs.Reducing.{orderOf}
+use Rattle.partial.specs.Answers.{reducedAfter}
+use Rattle.calls.proofs.Sheets.{sheet-few, sheet-refused, sheet-made}
+use borrow.Author.Needs.{needs}
+use Rattle.calls.proofs.partial_evaluate_by.Statement.{statement}
+use Rattle.calls.proofs.partial_evaluate_by.Tie as tie
+
+judge-sheet-requires : tie.Need-judge-sheet-requires
+judge-sheet-requires c κs = search needs
+
+enum-known-number : tie.Need-enum-known-number
+enum-known-number c = search needs
+
+enum-told : tie.Need-enum-told
+enum-told c = search needs
+
+reduce-requires : tie.Need-reduce-requires
+reduce-requires c κs =
+    let told = c .before in
+    let judge = told .before .before in
+    let args = judge .before .before .before .before .args in
+    sheet-few false (args .sheet .now) (args .facts .now) (ap sheetRefusal (sym (told .enum-told .given .1)) ∙ judge .judge-sheet .ensures)
+
+returns : tie.Need-returns
+returns c =
+    let judge = c .before .before .before in
+    let args = judge .before .before .before .before .args in
+    sheet-refused false (args .sheet .now) (args .facts .now) (reducedAfter (orderOf (args .in-order)) (tableOf (args .facts .now))) (args .out .now) _ (ap sheetRefusal (sym (c .before .number .given .1)) ∙ judge .judge-sheet .ensures)
+
+same-length : tie.Need-same-length
+same-length c = search needs
+
+returns-2 : tie.Need-returns-2
+returns-2 c =
+    let done = c .before .before in
+    let told = done .before .before in
+    let judge = told .before .before in
+    let args = judge .before .before .before .before .args in
+    sheet-made false (args .sheet .now) (args .facts .now) (reducedAfter (orderOf (args .in-order)) (tableOf (args .facts .now))) (args .out .now) (ap sheetRefusal (sym (told .enum-told .given .1)) ∙ judge .judge-sheet .ensures) (done .reduce .ensures)
+
+pub partial-evaluate-by-spec : {M : Type 1} → statement M
+partial-evaluate-by-spec =
+    tie.close
+    (tie.spec
+    judge-sheet-requires
+    enum-known-number
+    enum-told
+    reduce-requires
+    returns
+    same-length
+    returns-2)

@@ -1,0 +1,21 @@
+-- `vierskof::vierskof_partial_evaluate_in_order` meets its contract: that of the call. Assumes nothing.
+use Rattle.vierskof.proofs.Writing.{writes}
+use borrow.Author.Needs.{needs}
+use Rattle.vierskof.proofs.vierskof_partial_evaluate_in_order.Statement.{statement}
+use Rattle.vierskof.proofs.vierskof_partial_evaluate_in_order.Tie as tie
+
+partial-evaluate-in-order-requires : tie.Need-partial-evaluate-in-order-requires
+partial-evaluate-in-order-requires c κs = search needs
+
+written-requires : tie.Need-written-requires
+written-requires c κs = search needs
+
+same-length : tie.Need-same-length
+same-length c = search needs
+
+returns : tie.Need-returns
+returns c = writes (c .before .before .before .partial-evaluate-in-order .ensures) (c .written .ensures)
+
+pub vierskof-partial-evaluate-in-order-spec : {M : Type 1} → statement M
+vierskof-partial-evaluate-in-order-spec =
+    tie.close (tie.spec partial-evaluate-in-order-requires written-requires same-length returns)

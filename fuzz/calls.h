@@ -1,4 +1,4 @@
-// The eleven calls by the numbers that the stored answers give them, on heap blocks of exact length, so that a checker of memory sees every access past an end.
+// The calls by the numbers that the stored answers give them, on heap blocks of exact length, so that a checker of memory sees every access past an end.
 #ifndef CALLS_H
 #define CALLS_H
 
@@ -20,13 +20,15 @@ enum call {
     CARRIES_OBLIGATION,
     PARTIAL_EVALUATE_IN_ORDER,
     NARROW_RESIDUAL_IN_ORDER,
+    SHEET_IN_FORCE,
     CALLS
 };
 
 // An input of the fuzzer begins with call, room and table bytes, as a stored answer does.
 enum { LEAD = 6 };
 
-// What a call is given: a sheet's or a record's words, a table, and the room of the output in words.
+// What a call is given: a sheet's, a record's or a register's words, a table, and the room of the output in words. A register is asked for a group and a day,
+// which stand in the table's place, four bytes each.
 struct given {
     enum call call;
     uint32_t *words;
@@ -83,6 +85,13 @@ static inline size_t table_bytes(const uint8_t *data, size_t size) {
     return bytes < left ? bytes : left;
 }
 
+// The group and the day that a register is asked for: 0 where the table ends before them.
+static inline uint32_t asked(const struct given *given, size_t at) { return at + 4 <= given->bytes ? number_at(given->table + at, 4) : 0; }
+
+static inline uint32_t group_of(const struct given *given) { return asked(given, 0); }
+
+static inline uint32_t day_of(const struct given *given) { return asked(given, 4); }
+
 // What the call returns. `out` holds `out_bytes`.
 static inline uint64_t returned(const struct given *given, void *out) {
     const uint32_t *words = given->words;
@@ -99,6 +108,7 @@ static inline uint64_t returned(const struct given *given, void *out) {
     case CARRIES_OBLIGATION: return vierskof_carries_obligation(words, count);
     case PARTIAL_EVALUATE_IN_ORDER: return vierskof_partial_evaluate_in_order(words, count, given->table, given->bytes, out, given->room);
     case NARROW_RESIDUAL_IN_ORDER: return vierskof_narrow_residual_in_order(words, count, given->table, given->bytes, out, given->room);
+    case SHEET_IN_FORCE: return vierskof_sheet_in_force(words, count, group_of(given), day_of(given));
     default: abort();
     }
 }

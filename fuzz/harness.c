@@ -41,11 +41,14 @@ static int same(const void *one, const void *other, size_t bytes) { return bytes
 
 // A refusal has a number of the table and no value; an accepted call's value is in its range.
 static void in_range(const struct given *given, const struct answer *answer) {
-    HOLDS(answer->number <= VIERSKOF_REFUSED_ROOM);
+    bool in_table = answer->number <= VIERSKOF_REFUSED_ROOM, no_register = answer->number == VIERSKOF_REFUSED_REGISTER;
+    HOLDS(given->call == SHEET_IN_FORCE ? no_register || answer->number == 0 : in_table);
     if (answer->number) {
         HOLDS(answer->value == 0);
     } else if (writes(given->call)) {
         HOLDS(answer->value >= 3 && answer->value <= given->room && answer->value <= VIERSKOF_RECORD_WORDS);
+    } else if (given->call == SHEET_IN_FORCE) {
+        HOLDS(answer->value <= VIERSKOF_NO_SHEET);
     } else {
         HOLDS(answer->value <= (counts(given->call) ? FACTS : 1));
     }
@@ -117,7 +120,7 @@ __attribute__((weak)) bool judge_clause(const uint32_t *words, size_t count, con
 static uint32_t as_record(const uint32_t *words, size_t count) {
     struct given given = {REQUIRED_RESIDUAL_FACTS, (uint32_t *)words, count, NULL, 0, 0};
     uint32_t number = number_of(given);
-    uint32_t said[CARRIES_OBLIGATION + 1] = {0};
+    uint32_t said[CALLS] = {0};
     for (given.call = IS_PERMIT_CONSTANT; given.call <= CARRIES_OBLIGATION; given.call++) {
         struct answer answer = call(given, FIRST);
         HOLDS(answer.number == number);
@@ -287,6 +290,30 @@ static void roads(struct given given, int sheet) {
     free(known);
 }
 
+// ---- registers
+
+// The sheet in force is that of an entry that qualifies, and none is where no entry does. The order of the entries never matters.
+static void in_force(struct given given, const struct answer *answer) {
+    bool qualifies = false, found = false;
+    uint32_t *turned = block(given.count * sizeof *turned);
+    if (given.count % 2) turned[given.count - 1] = given.words[given.count - 1];
+    for (size_t i = 0; i + 1 < given.count; i += 2) {
+        uint32_t lead = given.words[i], day = given.words[i + 1];
+        bool due = lead >> 24 == group_of(&given) && !(lead >> 23 & 1) && day <= day_of(&given);
+        qualifies = qualifies || due;
+        found = found || (due && (lead & 0xFFFF) == answer->value);
+        size_t at = given.count / 2 * 2 - 2 - i;
+        turned[at] = lead;
+        turned[at + 1] = day;
+    }
+    HOLDS(answer->number || (found == qualifies && qualifies == (answer->value < VIERSKOF_NO_SHEET)));
+    given.words = turned;
+    struct answer other = call(given, SECOND);
+    HOLDS(other.number == answer->number && other.value == answer->value);
+    free(other.out);
+    free(turned);
+}
+
 // ---- inputs
 
 // Whether the table is one that a reduction takes.
@@ -300,6 +327,11 @@ static int faultless(const struct given *given) {
 static void hold(struct given given) {
     struct answer answer = same_twice(given);
     judged(given, &answer);
+    if (given.call == SHEET_IN_FORCE) {
+        in_force(given, &answer);
+        free(answer.out);
+        return;
+    }
     if (writes(given.call) && answer.number == 0) {
         free(record_of(answer, given.room).words);
     } else {

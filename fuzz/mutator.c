@@ -144,6 +144,28 @@ static void change_word(struct input *input, size_t at, int sheet) {
     }
 }
 
+// One more entry of a register, few of them apart, or a damaged one, or a new register; and another group and day.
+static void change_register(struct input *input, size_t bytes, size_t words, size_t count) {
+    uint32_t days[] = {0, 1, 100, 0x80000000, UINT32_MAX};
+    size_t at = words + 8 * draw(input, (uint32_t)count / 2 + 1);
+    if (bytes >= 8) {
+        put(input->data + LEAD, draw(input, 3), 4);
+        put(input->data + LEAD + 4, days[draw(input, 5)], 4);
+    } else if (gap(input, LEAD + bytes, 8 - bytes)) {
+        put(input->data + 4, 8, 2);
+        return;
+    }
+    switch (draw(input, 16)) {
+    case 0: input->size = words; break;
+    case 1:
+        if (at + 4 <= input->size) put(input->data + at, number_at(input->data + at, 4) ^ 1U << draw(input, 32), 4);
+        break;
+    default:
+        insert(input, at, days[draw(input, 5)]);
+        insert(input, at, draw(input, 3) << 24 | (draw(input, 4) ? 0 : 1U << 23) | draw(input, 400));
+    }
+}
+
 // Another call. A sheet becomes a record by a lead before it, and such a record a sheet again.
 static void change_call(struct input *input, size_t words, enum call call) {
     enum call other = draw(input, CALLS);
@@ -169,7 +191,12 @@ size_t LLVMFuzzerCustomMutator(uint8_t *data, size_t size, size_t max, unsigned 
     if (size < LEAD || draw(&input, 4) == 0) return LLVMFuzzerMutate(data, size, max);
     size_t bytes = table_bytes(data, size), words = LEAD + bytes, count = (size - words) / 4;
     enum call call = number_at(data, 2) % CALLS;
-    switch (draw(&input, 8)) {
+    uint32_t change = draw(&input, 8);
+    if (call == SHEET_IN_FORCE && change) {
+        change_register(&input, bytes, words, count);
+        return input.size;
+    }
+    switch (change) {
     case 0: change_call(&input, words, call); break;
     case 1: put(data + 2, draw(&input, draw(&input, 2) ? 16 : 2000), 2); break;
     case 2:

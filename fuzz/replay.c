@@ -32,8 +32,14 @@ static int as_answered(const struct stored *stored, const void *out) {
     return 1;
 }
 
+// Whether the sheet in force is the stored one. There is no output.
+static int finds(const struct stored *stored) {
+    return stored->answered == 1 && returned(&stored->given, NULL) == ((uint64_t)stored->number << 32 | stored->answer[0]);
+}
+
 // Whether the call answers as stored, and leaves the rest of its output as it was.
 static int agrees(const struct stored *stored) {
+    if (stored->given.call == SHEET_IN_FORCE) return finds(stored);
     size_t bytes = out_bytes(&stored->given);
     size_t count = bytes / sizeof(uint32_t);
     if (stored->answered > count) return 0;

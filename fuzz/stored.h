@@ -1,5 +1,6 @@
 // A file of stored answers: a line of text, then of each answer seven 16-bit numbers (call, room, table bytes, words, number, value, answer words), the
-// table, the words, and the words that stand first in the output afterwards; all most significant byte first.
+// table, the words, and the words that stand first in the output afterwards; all most significant byte first. A register's value, which 16 bits may not
+// hold, is the one answer word.
 #ifndef STORED_H
 #define STORED_H
 

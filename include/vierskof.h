@@ -40,14 +40,16 @@ enum {
     VIERSKOF_SHEET_WORDS = 4096,   /* the longest sheet */
     VIERSKOF_RECORD_WORDS = 16384, /* the longest record */
     VIERSKOF_TABLE_BYTES = 256,    /* the longest fact table */
-    VIERSKOF_SET_NUMBERS = 16      /* a set of facts, fact 0 the top bit of the first number */
+    VIERSKOF_SET_NUMBERS = 16,     /* a set of facts, fact 0 the top bit of the first number */
+    VIERSKOF_REGISTER_WORDS = 512, /* the longest register of sheets, two words an entry */
+    VIERSKOF_NO_SHEET = 65536      /* in the place of a sheet's number: none */
 };
 
 /* An output of so many words is room enough for the calls on a sheet of `words` words and on what comes of it. */
 #define VIERSKOF_ROOM(words) (3 * (size_t)(words) + 513)
 
 /* Why a call is turned back. Of several causes a call names the first in this order: 1, 2, then 3 and 4 from fact 0 on,
-   then 5 to 9 from the first word on, then 10, then 11. Later versions may have further numbers. */
+   then 5 to 9 from the first word on, then 10, then 11. A register has 15 alone. Later versions may have further numbers. */
 enum vierskof_cause {
     VIERSKOF_ACCEPTED = 0,
     VIERSKOF_REFUSED_LENGTH = 1,              /* the sheet or record has no word, or too many */
@@ -60,7 +62,8 @@ enum vierskof_cause {
     VIERSKOF_REFUSED_FIELD = 8,               /* a field holds a number that it may not hold */
     VIERSKOF_REFUSED_REPEATED_OBLIGATION = 9, /* an obligation is repeated in one list */
     VIERSKOF_REFUSED_WORDS_AFTER_TREE = 10,   /* there are words after the tree */
-    VIERSKOF_REFUSED_ROOM = 11                /* the resulting record has no room in the output, or exceeds a limit */
+    VIERSKOF_REFUSED_ROOM = 11,               /* the resulting record has no room in the output, or exceeds a limit */
+    VIERSKOF_REFUSED_REGISTER = 15            /* the words are no register of sheets */
 };
 
 /* The number of the refusal, 0 when the call was accepted; and the call's value. */
@@ -103,6 +106,13 @@ uint64_t vierskof_required_residual_facts(const uint32_t *record, size_t words, 
 uint64_t vierskof_is_permit_constant(const uint32_t *record, size_t words);
 uint64_t vierskof_is_deny_constant(const uint32_t *record, size_t words);
 uint64_t vierskof_carries_obligation(const uint32_t *record, size_t words);
+
+/* Which sheet is in force for a group on a day. An entry of the register is two words: group (8), withdrawn (1), zero (7),
+   sheet number (16); effective day (32). Days are counted from 1900-01-01, which is day 0. In force is the latest entry of the
+   group that is not withdrawn and whose day is not after `day`, on equal days the one with the greater number. Value: its
+   sheet number, or VIERSKOF_NO_SHEET exactly if there is none. Refused by 15 alone, before any search: an odd count of words or
+   over 512, a zero field that isn't 0, or one group and number twice. There is no output. */
+uint64_t vierskof_sheet_in_force(const uint32_t *entries, size_t words, uint32_t group, uint32_t day);
 
 /*
  * Readers of a record that a call wrote or accepted. They judge nothing; of other words they say something or other, but

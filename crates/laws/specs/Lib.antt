@@ -16,3 +16,5 @@ pub mod Deeper
 pub mod Numbers
 pub mod PartialTable
 pub mod PartialTableLaws
+pub mod InForce
+pub mod InForceLaws

@@ -16,3 +16,5 @@ pub mod Products
 pub mod Listing
 pub mod Worked
 pub mod WorkedInOrder
+pub mod Register
+pub mod WorkedRegister

@@ -4,6 +4,7 @@ use mathlib.Core.List.{List}
 use Prim.Native.Nat.{ℕ, _+_, _*_, _^_}
 use Rattle.model.specs.Required.{Required, oneBit, Asked}
 use Rattle.model.specs.Calls.{Answer, numberOf, writtenOf, afterwards}
+use Rattle.model.specs.Register as register
 use Rattle.required.specs.Answers.{setAfter}
 
 abbrev pub returned : ℕ → ℕ → ℕ
@@ -22,3 +23,7 @@ pub record Writes (a : Answer) (before after : List ℕ) (r : ℕ) : Type 0 wher
 -- A question: 1 for yes, 0 for no.
 abbrev pub said : Asked → ℕ
 said a = returned (a .number) (oneBit (a .yes))
+
+-- The sheet in force: its number, or that of none.
+abbrev pub named : register.InForce → ℕ
+named a = returned (register.numberOf a) (register.valueOf a)

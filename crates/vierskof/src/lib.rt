@@ -2,16 +2,19 @@
 // when it is accepted, and the call's value.
 use answer::Answer;
 use questions::Told;
+use register::InForce;
 use required::Required;
 ghost use Rattle.model.specs.Products.{evaluate, requiredFacts, requiredResidualFacts, isPermitConstant, isDenyConstant, carriesObligation, partialEvaluate, narrowResidual, completeResidual};
 ghost use Rattle.model.specs.Partial.{permitsFirst, sheetOrder};
+ghost use Rattle.model.specs.Register.{sheetInForce};
 ghost use mathlib.Core.Path.{_≡_};
 ghost use lib.ListN.{length};
 ghost use Rattle.answer.specs.Answers.{numberOf as Answer·numberOf, writtenOf};
 ghost use Rattle.required.specs.Answers.{numberOf, countOf};
 ghost use Rattle.questions.specs.Answers.{asked};
+ghost use Rattle.register.specs.Answers.{inForceOf};
 ghost use Rattle.vierskof.specs.Answers.{Requires, Writes, returned};
-ghost use Rattle.vierskof.specs.Answers.{said};
+ghost use Rattle.vierskof.specs.Answers.{said, named};
 
 // The number of the refusal and the words written, as one number.
 fn written(answer: Answer) -> u64
@@ -137,4 +140,23 @@ pub extern "C" fn vierskof_carries_obligation(residual: &[u32]) -> u64
     ensures { λ r. ⌜ r ≡ said (carriesObligation (now (residual .entry))) ⌝ }
 {
     told(questions::carries_obligation(residual))
+}
+
+// The number of the refusal and that of the sheet in force, as one number.
+fn in_force(answer: InForce) -> u64
+    ensures { λ r. ⌜ r ≡ named (inForceOf answer) ⌝ }
+{
+    match answer {
+        InForce::Sheet(number) => number as u64,
+        InForce::NoSheet => register::NO_SHEET as u64,
+        InForce::Refused(number) => (number as u64) * 4294967296,
+    }
+}
+
+// Which sheet of a register is in force for a group on a day, counted from 1900-01-01: its number, or 65,536 for none.
+#[no_mangle]
+pub extern "C" fn vierskof_sheet_in_force(entries: &[u32], group: u32, day: u32) -> u64
+    ensures { λ r. ⌜ r ≡ named (sheetInForce (now (entries .entry)) group day) ⌝ }
+{
+    in_force(register::sheet_in_force(entries, group, day))
 }

@@ -5,13 +5,15 @@ use std::hint::black_box;
 
 use compare::case::{Call, Case};
 use compare::narrow::{Order, narrow, reduce};
-use compare::proved::{Writer, agrees, pair};
+use compare::proved::{Writer, agrees, finds, pair};
+use compare::register::Question;
 use compare::words::convert::{
     known_facts, partial_facts, to_policy, to_residual, to_residual_policy,
 };
 use compare::words::table::Table;
 use compare::words::tree::Record;
 use compare::words::{RECORD_WORDS, read};
+use vierskof::Entry;
 
 use crate::sheets::Sheet;
 use crate::timing::{Timed, beside, by_turns};
@@ -173,6 +175,31 @@ fn by_tables(call: Call, proved: Writer, words: &[u32], tables: [&[u8]; 2]) -> [
     }
     let [mut one, mut other] = tables.map(|table| writing(proved, words, table));
     by_turns([&mut one, &mut other])
+}
+
+/// The proved call on a register of so many entries of four groups, and the same by sorting.
+pub fn in_force(entries: u16) -> [f64; 2] {
+    let entry = |number: u16| Entry {
+        group: (number % 4) as u8,
+        number,
+        day: u32::from(number / 8),
+        withdrawn: number % 16 == 15,
+    };
+    let words: Vec<u32> = (0..entries).flat_map(|at| entry(at).words()).collect();
+    let question = Question {
+        words,
+        group: 0,
+        day: u32::MAX,
+    };
+    assert!(finds(&question), "the register differs from sorting");
+    let mut proved = || {
+        let found = vierskof::in_force(black_box(&question.words), 0, black_box(question.day));
+        black_box(found).expect("accepted");
+    };
+    let mut sorting = || {
+        black_box(black_box(&question).answer()).expect("accepted");
+    };
+    by_turns([&mut proved, &mut sorting])
 }
 
 fn required_facts(sheet: &Sheet) -> Timed {

@@ -7,6 +7,7 @@ use vierskof::{Fact, Presence};
 
 use crate::facts::{self, Bytes};
 use crate::form::Form;
+use crate::register::{self, Words};
 use crate::{guide, numbers};
 
 /// Decides who may read which product, by a policy sheet and the facts about a request.
@@ -56,6 +57,12 @@ Example:
 Example:
   vierskof assemble licence.txt --to binary > licence.bin")]
     Assemble(Assembled),
+    /// Names the sheet that is in force for a group on a day, by a register.
+    #[command(after_help = "\
+Example:
+  echo 01000007 00000064 01000009 000000C8 |
+    vierskof in-force --group 1 --day 1900-05-01")]
+    InForce(Asked),
 }
 
 /// Where words come from.
@@ -121,6 +128,25 @@ pub struct Assembled {
     pub to: Form,
 }
 
+/// Which sheet a register is asked for.
+#[derive(Args, Debug)]
+pub struct Asked {
+    /// The register's file, in hexadecimal or binary words; - is standard input.
+    ///
+    /// An entry is two words: group (8 bits), withdrawn (1), zero (7), sheet number (16); then the effective day, counted from 1900-01-01.
+    #[arg(default_value = "-")]
+    pub file: PathBuf,
+    /// The form of the file; told from its bytes if it is left out.
+    #[arg(long, value_name = "FORM")]
+    pub from: Option<Words>,
+    /// The group, 0 to 255.
+    #[arg(long)]
+    pub group: u8,
+    /// The day: how many days after 1900-01-01, or YYYY-MM-DD.
+    #[arg(long, value_parser = day)]
+    pub day: u32,
+}
+
 /// The facts about a request, in one of three ways.
 #[derive(Args, Debug)]
 pub struct Facts {
@@ -137,6 +163,10 @@ pub struct Facts {
     /// A fact table's bytes in hexadecimal, taken as they are.
     #[arg(long, value_name = "BYTES", conflicts_with = "facts", value_parser = facts::bytes)]
     pub table_hex: Option<Bytes>,
+}
+
+fn day(text: &str) -> Result<u32, String> {
+    register::day(text).map_err(|due| format!("{due} is due"))
 }
 
 fn said(text: &str) -> Result<(Fact, Presence), String> {

@@ -7,9 +7,10 @@ use std::path::Path;
 use vierskof::read::{Record, Sheet};
 use vierskof::{RECORD_WORDS, Refusal, SHEET_WORDS};
 
-use crate::arguments::Input;
+use crate::arguments::{Asked, Input};
 use crate::document::{Document, Kind, is_record};
 use crate::form::{self, Form};
+use crate::register;
 use crate::work::Failure;
 
 /// Bytes of the longest file that is read. A text of the longest record needs far less.
@@ -42,7 +43,25 @@ pub struct Given {
 impl Given {
     /// The words in a file, or on standard input.
     pub fn read(input: &Input, stdin: impl Read) -> Result<Self, Failure> {
-        let file = input.file.as_path();
+        Self::taken(&input.file, stdin, |bytes, name| {
+            Self::of(bytes, input.from, name)
+        })
+    }
+
+    /// The words of a register, which has no text form: what isn't binary is taken for hexadecimal.
+    pub fn register(asked: &Asked, stdin: impl Read) -> Result<Self, Failure> {
+        Self::taken(&asked.file, stdin, |bytes, name| {
+            let text = Form::of(bytes) != Form::Binary;
+            let from = asked.from.map(Form::from);
+            Self::of(bytes, from.or(text.then_some(Form::Hex)), name)
+        })
+    }
+
+    fn taken(
+        file: &Path,
+        stdin: impl Read,
+        of: impl FnOnce(&[u8], &str) -> Result<Self, String>,
+    ) -> Result<Self, Failure> {
         let (name, bytes) = if file == Path::new("-") {
             ("standard input".to_owned(), read(stdin))
         } else {
@@ -50,7 +69,7 @@ impl Given {
         };
         let named = |message| Failure::Usage(format!("{name}: {message}"));
         let bytes = bytes.map_err(named)?;
-        Self::of(&bytes, input.from, &name).map_err(named)
+        of(&bytes, &name).map_err(named)
     }
 
     fn of(bytes: &[u8], from: Option<Form>, name: &str) -> Result<Self, String> {
@@ -75,6 +94,14 @@ impl Given {
                 Failure::Usage(format!("{}: {mistaken}", self.name))
             }
             _ => Failure::Refused(refusal, self.place(refusal, due)),
+        }
+    }
+
+    /// The failure that words are which are no register.
+    pub fn no_register(&self, refusal: Refusal) -> Failure {
+        match &self.mistaken {
+            Some(mistaken) => Failure::Usage(format!("{}: {mistaken}", self.name)),
+            None => Failure::Refused(refusal, Some(register::place(&self.words))),
         }
     }
 

@@ -34,6 +34,13 @@ What a record is
   decision, and why. A pending record holds what is left of the policy, and
   shows which facts it still needs. Both hold the facts that were consulted.
 
+What a register is
+  A register tells which of its numbered sheets is in force for a group on a
+  day: the latest of the group's entries whose effective day is not after that
+  day, on equal days the one with the greater number; a withdrawn entry never
+  is. It has no text form: an entry is two words, group (8 bits), withdrawn
+  (1), zero (7), sheet number (16), and then the day, counted from 1900-01-01.
+
 The text form
   One node a line; what belongs under a node is indented by two spaces; #
   begins a comment. A list has commas and no spaces. Four hexadecimal digits

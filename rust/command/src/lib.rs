@@ -14,5 +14,6 @@ pub mod form;
 pub mod given;
 pub mod guide;
 pub mod numbers;
+pub mod register;
 pub mod text;
 pub mod work;

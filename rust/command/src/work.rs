@@ -7,7 +7,7 @@ use std::io::Read;
 use vierskof::read::{Decision, Record};
 use vierskof::{Presence, RECORD_WORDS, Refusal};
 
-use crate::arguments::{Arguments, Call, Command, Facts, Input, Reduction};
+use crate::arguments::{Arguments, Asked, Call, Command, Facts, Input, Reduction};
 use crate::document::Document;
 use crate::facts;
 use crate::form::Form;
@@ -95,6 +95,7 @@ pub fn run(arguments: &Arguments, stdin: impl Read) -> Result<Done, Failure> {
         Command::Required(input) => required(input, stdin),
         Command::Show(shown) => rewritten(&shown.input, stdin, shown.to),
         Command::Assemble(assembled) => rewritten(&assembled.input, stdin, assembled.to),
+        Command::InForce(asked) => in_force(asked, stdin),
     }
 }
 
@@ -143,6 +144,14 @@ fn required(input: &Input, stdin: impl Read) -> Result<Done, Failure> {
 fn rewritten(input: &Input, stdin: impl Read, to: Form) -> Result<Done, Failure> {
     let given = Given::read(input, stdin)?;
     Ok(Done::plainly(to.write(&judged(&given)?)))
+}
+
+fn in_force(asked: &Asked, stdin: impl Read) -> Result<Done, Failure> {
+    let given = Given::register(asked, stdin)?;
+    let found = vierskof::in_force(&given.words, asked.group, asked.day);
+    let found = found.map_err(|refusal| given.no_register(refusal))?;
+    let number = found.map_or_else(|| "none".to_owned(), |number| number.to_string());
+    Ok(Done::plainly((number + "\n").into_bytes()))
 }
 
 fn judged(given: &Given) -> Result<Document<'_>, Failure> {

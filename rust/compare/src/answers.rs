@@ -5,6 +5,7 @@ use std::fmt::{UpperHex, Write as _};
 use crate::case::{Answer, Call, Case};
 use crate::reference::FactSet;
 use crate::refusal::Refusal;
+use crate::register::Question;
 
 /// Words of a set of facts: sixteen 64-bit numbers, the upper half of each first.
 const SET_WORDS: usize = 32;
@@ -47,6 +48,23 @@ pub fn stored(case: &Case, answer: &Result<Answer, Refusal>) -> Vec<u8> {
     }
     bytes.extend(&case.table);
     for word in case.words.iter().chain(&words) {
+        bytes.extend(word.to_be_bytes());
+    }
+    bytes
+}
+
+/// A question to a register in the same form, under the number after the last call's. The group and the day, four bytes each, stand in the table's place, and
+/// the value, which 16 bits may not hold, is the one answer word.
+pub fn asked(question: &Question) -> Vec<u8> {
+    let returned = question.returned();
+    let number = u16::try_from(returned >> 32).expect("a refusal has a small number");
+    let value = (returned & 0xFFFF_FFFF) as u32;
+    let words = u16::try_from(question.words.len()).expect("a stored number has 16 bits");
+    let call = u16::try_from(Call::ALL.len()).expect("few calls");
+    let head = [call, 0, 8, words, number, 0, 1];
+    let mut bytes: Vec<u8> = head.into_iter().flat_map(u16::to_be_bytes).collect();
+    let given = [question.group, question.day].into_iter();
+    for word in given.chain(question.words.iter().copied()).chain([value]) {
         bytes.extend(word.to_be_bytes());
     }
     bytes

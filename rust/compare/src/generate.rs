@@ -6,5 +6,6 @@ pub mod damage;
 pub mod exhaustive;
 pub mod grow;
 pub mod limits;
+pub mod registers;
 pub mod rng;
 pub mod tables;

@@ -1,7 +1,8 @@
 //! Document 01's calls on words and bytes, answered by the original evaluation core.
 //!
-//! [`words`] is document 01's format, [`reference`] the eleven calls, [`listing`] the listing's
-//! bytes. [`worked`] has document 01's worked sheets as cases, [`generate`] makes cases from a seed;
+//! [`words`] is document 01's format, [`reference`] the calls on sheets and records, [`listing`]
+//! the listing's bytes; [`register`] answers for the register of sheets, which the original lacks.
+//! [`worked`] has document 01's worked sheets as cases, [`generate`] makes cases from a seed;
 //! [`answers`] and [`rows`] write cases with their answers. With the feature `proved`, `proved` compares the proved calls with them.
 
 pub mod answers;
@@ -14,6 +15,7 @@ pub mod products;
 pub mod proved;
 pub mod reference;
 pub mod refusal;
+pub mod register;
 pub mod rows;
 pub mod words;
 pub mod worked;

@@ -6,7 +6,7 @@ use std::{fs, io};
 use clap::{Parser, Subcommand, ValueEnum};
 use compare::case::{Call, Case};
 use compare::generate::rng::Rng;
-use compare::generate::{cases, limits};
+use compare::generate::{cases, limits, registers};
 use compare::{answers, rows, worked};
 
 /// Cases of document 01's calls, and what the original answers to them.
@@ -23,7 +23,7 @@ enum Command {
         #[command(flatten)]
         sample: Sample,
     },
-    /// Stored answers of all eleven calls: cases at the limits, then drawn ones.
+    /// Stored answers of all calls on sheets and records, cases at the limits and then drawn ones; and as many registers as a tenth of these.
     Calls {
         #[command(flatten)]
         sample: Sample,
@@ -39,6 +39,12 @@ enum Command {
     /// Compares the proved calls with the original, and shows the first case in which they differ.
     #[cfg(feature = "proved")]
     Proved {
+        #[command(flatten)]
+        sample: Sample,
+    },
+    /// Compares the proved call on drawn and damaged registers with sorting, and shows the first that differs.
+    #[cfg(feature = "proved")]
+    Registers {
         #[command(flatten)]
         sample: Sample,
     },
@@ -151,7 +157,10 @@ fn main() -> io::Result<()> {
         Command::Calls { sample } => {
             let limits = limits::cases(&mut Rng::new(sample.seed));
             let cases = [limits, sample.cases(&Call::ALL)].concat();
-            sample.write(&answers::file(&sample.command("calls"), &cases))
+            let mut bytes = answers::file(&sample.command("calls"), &cases);
+            let questions = registers::draw(sample.seed, sample.count / 10);
+            questions.for_each(|question| bytes.extend(answers::asked(&question)));
+            sample.write(&bytes)
         }
         Command::Rows { sample, part } => {
             let made_by = format!("{} --part {}", sample.command("rows"), part.name());
@@ -159,6 +168,8 @@ fn main() -> io::Result<()> {
         }
         #[cfg(feature = "proved")]
         Command::Proved { sample } => proved(&sample),
+        #[cfg(feature = "proved")]
+        Command::Registers { sample } => registers(&sample),
     }
 }
 
@@ -190,6 +201,23 @@ fn proved(sample: &Sample) -> io::Result<()> {
     }
     println!(
         "{} cases, seed {}: no difference; {half_known} with a known grant whose condition names an Unknown fact",
+        sample.count, sample.seed
+    );
+    Ok(())
+}
+
+#[cfg(feature = "proved")]
+fn registers(sample: &Sample) -> io::Result<()> {
+    use compare::proved::finds;
+
+    let mut questions = registers::draw(sample.seed, sample.count);
+    if let Some(question) = questions.find(|question| !finds(question)) {
+        return Err(io::Error::other(format!(
+            "differs from sorting: {question:X?}"
+        )));
+    }
+    println!(
+        "{} registers, seed {}: no difference",
         sample.count, sample.seed
     );
     Ok(())

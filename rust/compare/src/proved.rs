@@ -3,6 +3,7 @@
 use crate::case::{Answer, Call, Case};
 use crate::narrow::Order;
 use crate::refusal::Refusal;
+use crate::register::Question;
 
 /// A proved call that takes words, a table and an output.
 pub type Writer = for<'o> fn(&[u32], &[u8], &'o mut [u32]) -> Result<&'o [u32], vierskof::Refusal>;
@@ -35,6 +36,16 @@ pub fn agrees(case: &Case) -> bool {
             writes(case, &expected, vierskof::partial_evaluate_in_order)
         }
         Call::NarrowResidualInOrder => writes(case, &expected, vierskof::narrow_residual_in_order),
+    }
+}
+
+/// Whether the proved call finds the sheet in force that sorting finds.
+pub fn finds(question: &Question) -> bool {
+    let group = u8::try_from(question.group).expect("a group that an entry can have");
+    let found = vierskof::in_force(&question.words, group, question.day);
+    match question.answer() {
+        Ok(number) => found == Ok(number),
+        Err(refusal) => refused(&found, refusal),
     }
 }
 

@@ -1,6 +1,6 @@
 //! The numbered causes for which a call is turned back.
 
-/// A cause of document 01's table; the discriminant is its number.
+/// A cause of document 01's table, or of a request after it; the discriminant is its number.
 #[derive(Clone, Copy, Debug, PartialEq, Eq)]
 #[repr(u8)]
 pub enum Refusal {
@@ -26,10 +26,12 @@ pub enum Refusal {
     Trailing = 10,
     /// Resulting record longer than the output or 16,384 words, or a fact list in it over 4,095.
     Room = 11,
+    /// Words that are no register of sheets.
+    Register = 15,
 }
 
 impl Refusal {
-    /// The number in document 01's table.
+    /// Its number.
     pub const fn number(self) -> u8 {
         self as u8
     }

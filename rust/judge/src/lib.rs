@@ -4,6 +4,7 @@ use std::slice;
 
 use compare::case::{Answer, Call, Case};
 use compare::reference::{FactSet, evaluate};
+use compare::register::Question;
 use compare::words::tree::{Decided, Record};
 use compare::words::{RECORD_WORDS, read};
 
@@ -30,7 +31,9 @@ pub unsafe extern "C" fn judge_answer(
             slice::from_raw_parts_mut(out, room),
         )
     };
-    let call = Call::ALL[call];
+    let Some(&call) = Call::ALL.get(call) else {
+        return registered(words, table);
+    };
     let case = Case {
         call,
         table: table.to_vec(),
@@ -88,6 +91,18 @@ fn clause(record: &[u32]) -> Option<Decided> {
         Ok(Record::Resolved { decided, .. }) => Some(decided.without_facts()),
         _ => None,
     }
+}
+
+/// A register's answer: the group and the day stand in the table's place, four bytes each, and are 0 where it ends before them.
+fn registered(words: &[u32], table: &[u8]) -> u64 {
+    let (numbers, _) = table.as_chunks();
+    let mut numbers = numbers.iter().copied().map(u32::from_be_bytes);
+    let question = Question {
+        words: words.to_vec(),
+        group: numbers.next().unwrap_or_default(),
+        day: numbers.next().unwrap_or_default(),
+    };
+    question.returned()
 }
 
 fn put_set(set: &FactSet, out: &mut [u32]) {

@@ -78,3 +78,13 @@ asks! {
     is_deny_constant = vierskof_is_deny_constant;
     carries_obligation = vierskof_carries_obligation;
 }
+
+unsafe extern "C" {
+    fn vierskof_sheet_in_force(entries: *const u32, words: usize, group: u32, day: u32) -> u64;
+}
+
+/// The register's call. The value is a sheet's number, or the number after the last for none.
+pub fn sheet_in_force(entries: &[u32], group: u32, day: u32) -> u64 {
+    // SAFETY: as for the calls that write.
+    unsafe { vierskof_sheet_in_force(entries.as_ptr(), entries.len(), group, day) }
+}

@@ -1,4 +1,4 @@
-//! The eleven calls.
+//! The calls on sheets and records.
 
 use crate::{FactSet, Refusal, c};
 
@@ -8,7 +8,7 @@ use crate::{FactSet, Refusal, c};
 ///
 /// # Errors
 ///
-/// Every [`Refusal`] may come. [`Refusal::Room`] doesn't with an output of [`room`](crate::room) words.
+/// [`Refusal::Length`] to [`Refusal::Room`]. The last doesn't come with an output of [`room`](crate::room) words.
 ///
 /// # Examples
 ///
@@ -37,7 +37,7 @@ pub fn evaluate<'o>(sheet: &[u32], facts: &[u8], out: &'o mut [u32]) -> Result<&
 ///
 /// # Errors
 ///
-/// Every [`Refusal`] but [`Refusal::UnknownFact`].
+/// [`Refusal::Length`] to [`Refusal::Room`], but not [`Refusal::UnknownFact`].
 ///
 /// # Examples
 ///
@@ -65,7 +65,7 @@ pub fn partial_evaluate<'o>(
 ///
 /// # Errors
 ///
-/// Every [`Refusal`] but [`Refusal::UnknownFact`].
+/// [`Refusal::Length`] to [`Refusal::Room`], but not [`Refusal::UnknownFact`].
 ///
 /// # Examples
 ///
@@ -156,7 +156,7 @@ pub fn narrow_residual_in_order<'o>(
 ///
 /// # Errors
 ///
-/// Every [`Refusal`] may come.
+/// [`Refusal::Length`] to [`Refusal::Room`].
 ///
 /// # Examples
 ///
@@ -279,7 +279,7 @@ fn says(returned: u64) -> Result<bool, Refusal> {
 }
 
 /// The lower half, unless the upper one is the number of a refusal.
-fn value(returned: u64) -> Result<u32, Refusal> {
+pub(crate) fn value(returned: u64) -> Result<u32, Refusal> {
     match (returned >> 32) as u32 {
         0 => Ok((returned & 0xFFFF_FFFF) as u32),
         // No call returns a number past the last one: that is proved, so what stands here never shows.

@@ -8,7 +8,8 @@
 //! The crate allocates nothing, and its callers need no unsafe code. Sheets and records are 32-bit
 //! words, fact tables are bytes, and each call writes its record into an output that its caller
 //! lends. [`build`] makes a sheet's words, [`read`] gives words back as typed values, and
-//! [`FactTable`] holds what is known.
+//! [`FactTable`] holds what is known. [`in_force`] tells which sheet of a register rules for a group
+//! on a day.
 //!
 //! No call blocks, allocates, keeps state or panics, and none needs more than 256 KiB of stack: on a
 //! thread with less, a deep or long sheet may overflow it. Calls on separate outputs may run at the
@@ -114,6 +115,7 @@ mod facts;
 mod numbers;
 mod products;
 mod refusal;
+mod register;
 mod shape;
 
 pub mod build;
@@ -128,6 +130,7 @@ pub use facts::{FactSet, FactSetIter, FactTable, Presence};
 pub use numbers::{Fact, Label, Obligation, OutOfRange, Reason};
 pub use products::Products;
 pub use refusal::Refusal;
+pub use register::{Entry, in_force};
 pub use shape::Shape;
 
 /// Words of the longest sheet.
@@ -140,6 +143,8 @@ pub const TABLE_BYTES: usize = 256;
 pub const LEVELS: usize = 32;
 /// The most arms, facts or consulted entries of one list.
 pub const LIST: usize = 4_095;
+/// Words of the longest register, two an entry.
+pub const REGISTER_WORDS: usize = 512;
 
 /// An output that is room enough for every call on a sheet of so many words and on the records that come of it.
 ///

@@ -9,7 +9,7 @@ use crate::OutOfRange;
 ///
 /// The discriminant is the cause's number. Where there are several causes, the call names the first
 /// that its reading meets: the length of the words, then the table, then the words from the first,
-/// then what follows them, then the room.
+/// then what follows them, then the room. A register has one cause alone.
 ///
 /// ```
 /// use vierskof::Refusal;
@@ -46,6 +46,8 @@ pub enum Refusal {
     WordsAfterTree = 10,
     /// The resulting record is longer than the output or than 16,384 words, or a fact list in it has over 4,095 facts.
     Room = 11,
+    /// The words are no register of sheets: an odd count of them or over 512, a field that must be 0 and isn't, or one group and number twice.
+    Register = 15,
 }
 
 impl Refusal {
@@ -62,9 +64,10 @@ impl Refusal {
         Self::RepeatedObligation,
         Self::WordsAfterTree,
         Self::Room,
+        Self::Register,
     ];
 
-    /// The number, 1 to 11.
+    /// The number: 1 to 11, or 15.
     #[must_use]
     pub const fn number(self) -> u32 {
         self as u32
@@ -83,6 +86,7 @@ impl Refusal {
             Self::RepeatedObligation => "an obligation is repeated in one list",
             Self::WordsAfterTree => "there are words after the tree",
             Self::Room => "the resulting record has no room in the output or exceeds its limits",
+            Self::Register => "the words are no register of sheets",
         }
     }
 }
@@ -107,6 +111,6 @@ impl TryFrom<u32> for Refusal {
     fn try_from(number: u32) -> Result<Self, OutOfRange> {
         let mut all = Self::ALL.iter().copied();
         all.find(|refusal| refusal.number() == number)
-            .ok_or(OutOfRange::new("a refusal is a number from 1 to 11"))
+            .ok_or(OutOfRange::new("a refusal is a number from 1 to 11, or 15"))
     }
 }

@@ -10,8 +10,8 @@ use command::guide::ROAD;
 use super::{answer, folder};
 
 /// The subcommands, in an order in which each example finds the files that an earlier one wrote.
-const SUBCOMMANDS: [&str; 7] = [
-    "evaluate", "reduce", "narrow", "complete", "required", "show", "assemble",
+const SUBCOMMANDS: [&str; 8] = [
+    "evaluate", "reduce", "narrow", "complete", "required", "show", "assemble", "in-force",
 ];
 
 /// Runs commands as they would be pasted into a shell, with this build's command on the path.
@@ -86,6 +86,7 @@ fn help_tells_of_each_subcommand_and_status() {
         "0 for a permit, 3 for a deny and 4\n",
         "What a sheet is",
         "What a record is",
+        "What a register is",
     ] {
         assert!(help.contains(said), "{said}");
     }

@@ -5,6 +5,7 @@ mod faults;
 mod forms;
 mod help;
 mod readme;
+mod registers;
 mod run;
 mod show;
 mod statuses;

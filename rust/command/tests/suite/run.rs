@@ -172,10 +172,10 @@ chmod +x target/release/vierskof",
         .lines()
         .filter(|line| line.starts_with("dpkg-query"))
         .collect();
-    assert!(
-        asked.iter().all(|line| line.ends_with("librust-clap-dev")),
-        "{called}"
-    );
+    let needed = ["librust-clap-dev", "librust-time-dev"];
+    assert_eq!(asked.len(), 2 * needed.len(), "{called}");
+    let is_needed = |line: &&str| needed.iter().any(|package| line.ends_with(package));
+    assert!(asked.iter().all(is_needed), "{called}");
 }
 
 #[test]

@@ -12,6 +12,8 @@ mod original;
 mod proved;
 mod readings;
 #[cfg(feature = "proved")]
+mod registers;
+#[cfg(feature = "proved")]
 mod round_trip;
 #[cfg(feature = "proved")]
 mod sitting;

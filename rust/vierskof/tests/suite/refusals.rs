@@ -4,8 +4,8 @@ use std::collections::BTreeSet;
 
 use vierskof::read::{Record, Sheet};
 use vierskof::{
-    Refusal, complete_residual, evaluate, narrow_residual, narrow_residual_in_order,
-    partial_evaluate, partial_evaluate_in_order,
+    Entry, REGISTER_WORDS, Refusal, complete_residual, evaluate, in_force, narrow_residual,
+    narrow_residual_in_order, partial_evaluate, partial_evaluate_in_order,
 };
 
 /// A Deny node.
@@ -134,14 +134,41 @@ fn room_is_11() {
     assert_eq!(out[4..], [9, 9]);
 }
 
+/// A register at its limit and past it, whatever group is asked for.
+#[test]
+fn no_register_is_15() {
+    let entry = |number| Entry {
+        group: 1,
+        number,
+        day: u32::from(number),
+        withdrawn: false,
+    };
+    let most: Vec<u32> = (0..256).flat_map(|at| entry(at).words()).collect();
+    assert_eq!(most.len(), REGISTER_WORDS);
+    assert_eq!(in_force(&most, 1, u32::MAX), Ok(Some(255)));
+    let refused = [
+        [most.as_slice(), &[0]].concat(),
+        [most.as_slice(), &entry(256).words()].concat(),
+        [&most[..510], &entry(7).words()].concat(),
+        [&most[..510], &[0x0101_0100, 0]].concat(),
+        most[..1].to_vec(),
+    ];
+    for words in refused {
+        for group in [0, 1] {
+            assert_eq!(in_force(&words, group, 0), Err(Refusal::Register));
+        }
+    }
+}
+
 #[test]
 fn numbers_and_refusals_belong_together() {
-    for (number, &refusal) in (1..).zip(Refusal::ALL) {
+    for (number, &refusal) in (1..=11).chain([15]).zip(Refusal::ALL) {
         assert_eq!(refusal.number(), number);
         assert_eq!(u32::from(refusal), number);
         assert_eq!(Refusal::try_from(number), Ok(refusal));
     }
-    for number in [0, 12, u32::MAX] {
+    assert_eq!(Refusal::ALL.len(), 12);
+    for number in [0, 12, 13, 14, 16, u32::MAX] {
         assert!(Refusal::try_from(number).is_err());
     }
     let sentences: BTreeSet<String> = Refusal::ALL.iter().map(ToString::to_string).collect();

@@ -1,4 +1,5 @@
-// The calls by the numbers that the stored answers give them, on heap blocks of exact length, so that a checker of memory sees every access past an end.
+// The calls over words by the numbers that the stored answers give them, and the join of tables, on heap blocks of exact length, so that a checker of memory
+// sees every access past an end.
 #ifndef CALLS_H
 #define CALLS_H
 
@@ -24,6 +25,9 @@ enum call {
     CALLS
 };
 
+// An input of the fuzzer may be a join too: its first table stands where a table does, its second where words do.
+enum { JOIN_TABLES = CALLS, INPUTS };
+
 // An input of the fuzzer begins with call, room and table bytes, as a stored answer does.
 enum { LEAD = 6 };
 
@@ -38,7 +42,9 @@ struct given {
     size_t room;
 };
 
-static inline int writes(enum call call) { return call <= COMPLETE_RESIDUAL || call >= PARTIAL_EVALUATE_IN_ORDER; }
+static inline int writes(enum call call) {
+    return call <= COMPLETE_RESIDUAL || call == PARTIAL_EVALUATE_IN_ORDER || call == NARROW_RESIDUAL_IN_ORDER;
+}
 
 static inline int counts(enum call call) { return call == REQUIRED_FACTS || call == REQUIRED_RESIDUAL_FACTS; }
 
@@ -50,6 +56,19 @@ static inline int reads_sheet(enum call call) {
 static inline size_t out_bytes(const struct given *given) {
     if (counts(given->call)) return VIERSKOF_SET_NUMBERS * sizeof(uint64_t);
     return writes(given->call) ? given->room * sizeof(uint32_t) : 0;
+}
+
+// What a join is given.
+struct join {
+    uint8_t *one;
+    size_t one_bytes;
+    uint8_t *two;
+    size_t two_bytes;
+    size_t room;
+};
+
+static inline uint64_t joined(const struct join *join, uint8_t *out) {
+    return vierskof_join_tables(join->one, join->one_bytes, join->two, join->two_bytes, out, join->room);
 }
 
 // A block of exactly this length. One of no bytes is a pointer too.

@@ -1,5 +1,5 @@
-// The fuzzer's harness over the C interface. An input is a call, a room and a table's length, 16 bits each, the table and the words, all most significant
-// byte first. Every claim holds of every input; one that doesn't ends the run.
+// The fuzzer's harness over the C interface. An input is a call, a room and a table's length, 16 bits each, the table and the words, or a second table,
+// all most significant byte first. Every claim holds of every input; one that doesn't ends the run.
 #include <stdio.h>
 
 #include "calls.h"
@@ -314,6 +314,54 @@ static void in_force(struct given given, const struct answer *answer) {
     free(turned);
 }
 
+// ---- joins
+
+// The comparison's own join, where it is linked.
+__attribute__((weak)) uint64_t judge_join(const uint8_t *one, size_t one_bytes, const uint8_t *two, size_t two_bytes, uint8_t *out, size_t room);
+
+static uint8_t *bytes_before(size_t room) {
+    uint8_t *out = block(room);
+    for (size_t i = 0; i < room; i++) out[i] = (uint8_t)marked(FIRST, i);
+    return out;
+}
+
+// One join. It changes neither table and no byte past its result, and answers as the comparison's own does; the output is the caller's to free.
+static uint64_t join_once(struct join given, uint8_t **out) {
+    struct join own = {copy(given.one, given.one_bytes), given.one_bytes, copy(given.two, given.two_bytes), given.two_bytes, given.room};
+    *out = bytes_before(given.room);
+    uint64_t told = joined(&own, *out);
+    uint32_t number = vierskof_refusal(told), value = vierskof_value(told);
+    HOLDS(number == 0 || number == VIERSKOF_REFUSED_TABLE_LENGTH || number == VIERSKOF_REFUSED_TABLE_FIELD || number == VIERSKOF_REFUSED_CLASH || number == VIERSKOF_REFUSED_ROOM);
+    HOLDS(number == 0 || value == 0);
+    HOLDS(number != 0 || value == (given.one_bytes > given.two_bytes ? given.one_bytes : given.two_bytes));
+    for (size_t i = value; i < given.room; i++) HOLDS((*out)[i] == (uint8_t)marked(FIRST, i));
+    HOLDS(same(own.one, given.one, given.one_bytes) && same(own.two, given.two, given.two_bytes));
+    free(own.one);
+    free(own.two);
+    if (judge_join) {
+        uint8_t *expected = bytes_before(given.room);
+        HOLDS(judge_join(given.one, given.one_bytes, given.two, given.two_bytes, expected, given.room) == told);
+        HOLDS(same(expected, *out, given.room));
+        free(expected);
+    }
+    return told;
+}
+
+// The order of the two makes no difference; what was joined adds nothing to the longer table's join with it.
+static void hold_join(struct join given) {
+    struct join turned = {given.two, given.two_bytes, given.one, given.one_bytes, given.room};
+    uint8_t *out, *other;
+    uint64_t told = join_once(given, &out);
+    HOLDS(join_once(turned, &other) == told && same(out, other, given.room));
+    free(other);
+    if (vierskof_refusal(told) == 0) {
+        struct join again = {out, vierskof_value(told), given.one, given.one_bytes, given.room};
+        HOLDS(join_once(again, &other) == told && same(out, other, given.room));
+        free(other);
+    }
+    free(out);
+}
+
 // ---- inputs
 
 // Whether the table is one that a reduction takes.
@@ -347,7 +395,11 @@ static void hold(struct given given) {
 int LLVMFuzzerTestOneInput(const uint8_t *data, size_t size) {
     if (size < LEAD) return 0;
     size_t bytes = table_bytes(data, size), words = LEAD + bytes;
-    struct given given = {number_at(data, 2) % CALLS, NULL, (size - words) / 4, NULL, bytes, number_at(data + 2, 2)};
+    if (number_at(data, 2) % INPUTS == JOIN_TABLES) {
+        hold_join((struct join){(uint8_t *)data + LEAD, bytes, (uint8_t *)data + words, size - words, number_at(data + 2, 2)});
+        return 0;
+    }
+    struct given given = {number_at(data, 2) % INPUTS, NULL, (size - words) / 4, NULL, bytes, number_at(data + 2, 2)};
     given.table = copy(data + LEAD, bytes);
     given.words = words_at(data + words, given.count);
     hold(given);

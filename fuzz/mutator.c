@@ -168,7 +168,7 @@ static void change_register(struct input *input, size_t bytes, size_t words, siz
 
 // Another call. A sheet becomes a record by a lead before it, and such a record a sheet again.
 static void change_call(struct input *input, size_t words, enum call call) {
-    enum call other = draw(input, CALLS);
+    enum call other = draw(input, INPUTS);
     int lead = input->size >= words + 4 && number_at(input->data + words, 4) == 0xF0000000;
     put(input->data, other, 2);
     if (reads_sheet(call) && !reads_sheet(other)) insert(input, words, 0xF0000000);
@@ -190,7 +190,7 @@ size_t LLVMFuzzerCustomMutator(uint8_t *data, size_t size, size_t max, unsigned 
     struct input input = {data, size, max, seed};
     if (size < LEAD || draw(&input, 4) == 0) return LLVMFuzzerMutate(data, size, max);
     size_t bytes = table_bytes(data, size), words = LEAD + bytes, count = (size - words) / 4;
-    enum call call = number_at(data, 2) % CALLS;
+    enum call call = number_at(data, 2) % INPUTS;
     uint32_t change = draw(&input, 8);
     if (call == SHEET_IN_FORCE && change) {
         change_register(&input, bytes, words, count);

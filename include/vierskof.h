@@ -6,7 +6,7 @@
  * it is accepted, and the call's value below. A refused call leaves the output as it was, and its value
  * is 0.
  *
- * An output, words or set, overlaps no input: a record that is written over its own input is wrong, and nothing tells.
+ * An output, words, bytes or set, overlaps no input: a record that is written over its own input is wrong, and nothing tells.
  * Inputs may overlap each other.
  *
  * No call allocates, blocks, keeps state or needs more than 256 KiB of stack, so calls on separate outputs may run at the
@@ -49,7 +49,8 @@ enum {
 #define VIERSKOF_ROOM(words) (3 * (size_t)(words) + 513)
 
 /* Why a call is turned back. Of several causes a call names the first in this order: 1, 2, then 3 and 4 from fact 0 on,
-   then 5 to 9 from the first word on, then 10, then 11. A register has 15 alone. Later versions may have further numbers. */
+   then 5 to 9 from the first word on, then 10, then 11. A register has 15 alone. A join has an order of its own: 2 in either
+   table, 3 in either, 14, then 11. Later versions may have further numbers. */
 enum vierskof_cause {
     VIERSKOF_ACCEPTED = 0,
     VIERSKOF_REFUSED_LENGTH = 1,              /* the sheet or record has no word, or too many */
@@ -62,7 +63,8 @@ enum vierskof_cause {
     VIERSKOF_REFUSED_FIELD = 8,               /* a field holds a number that it may not hold */
     VIERSKOF_REFUSED_REPEATED_OBLIGATION = 9, /* an obligation is repeated in one list */
     VIERSKOF_REFUSED_WORDS_AFTER_TREE = 10,   /* there are words after the tree */
-    VIERSKOF_REFUSED_ROOM = 11,               /* the resulting record has no room in the output, or exceeds a limit */
+    VIERSKOF_REFUSED_ROOM = 11,               /* the result has no room in the output, or exceeds a limit */
+    VIERSKOF_REFUSED_CLASH = 14,              /* a fact is Present in one of two joined tables and Absent in the other */
     VIERSKOF_REFUSED_REGISTER = 15            /* the words are no register of sheets */
 };
 
@@ -113,6 +115,12 @@ uint64_t vierskof_carries_obligation(const uint32_t *record, size_t words);
    sheet number, or VIERSKOF_NO_SHEET exactly if there is none. Refused by 15 alone, before any search: an odd count of words or
    over 512, a zero field that isn't 0, or one group and number twice. There is no output. */
 uint64_t vierskof_sheet_in_force(const uint32_t *entries, size_t words, uint32_t group, uint32_t day);
+
+/* Joins two tables, which may leave facts open: Unknown yields to the other table's reading, equal readings stay, and Present
+   against Absent is refused. Past its end a table reads Absent. Value: the bytes written, as many as the longer table has.
+   `out` overlaps neither table; VIERSKOF_TABLE_BYTES are room enough. */
+uint64_t vierskof_join_tables(const uint8_t *one, size_t one_bytes, const uint8_t *two, size_t two_bytes,
+                              uint8_t *VIERSKOF_RESTRICT out, size_t room);
 
 /*
  * Readers of a record that a call wrote or accepted. They judge nothing; of other words they say something or other, but

@@ -13,8 +13,8 @@ use lib.Seq.{drop-cons}
 use borrow.Author.Tests.{ne-eqb}
 use Rattle.model.specs.Fields.{split}
 use Rattle.model.specs.Facts.{TableKind, partialFacts, knownFacts, tableFields, fieldFault, orFault, firstFault}
+use Rattle.laws.specs.UnpackedLaws.{length-fields}
 use Rattle.facts.specs.Answers.{noFault}
-use Rattle.facts.proofs.Fields.{length-fields}
 
 -- ---- of two faults the first
 or-assoc : (a b c : Option ℕ) → orFault (orFault a b) c ≡ orFault a (orFault b c)
@@ -68,7 +68,7 @@ each-byte knownFacts = refl
 pub marks-say : (k : TableKind) (b : ℕ) → b < 256 → eqb (marksOf k b) 0 ≡ noFault (firstFault k (split 2 4 b))
 marks-say k b h = same-bool (eqb (marksOf k b) 0) (noFault (firstFault k (split 2 4 b))) (of-each (marksRight k) 256 (each-byte k) b h)
 
-or-zero : (a b : ℕ) → eqb (bitOr a b) 0 ≡ (eqb a 0 && eqb b 0)
+pub or-zero : (a b : ℕ) → eqb (bitOr a b) 0 ≡ (eqb a 0 && eqb b 0)
 or-zero zero b = refl
 or-zero (suc a) b = rw eqb·suc-zero (ne-eqb (bitOr (suc a) b) 0 (λ e. omega (arith, or-add-and (suc a) b, and-le-r (suc a) b)))
 

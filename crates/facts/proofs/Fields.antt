@@ -24,8 +24,3 @@ field-by-shift bs f h = split-shift 2 3 (f % 4) (getD bs (f / 4) 0) h (omega ari
 
 pub field-past-end : (bs : List ℕ) (f : ℕ) → length bs ≤ f / 4 → getD (tableFields bs) f 0 ≡ 0
 field-past-end bs f h = field-at bs f ∙ ap (λ b. getD (split 2 4 b) (f % 4) 0) (List·getD-eq-default bs 0 h) ∙ split-none 2 4 (f % 4)
-
--- Four fields a byte.
-pub length-fields : (bs : List ℕ) → length (tableFields bs) ≡ 4 * length bs
-length-fields [] = refl
-length-fields (b ∷ bs) = omega (arith, length-fields bs)

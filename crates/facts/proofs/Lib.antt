@@ -1,3 +1,3 @@
 -- Laws that several proofs cite.
 mod Fields
-mod Faults
+pub mod Faults

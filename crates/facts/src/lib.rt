@@ -142,12 +142,19 @@ fn first_fault(facts: &[u8], kind: TableKind) -> TableFault
     TableFault::Faultless
 }
 
-// A mark in each field of a byte that is at fault: a 3 has both bits, and in a known table the upper bit is enough.
+// A mark in each field of a byte that is 3: such a field has both bits.
+pub fn marks_of_three(byte: u8) -> u8
+    ensures { λ r. ⌜ eqb r 0 ≡ noFault (firstFault partialFacts (split 2 4 byte)) ⌝ }
+{
+    byte & (byte / 2) & 0b0101_0101
+}
+
+// A mark in each field of a byte that is at fault: a 3, and in a known table whatever has the upper bit.
 fn marks(byte: u8, kind: TableKind) -> u8
     ensures { λ r. ⌜ eqb r 0 ≡ noFault (firstFault (kindOf kind) (split 2 4 byte)) ⌝ }
 {
     match kind {
-        TableKind::Partial => byte & (byte / 2) & 0b0101_0101,
+        TableKind::Partial => marks_of_three(byte),
         TableKind::Known => byte & 0b1010_1010,
     }
 }

@@ -18,6 +18,17 @@ padded zero vs = []
 padded (suc n) [] = 0 ∷ padded n []
 padded (suc n) (v ∷ vs) = v ∷ padded n vs
 
+-- The fields of words of n fields each, one word after the other.
+abbrev pub unpacked : ℕ → ℕ → List ℕ → List ℕ
+unpacked width n [] = []
+unpacked width n (w ∷ ws) = split width n w ++ unpacked width n ws
+
+-- Two lists field by field, to the end of the shorter.
+abbrev pub fieldwise : (ℕ → ℕ → ℕ) → List ℕ → List ℕ → List ℕ
+fieldwise f [] qs = []
+fieldwise f (p ∷ ps) [] = []
+fieldwise f (p ∷ ps) (q ∷ qs) = f p q ∷ fieldwise f ps qs
+
 -- Each value fits the width.
 abbrev pub Narrow : ℕ → List ℕ → Type 0
 Narrow width [] = Unit {0}

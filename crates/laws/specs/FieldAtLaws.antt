@@ -17,7 +17,7 @@ use Rattle.laws.specs.FieldLaws.{padded-none, narrow-drop, joined-small,
 use Rattle.laws.specs.ReadForm.{Named}
 
 -- ---- the fields of a word, each by its place
-digits-high : (width n w : ℕ) → w < 2 ^ (width * suc n) → w / 2 ^ (width * n) < 2 ^ width
+pub digits-high : (width n w : ℕ) → w < 2 ^ (width * suc n) → w / 2 ^ (width * n) < 2 ^ width
 digits-high width n w h =
     let e : 2 ^ (width * suc n) ≡ 2 ^ width * 2 ^ (width * n) = ap (λ x. 2 ^ x) (mul-suc width n ∙ add-comm (width * n) width) ∙ pow-add 2 width (width * n) in
     let k : w < 2 ^ width * 2 ^ (width * n) = rw e at h in

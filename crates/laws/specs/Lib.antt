@@ -18,3 +18,7 @@ pub mod PartialTable
 pub mod PartialTableLaws
 pub mod InForce
 pub mod InForceLaws
+pub mod UnpackedLaws
+pub mod BitwiseLaws
+pub mod JoinLaws
+pub mod JoinCalls

@@ -18,3 +18,5 @@ pub mod Worked
 pub mod WorkedInOrder
 pub mod Register
 pub mod WorkedRegister
+pub mod Join
+pub mod WorkedJoin

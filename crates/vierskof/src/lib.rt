@@ -7,6 +7,7 @@ use required::Required;
 ghost use Rattle.model.specs.Products.{evaluate, requiredFacts, requiredResidualFacts, isPermitConstant, isDenyConstant, carriesObligation, partialEvaluate, narrowResidual, completeResidual};
 ghost use Rattle.model.specs.Partial.{permitsFirst, sheetOrder};
 ghost use Rattle.model.specs.Register.{sheetInForce};
+ghost use Rattle.model.specs.Join.{joinTables};
 ghost use mathlib.Core.Path.{_≡_};
 ghost use lib.ListN.{length};
 ghost use Rattle.answer.specs.Answers.{numberOf as Answer·numberOf, writtenOf};
@@ -16,7 +17,7 @@ ghost use Rattle.register.specs.Answers.{inForceOf};
 ghost use Rattle.vierskof.specs.Answers.{Requires, Writes, returned};
 ghost use Rattle.vierskof.specs.Answers.{said, named};
 
-// The number of the refusal and the words written, as one number.
+// The number of the refusal and the words or bytes written, as one number.
 fn written(answer: Answer) -> u64
     ensures { λ r. ⌜ r ≡ returned (Answer·numberOf answer) (writtenOf answer) ⌝ }
 {
@@ -159,4 +160,12 @@ pub extern "C" fn vierskof_sheet_in_force(entries: &[u32], group: u32, day: u32)
     ensures { λ r. ⌜ r ≡ named (sheetInForce (now (entries .entry)) group day) ⌝ }
 {
     in_force(register::sheet_in_force(entries, group, day))
+}
+
+// Joins two tables, and writes the table that results.
+#[no_mangle]
+pub extern "C" fn vierskof_join_tables(one: &[u8], two: &[u8], out: &mut [u8]) -> u64
+    ensures { λ r. ⌜ Writes (joinTables (now (one .entry)) (now (two .entry)) (length (now (out .entry)))) (now (out .entry)) (now (out .exit)) r ⌝ }
+{
+    written(join::join_tables(one, two, out))
 }

@@ -7,6 +7,7 @@
 //! table of 256 bytes.
 
 mod calls;
+mod join;
 mod sheets;
 mod timing;
 
@@ -29,6 +30,7 @@ fn main() {
     by_order();
     by_table();
     registers();
+    joins();
     growth("words", &sheets::lengths());
     growth("levels", &sheets::depths());
 }
@@ -106,6 +108,25 @@ fn registers() {
         println!(
             "{entries:>24} {proved:>10.0} {sorting:>10.0} {:>7.3}",
             proved / sorting
+        );
+    }
+}
+
+/// The original has no join: plain Rust loops over the same masks stand beside it.
+fn joins() {
+    println!(
+        "\nnanoseconds a join of two tables; for {TABLE_BYTES} bytes the bars are 100 ns, and 2 for the ratio\n"
+    );
+    println!(
+        "{:24} {:>6} {:>10} {:>10} {:>7}",
+        "call", "bytes", "proved", "plain", "ratio"
+    );
+    for bytes in [1, 16, TABLE_BYTES] {
+        let [proved, plain] = join::timed(bytes);
+        println!(
+            "{:24} {bytes:>6} {proved:>10.1} {plain:>10.1} {:>7.2}",
+            "join_tables",
+            proved / plain
         );
     }
 }

@@ -5,7 +5,7 @@ use std::path::PathBuf;
 use clap::{Args, Parser, Subcommand};
 use vierskof::{Fact, Presence};
 
-use crate::facts::{self, Bytes};
+use crate::facts::{self, Bytes, TableForm};
 use crate::form::Form;
 use crate::register::{self, Words};
 use crate::{guide, numbers};
@@ -63,6 +63,11 @@ Example:
   echo 01000007 00000064 01000009 000000C8 |
     vierskof in-force --group 1 --day 1900-05-01")]
     InForce(Asked),
+    /// Joins two fact tables of one request to one of what both know.
+    #[command(after_help = "\
+Example:
+  vierskof join --hex AAA2AA AAAA2A --to facts")]
+    Join(Join),
 }
 
 /// Where words come from.
@@ -145,6 +150,23 @@ pub struct Asked {
     /// The day: how many days after 1900-01-01, or YYYY-MM-DD.
     #[arg(long, value_parser = day)]
     pub day: u32,
+}
+
+/// Two fact tables.
+#[derive(Args, Debug)]
+pub struct Join {
+    /// A file with one fact table, its bytes taken as they are.
+    ///
+    /// Unknown yields to the other table's reading; present in one and absent in the other is refused. A fact past a table's end is absent.
+    pub one: PathBuf,
+    /// A file with the other.
+    pub two: PathBuf,
+    /// Takes ONE and TWO for the tables' bytes themselves, in hexadecimal.
+    #[arg(long)]
+    pub hex: bool,
+    /// The form of the table that is written.
+    #[arg(long, value_name = "FORM", default_value = "hex")]
+    pub to: TableForm,
 }
 
 /// The facts about a request, in one of three ways.

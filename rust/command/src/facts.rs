@@ -1,7 +1,10 @@
 //! Fact tables from what is said at the command line.
 
 use std::collections::BTreeMap;
+use std::fmt::Write as _;
+use std::iter;
 
+use clap::ValueEnum;
 use vierskof::{Fact, FactTable, Presence, Refusal};
 
 use crate::numbers;
@@ -9,6 +12,49 @@ use crate::numbers;
 /// A table's bytes, typed as hexadecimal digits.
 #[derive(Clone, Debug, PartialEq, Eq)]
 pub struct Bytes(pub Vec<u8>);
+
+/// How a fact table is written.
+#[derive(Clone, Copy, Debug, PartialEq, Eq, ValueEnum)]
+pub enum TableForm {
+    /// Two hexadecimal digits a byte, as --table-hex takes them.
+    Hex,
+    /// The bytes themselves, as --table takes them.
+    Binary,
+    /// A line for each fact that isn't absent, as in 5=present.
+    Facts,
+}
+
+impl TableForm {
+    /// A table without a 3 in this form.
+    pub fn write(self, table: &[u8]) -> Vec<u8> {
+        let mut text = String::new();
+        match self {
+            Self::Binary => return table.to_vec(),
+            Self::Hex => {
+                for byte in table {
+                    let _ = write!(text, "{byte:02X}");
+                }
+                text.push('\n');
+            }
+            Self::Facts => {
+                for (fact, field) in fields(table).enumerate() {
+                    let presence = [Presence::Absent, Presence::Present, Presence::Unknown];
+                    let presence = presence[usize::from(field.min(2))];
+                    if presence != Presence::Absent {
+                        let _ = writeln!(text, "{fact}={presence}");
+                    }
+                }
+            }
+        }
+        text.into_bytes()
+    }
+}
+
+/// The fields of a table, from fact 0 on.
+fn fields(table: &[u8]) -> impl Iterator<Item = u8> {
+    let fields = |byte: &u8| [byte >> 6, byte >> 4 & 3, byte >> 2 & 3, byte & 3];
+    table.iter().flat_map(fields)
+}
 
 /// The table of the facts that are said; a fact that is not said reads as `rest`.
 pub fn table(said: &[(Fact, Presence)], rest: Presence) -> Result<FactTable, String> {
@@ -37,9 +83,15 @@ pub fn faulty(table: &[u8], refusal: Refusal) -> Option<usize> {
         Refusal::UnknownFact => 2,
         _ => return None,
     };
-    let fields = |byte: &u8| [byte >> 6, byte >> 4 & 3, byte >> 2 & 3, byte & 3];
-    let mut fields = table.iter().flat_map(fields);
-    fields.position(|found| found == field)
+    fields(table).position(|found| found == field)
+}
+
+/// The first fact that is Present in one of two tables and Absent in the other, past an end too.
+pub fn clash(one: &[u8], two: &[u8]) -> Option<usize> {
+    let facts = 0..4 * one.len().max(two.len());
+    let readings = |table| fields(table).chain(iter::repeat(0));
+    let mut pairs = facts.zip(readings(one).zip(readings(two)));
+    pairs.find_map(|(fact, (one, two))| (one < 2 && two < 2 && one != two).then_some(fact))
 }
 
 /// Bytes of two hexadecimal digits each; white space between them may be left out.

@@ -1,6 +1,6 @@
 //! What `--help` says beyond the options.
 
-/// The road over three stations and one sitting, as they are pasted into a shell.
+/// The road from two relays over three stations, and one sitting, as they are pasted into a shell.
 pub const ROAD: &str = "\
 cat > licence.txt <<'END'
 # Products: 0 raw stage, 1 hourly means, 2 yearly totals.
@@ -17,7 +17,8 @@ any
       has 7
       has 8
 END
-vierskof reduce licence.txt --facts 6=absent |
+vierskof join --hex AAA2AA AAAA2A --to binary > river.table
+vierskof reduce licence.txt --table river.table |
   vierskof narrow --facts 7=present |
   vierskof complete --facts 5=present,6=absent,7=present
 vierskof evaluate licence.txt --facts 5=present,6=absent,7=present
@@ -72,13 +73,15 @@ The text form
     permit-with-trace 0003 label 4 obligations 7 facts 5,6
     deny-with-trace hidden denied 0003 label 1 reason 2 facts 5
 
-The road in three commands
-  The relay reduces a sheet with the facts it holds, the district narrows the
-  record with its own, and the archive completes it with all of them. If none
-  of them contradicts another, the road ends in the effect and the products
-  that evaluate gives in one sitting with all facts: this is proved, for every
-  sheet. With reduce --in-order and narrow --in-order it ends in the same
-  obligations, label, reason and shape as well. Paste this into a shell:
+The road in four commands
+  Two relays join their tables: one knows that fact 6 is absent, the other
+  that fact 8 is. With what both know the sheet is reduced, the district
+  narrows the record with its own facts, and the archive completes it with
+  all of them. If none of them contradicts another, the road ends in the
+  effect and the products that evaluate gives in one sitting with all facts:
+  this is proved, for every sheet. With reduce --in-order and narrow
+  --in-order it ends in the same obligations, label, reason and shape as
+  well. Paste this into a shell:
 
 ";
 

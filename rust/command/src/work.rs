@@ -3,11 +3,12 @@
 use std::error::Error;
 use std::fmt::{self, Display, Formatter};
 use std::io::Read;
+use std::path::Path;
 
 use vierskof::read::{Decision, Record};
-use vierskof::{Presence, RECORD_WORDS, Refusal};
+use vierskof::{Presence, RECORD_WORDS, Refusal, TABLE_BYTES};
 
-use crate::arguments::{Arguments, Asked, Call, Command, Facts, Input, Reduction};
+use crate::arguments::{Arguments, Asked, Call, Command, Facts, Input, Join, Reduction};
 use crate::document::Document;
 use crate::facts;
 use crate::form::Form;
@@ -96,6 +97,7 @@ pub fn run(arguments: &Arguments, stdin: impl Read) -> Result<Done, Failure> {
         Command::Show(shown) => rewritten(&shown.input, stdin, shown.to),
         Command::Assemble(assembled) => rewritten(&assembled.input, stdin, assembled.to),
         Command::InForce(asked) => in_force(asked, stdin),
+        Command::Join(tables) => join(tables),
     }
 }
 
@@ -158,10 +160,41 @@ fn judged(given: &Given) -> Result<Document<'_>, Failure> {
     Document::read(&given.words).map_err(|refusal| given.refused(refusal, Due::Either))
 }
 
+fn join(tables: &Join) -> Result<Done, Failure> {
+    let read = |given: &Path| {
+        if tables.hex {
+            typed(given)
+        } else {
+            file(given)
+        }
+    };
+    let (one, two) = (read(&tables.one)?, read(&tables.two)?);
+    let mut out = [0; TABLE_BYTES];
+    let joined = vierskof::join_tables(&one, &two, &mut out).map_err(|refusal| {
+        let faulty = |table: &[u8]| facts::faulty(table, refusal);
+        let fact = match refusal {
+            Refusal::Clash => facts::clash(&one, &two),
+            _ => faulty(&one).or_else(|| faulty(&two)),
+        };
+        Failure::Refused(refusal, fact.map(|fact| format!("fact {fact}")))
+    })?;
+    Ok(Done::plainly(tables.to.write(joined)))
+}
+
+/// The bytes of a file with a table.
+fn file(file: &Path) -> Result<Vec<u8>, Failure> {
+    open(file).map_err(|message| Failure::Usage(format!("{}: {message}", file.display())))
+}
+
+/// The bytes of a table that is typed in place of a file.
+fn typed(text: &Path) -> Result<Vec<u8>, Failure> {
+    let bytes = facts::bytes(&text.to_string_lossy()).map(|bytes| bytes.0);
+    bytes.map_err(|message| Failure::Usage(format!("{}: {message}", text.display())))
+}
+
 fn table(facts: &Facts, rest: Presence) -> Result<Vec<u8>, Failure> {
-    if let Some(file) = &facts.table {
-        let named = |message| Failure::Usage(format!("{}: {message}", file.display()));
-        return open(file).map_err(named);
+    if let Some(named) = &facts.table {
+        return file(named);
     }
     if let Some(typed) = &facts.table_hex {
         return Ok(typed.0.clone());

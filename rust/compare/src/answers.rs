@@ -3,6 +3,7 @@
 use std::fmt::{UpperHex, Write as _};
 
 use crate::case::{Answer, Call, Case};
+use crate::join::Join;
 use crate::reference::FactSet;
 use crate::refusal::Refusal;
 use crate::register::Question;
@@ -15,6 +16,32 @@ pub fn file(made_by: &str, cases: &[Case]) -> Vec<u8> {
     let mut bytes = format!("# Made by: {made_by} (gatekeep at commit 4acf26c4c1)\n").into_bytes();
     for case in cases {
         bytes.extend(stored(case, &case.answer()));
+    }
+    bytes
+}
+
+/// A file of joins: a line of text, then of each join five 16-bit numbers (room, bytes of one table, of the other, number, bytes written), the tables and the
+/// bytes written, all most significant byte first.
+pub fn joins(made_by: &str, joins: &[Join]) -> Vec<u8> {
+    let mut bytes = format!("# Made by: {made_by}\n").into_bytes();
+    for join in joins {
+        let answer = join.answer();
+        let number = answer
+            .as_ref()
+            .map_or_else(|refusal| refusal.number(), |_| 0);
+        let written = answer.unwrap_or_default();
+        let Join { one, two, room } = join;
+        for number in [
+            *room,
+            one.len(),
+            two.len(),
+            usize::from(number),
+            written.len(),
+        ] {
+            let number = u16::try_from(number).expect("a stored number has 16 bits");
+            bytes.extend(number.to_be_bytes());
+        }
+        bytes.extend([one.as_slice(), two, &written].concat());
     }
     bytes
 }

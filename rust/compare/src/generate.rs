@@ -5,6 +5,7 @@ pub mod chains;
 pub mod damage;
 pub mod exhaustive;
 pub mod grow;
+pub mod joins;
 pub mod limits;
 pub mod registers;
 pub mod rng;

@@ -1,13 +1,15 @@
 //! Document 01's calls on words and bytes, answered by the original evaluation core.
 //!
 //! [`words`] is document 01's format, [`reference`] the calls on sheets and records, [`listing`]
-//! the listing's bytes; [`register`] answers for the register of sheets, which the original lacks.
+//! the listing's bytes; [`register`] answers for the register of sheets and [`join`] for the join
+//! of tables, which the original lacks.
 //! [`worked`] has document 01's worked sheets as cases, [`generate`] makes cases from a seed;
 //! [`answers`] and [`rows`] write cases with their answers. With the feature `proved`, `proved` compares the proved calls with them.
 
 pub mod answers;
 pub mod case;
 pub mod generate;
+pub mod join;
 pub mod listing;
 pub mod narrow;
 pub mod products;

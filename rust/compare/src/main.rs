@@ -6,7 +6,7 @@ use std::{fs, io};
 use clap::{Parser, Subcommand, ValueEnum};
 use compare::case::{Call, Case};
 use compare::generate::rng::Rng;
-use compare::generate::{cases, limits, registers};
+use compare::generate::{cases, joins, limits, registers};
 use compare::{answers, rows, worked};
 
 /// Cases of document 01's calls, and what the original answers to them.
@@ -36,7 +36,12 @@ enum Command {
         #[arg(long)]
         part: Part,
     },
-    /// Compares the proved calls with the original, and shows the first case in which they differ.
+    /// Stored joins of tables, with what the comparison's own join answers.
+    Joins {
+        #[command(flatten)]
+        sample: Sample,
+    },
+    /// Compares the proved calls with the original, and the proved join with the comparison's own, and shows the first case in which they differ.
     #[cfg(feature = "proved")]
     Proved {
         #[command(flatten)]
@@ -166,6 +171,10 @@ fn main() -> io::Result<()> {
             let made_by = format!("{} --part {}", sample.command("rows"), part.name());
             sample.write(rows::file(&made_by, &sample.cases(part.calls())).as_bytes())
         }
+        Command::Joins { sample } => {
+            let joins = joins::draw(sample.seed, sample.count);
+            sample.write(&answers::joins(&sample.command("joins"), &joins))
+        }
         #[cfg(feature = "proved")]
         Command::Proved { sample } => proved(&sample),
         #[cfg(feature = "proved")]
@@ -173,11 +182,11 @@ fn main() -> io::Result<()> {
     }
 }
 
-/// Cases are drawn in batches, so that a long run holds few of them at a time. One in ten has a list of many arms, one in ten is a reduction or a narrowing of
-/// grants on several facts, one in ten has lists in lists, and records of either pair.
+/// As many calls on words, and as many joins. Cases are drawn in batches, so that a long run holds few of them at a time. One in ten has a list of many arms,
+/// one in ten is a reduction or a narrowing of grants on several facts, one in ten has lists in lists, and records of either pair.
 #[cfg(feature = "proved")]
 fn proved(sample: &Sample) -> io::Result<()> {
-    use compare::proved::agrees;
+    use compare::proved;
 
     const BATCH: usize = 20_000;
     let mut half_known = 0;
@@ -190,7 +199,7 @@ fn proved(sample: &Sample) -> io::Result<()> {
         let drawn = wide.len() + several.len() + layered.len();
         let others = cases::draw(seed, count - drawn, &Call::ALL);
         for case in [others, wide, several, layered].into_iter().flatten() {
-            if !agrees(&case) {
+            if !proved::agrees(&case) {
                 let line = answers::line(&case, &case.answer());
                 return Err(io::Error::other(format!(
                     "differs from the original: {line}"
@@ -198,9 +207,16 @@ fn proved(sample: &Sample) -> io::Result<()> {
             }
             half_known += usize::from(cases::is_half_known(&case));
         }
+        if let Some(join) = joins::draw(seed, count)
+            .iter()
+            .find(|join| !proved::joins(join))
+        {
+            let line = join.line();
+            return Err(io::Error::other(format!("a join differs: {line}")));
+        }
     }
     println!(
-        "{} cases, seed {}: no difference; {half_known} with a known grant whose condition names an Unknown fact",
+        "{} cases and {0} joins, seed {}: no difference; {half_known} with a known grant whose condition names an Unknown fact",
         sample.count, sample.seed
     );
     Ok(())

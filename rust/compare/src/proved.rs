@@ -1,6 +1,7 @@
 //! The proved calls against the original, or against the comparison's own where it has no such call: answer, every word of the output before and after, sets and refusals.
 
 use crate::case::{Answer, Call, Case};
+use crate::join::Join;
 use crate::narrow::Order;
 use crate::refusal::Refusal;
 use crate::register::Question;
@@ -62,6 +63,21 @@ fn writes(case: &Case, expected: &Result<Answer, Refusal>, call: Writer) -> bool
         }
         Ok(_) => false,
         Err(refusal) => refused(&found, *refusal) && out == before,
+    }
+}
+
+/// Whether the proved join answers as the comparison's own does, and leaves what it must.
+pub fn joins(join: &Join) -> bool {
+    let before: Vec<u8> = (0xC3..=0xFF).cycle().take(join.room).collect();
+    let mut out = before.clone();
+    let found = vierskof::join_tables(&join.one, &join.two, &mut out).map(<[u8]>::to_vec);
+    match join.answer() {
+        Ok(bytes) => {
+            found.as_ref() == Ok(&bytes)
+                && out[..bytes.len()] == bytes[..]
+                && out[bytes.len()..] == before[bytes.len()..]
+        }
+        Err(refusal) => refused(&found, refusal) && out == before,
     }
 }
 

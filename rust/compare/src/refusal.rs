@@ -24,8 +24,10 @@ pub enum Refusal {
     Repeated = 9,
     /// Words after the tree.
     Trailing = 10,
-    /// Resulting record longer than the output or 16,384 words, or a fact list in it over 4,095.
+    /// Result longer than the output or 16,384 words, or a fact list in it over 4,095.
     Room = 11,
+    /// Present in one of two joined tables, Absent in the other.
+    Clash = 14,
     /// Words that are no register of sheets.
     Register = 15,
 }

@@ -3,6 +3,7 @@
 use std::slice;
 
 use compare::case::{Answer, Call, Case};
+use compare::join::Join;
 use compare::reference::{FactSet, evaluate};
 use compare::register::Question;
 use compare::words::tree::{Decided, Record};
@@ -103,6 +104,38 @@ fn registered(words: &[u32], table: &[u8]) -> u64 {
         day: numbers.next().unwrap_or_default(),
     };
     question.returned()
+}
+
+/// Joins two tables as the C interface does, and leaves in `out` what it leaves.
+///
+/// # Safety
+///
+/// As for [`judge_answer`].
+#[unsafe(no_mangle)]
+pub unsafe extern "C" fn judge_join(
+    one: *const u8,
+    one_bytes: usize,
+    two: *const u8,
+    two_bytes: usize,
+    out: *mut u8,
+    room: usize,
+) -> u64 {
+    // SAFETY: what the caller has to see to.
+    let (one, two, out) = unsafe {
+        (
+            slice::from_raw_parts(one, one_bytes),
+            slice::from_raw_parts(two, two_bytes),
+            slice::from_raw_parts_mut(out, room),
+        )
+    };
+    let (one, two) = (one.to_vec(), two.to_vec());
+    match (Join { one, two, room }).answer() {
+        Ok(bytes) => {
+            out[..bytes.len()].copy_from_slice(&bytes);
+            bytes.len() as u64
+        }
+        Err(refusal) => u64::from(refusal.number()) << 32,
+    }
 }
 
 fn put_set(set: &FactSet, out: &mut [u32]) {

@@ -33,6 +33,36 @@ macro_rules! writes {
     };
 }
 
+/// Calls that join tables: two tables and an output. The value is the count of bytes written.
+macro_rules! joins {
+    ($($call:ident = $symbol:ident;)*) => {
+        unsafe extern "C" {
+            $(fn $symbol(
+                one: *const u8,
+                one_bytes: usize,
+                two: *const u8,
+                two_bytes: usize,
+                out: *mut u8,
+                room: usize,
+            ) -> u64;)*
+        }
+        $(pub fn $call(one: &[u8], two: &[u8], out: &mut [u8]) -> u64 {
+            let room = out.len();
+            // SAFETY: as for the calls that write.
+            unsafe {
+                $symbol(
+                    one.as_ptr(),
+                    one.len(),
+                    two.as_ptr(),
+                    two.len(),
+                    out.as_mut_ptr(),
+                    room,
+                )
+            }
+        })*
+    };
+}
+
 /// Calls that name facts: words and sixteen numbers. The value is the count of facts.
 macro_rules! names {
     ($($call:ident = $symbol:ident;)*) => {
@@ -66,6 +96,10 @@ writes! {
     complete_residual = vierskof_complete_residual;
     partial_evaluate_in_order = vierskof_partial_evaluate_in_order;
     narrow_residual_in_order = vierskof_narrow_residual_in_order;
+}
+
+joins! {
+    join_tables = vierskof_join_tables;
 }
 
 names! {

@@ -1,4 +1,4 @@
-//! The calls on sheets and records.
+//! The calls on sheets, records and tables.
 
 use crate::{FactSet, Refusal, c};
 
@@ -178,6 +178,36 @@ pub fn complete_residual<'o>(
     written(c::complete_residual(record, facts, out), out)
 }
 
+/// Joins two tables of one request: the table of what both know is the first bytes of `out`.
+///
+/// Unknown yields to the other table's reading, and equal readings stay. Past its end a table reads Absent, so an Unknown in the longer one becomes Absent
+/// there. The result is as long as the longer table. Neither the order of two tables nor the grouping of three makes a difference.
+///
+/// Later bytes of `out` are left as they were, and so is all of it when the call is refused. An output of [`TABLE_BYTES`](crate::TABLE_BYTES) is room
+/// enough.
+///
+/// # Errors
+///
+/// [`Refusal::TableLength`] for either table, then [`Refusal::TableField`] for either, then [`Refusal::Clash`], then [`Refusal::Room`].
+///
+/// # Examples
+///
+/// ```
+/// use vierskof::Refusal;
+///
+/// let mut out = [0; vierskof::TABLE_BYTES];
+/// // Fact 0 is Unknown to the second relay, fact 4 to the first.
+/// let joined = vierskof::join_tables(&[0x10, 0x80], &[0x90, 0x40], &mut out)?;
+/// assert_eq!(joined, [0x10, 0x40]);
+/// // One says that fact 5 is Present, the other, by its end, that it is Absent.
+/// let clash = vierskof::join_tables(&[0x00, 0x10], &[0x00], &mut out);
+/// assert_eq!(clash, Err(Refusal::Clash));
+/// # Ok::<(), vierskof::Refusal>(())
+/// ```
+pub fn join_tables<'o>(one: &[u8], two: &[u8], out: &'o mut [u8]) -> Result<&'o [u8], Refusal> {
+    written(c::join_tables(one, two, out), out)
+}
+
 /// The facts that a sheet names: those that a Has in it carries.
 ///
 /// # Errors
@@ -265,9 +295,10 @@ pub fn carries_obligation(record: &[u32]) -> Result<bool, Refusal> {
     says(c::carries_obligation(record))
 }
 
-fn written(returned: u64, out: &mut [u32]) -> Result<&[u32], Refusal> {
-    let words = value(returned)? as usize;
-    out.get(..words).ok_or(Refusal::Room)
+/// The words or bytes written.
+fn written<T>(returned: u64, out: &mut [T]) -> Result<&[T], Refusal> {
+    let count = value(returned)? as usize;
+    out.get(..count).ok_or(Refusal::Room)
 }
 
 fn named(returned: u64, set: [u64; 16]) -> Result<FactSet, Refusal> {
@@ -282,7 +313,7 @@ fn says(returned: u64) -> Result<bool, Refusal> {
 pub(crate) fn value(returned: u64) -> Result<u32, Refusal> {
     match (returned >> 32) as u32 {
         0 => Ok((returned & 0xFFFF_FFFF) as u32),
-        // No call returns a number past the last one: that is proved, so what stands here never shows.
+        // No call returns a number that isn't listed: that is proved, so what stands here never shows.
         number => Err(Refusal::try_from(number).unwrap_or(Refusal::Room)),
     }
 }

@@ -123,8 +123,8 @@ pub mod read;
 
 pub use calls::{
     carries_obligation, complete_residual, evaluate, is_deny_constant, is_permit_constant,
-    narrow_residual, narrow_residual_in_order, partial_evaluate, partial_evaluate_in_order,
-    required_facts, required_residual_facts,
+    join_tables, narrow_residual, narrow_residual_in_order, partial_evaluate,
+    partial_evaluate_in_order, required_facts, required_residual_facts,
 };
 pub use facts::{FactSet, FactSetIter, FactTable, Presence};
 pub use numbers::{Fact, Label, Obligation, OutOfRange, Reason};

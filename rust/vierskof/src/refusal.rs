@@ -9,7 +9,8 @@ use crate::OutOfRange;
 ///
 /// The discriminant is the cause's number. Where there are several causes, the call names the first
 /// that its reading meets: the length of the words, then the table, then the words from the first,
-/// then what follows them, then the room. A register has one cause alone.
+/// then what follows them, then the room. A register has one cause alone. A join looks at both
+/// lengths, both tables' fields, whether they clash, then the room.
 ///
 /// ```
 /// use vierskof::Refusal;
@@ -44,8 +45,10 @@ pub enum Refusal {
     RepeatedObligation = 9,
     /// There are words after the tree.
     WordsAfterTree = 10,
-    /// The resulting record is longer than the output or than 16,384 words, or a fact list in it has over 4,095 facts.
+    /// The result is longer than the output, or a record than 16,384 words, or a fact list in it has over 4,095 facts.
     Room = 11,
+    /// A fact is Present in one of two joined tables and Absent in the other.
+    Clash = 14,
     /// The words are no register of sheets: an odd count of them or over 512, a field that must be 0 and isn't, or one group and number twice.
     Register = 15,
 }
@@ -64,10 +67,11 @@ impl Refusal {
         Self::RepeatedObligation,
         Self::WordsAfterTree,
         Self::Room,
+        Self::Clash,
         Self::Register,
     ];
 
-    /// The number: 1 to 11, or 15.
+    /// The number: 1 to 11, 14 or 15.
     #[must_use]
     pub const fn number(self) -> u32 {
         self as u32
@@ -85,7 +89,8 @@ impl Refusal {
             Self::Field => "a field holds a number that it may not hold",
             Self::RepeatedObligation => "an obligation is repeated in one list",
             Self::WordsAfterTree => "there are words after the tree",
-            Self::Room => "the resulting record has no room in the output or exceeds its limits",
+            Self::Room => "the result has no room in the output or exceeds its limits",
+            Self::Clash => "a fact is Present in one table and Absent in the other",
             Self::Register => "the words are no register of sheets",
         }
     }
@@ -111,6 +116,8 @@ impl TryFrom<u32> for Refusal {
     fn try_from(number: u32) -> Result<Self, OutOfRange> {
         let mut all = Self::ALL.iter().copied();
         all.find(|refusal| refusal.number() == number)
-            .ok_or(OutOfRange::new("a refusal is a number from 1 to 11, or 15"))
+            .ok_or(OutOfRange::new(
+                "a refusal is a number from 1 to 11, 14 or 15",
+            ))
     }
 }

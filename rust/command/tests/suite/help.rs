@@ -10,8 +10,8 @@ use command::guide::ROAD;
 use super::{answer, folder};
 
 /// The subcommands, in an order in which each example finds the files that an earlier one wrote.
-const SUBCOMMANDS: [&str; 8] = [
-    "evaluate", "reduce", "narrow", "complete", "required", "show", "assemble", "in-force",
+const SUBCOMMANDS: [&str; 9] = [
+    "evaluate", "reduce", "narrow", "complete", "required", "show", "assemble", "in-force", "join",
 ];
 
 /// Runs commands as they would be pasted into a shell, with this build's command on the path.

@@ -4,6 +4,7 @@ mod answers;
 mod faults;
 mod forms;
 mod help;
+mod join;
 mod readme;
 mod registers;
 mod run;

@@ -5,6 +5,8 @@ mod codec;
 mod command;
 mod files;
 mod in_order;
+#[cfg(feature = "proved")]
+mod join;
 mod limits;
 mod listing;
 mod original;

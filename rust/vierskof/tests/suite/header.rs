@@ -51,7 +51,7 @@ fn limits_and_version_are_the_same() {
 #[test]
 fn each_output_is_restricted() {
     let calls: Vec<&str> = HEADER.split("\nuint64_t ").skip(1).collect();
-    assert_eq!(calls.len(), 12);
+    assert_eq!(calls.len(), 13);
     for call in calls {
         let (call, _) = call.split_once(");").expect("a prototype");
         let writes = call.contains(" out,") || call.contains(" set,");

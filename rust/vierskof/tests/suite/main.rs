@@ -4,6 +4,7 @@ mod build;
 mod example;
 mod facts;
 mod header;
+mod join;
 mod linking;
 mod numbers;
 mod read;

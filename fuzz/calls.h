@@ -25,8 +25,9 @@ enum call {
     CALLS
 };
 
-// An input of the fuzzer may be a join too: its first table stands where a table does, its second where words do.
-enum { JOIN_TABLES = CALLS, INPUTS };
+// An input of the fuzzer may be a join too, whose first table stands where a table does and its second where words do; or windows, whose dates stand before
+// their words.
+enum { JOIN_TABLES = CALLS, APPLY_WINDOWS, INPUTS };
 
 // An input of the fuzzer begins with call, room and table bytes, as a stored answer does.
 enum { LEAD = 6 };

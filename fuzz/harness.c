@@ -1,8 +1,10 @@
 // The fuzzer's harness over the C interface. An input is a call, a room and a table's length, 16 bits each, the table and the words, or a second table,
-// all most significant byte first. Every claim holds of every input; one that doesn't ends the run.
+// all most significant byte first; the numbers after the last call's are those of joins and windows. Every claim holds of every input; one that doesn't
+// ends the run.
 #include <stdio.h>
 
 #include "calls.h"
+#include "windows.h"
 
 enum { FACTS = 1024 };
 
@@ -392,17 +394,25 @@ static void hold(struct given given) {
     if (number == 0 && faultless(&given)) roads(given, sheet);
 }
 
+// Nothing is told of bytes here: the address checks see what they must.
+static void as_it_is(uint8_t *bytes, size_t count) { (void)bytes, (void)count; }
+
 int LLVMFuzzerTestOneInput(const uint8_t *data, size_t size) {
     if (size < LEAD) return 0;
     size_t bytes = table_bytes(data, size), words = LEAD + bytes;
-    if (number_at(data, 2) % INPUTS == JOIN_TABLES) {
+    uint32_t input = number_at(data, 2) % INPUTS;
+    if (input == JOIN_TABLES) {
         hold_join((struct join){(uint8_t *)data + LEAD, bytes, (uint8_t *)data + words, size - words, number_at(data + 2, 2)});
         return 0;
     }
-    struct given given = {number_at(data, 2) % INPUTS, NULL, (size - words) / 4, NULL, bytes, number_at(data + 2, 2)};
+    struct given given = {input, NULL, (size - words) / 4, NULL, bytes, number_at(data + 2, 2)};
     given.table = copy(data + LEAD, bytes);
     given.words = words_at(data + words, given.count);
-    hold(given);
+    if (input == APPLY_WINDOWS) {
+        windows_hold(given.words, given.count, given.table, given.bytes, given.room, as_it_is, as_it_is);
+    } else {
+        hold(given);
+    }
     free(given.table);
     free(given.words);
     return 0;

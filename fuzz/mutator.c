@@ -186,16 +186,41 @@ static void change_table(struct input *input, size_t bytes) {
     }
 }
 
+// Another number of a date, another window, one window more, or another table or room, about as the rules have them.
+static void change_windows(struct input *input, size_t words, size_t bytes, size_t count) {
+    static const uint32_t least[] = {1899, 0, 0}, range[] = {303, 14, 33};
+    uint32_t place = draw(input, (uint32_t)count + 2);
+    size_t at = words + 4 * (size_t)place;
+    if (place >= count) {
+        if (draw(input, 2)) {
+            change_table(input, bytes);
+        } else if (gap(input, words + 4 * count, 8)) {
+            put(input->data + words + 4 * count, draw(input, 4) << 30 | fact(input), 4);
+        }
+    } else if (place < 6) {
+        put(input->data + at, draw(input, 8) ? least[place % 3] + draw(input, range[place % 3]) : 0, 4);
+    } else if (place % 2 == 0) {
+        put(input->data + at, draw(input, 4) << 30 | fact(input), 4);
+    } else {
+        uint32_t first = draw(input, 400);
+        put(input->data + at, first << 16 | (first + draw(input, 65000)), 4);
+    }
+}
+
 size_t LLVMFuzzerCustomMutator(uint8_t *data, size_t size, size_t max, unsigned seed) {
     struct input input = {data, size, max, seed};
     if (size < LEAD || draw(&input, 4) == 0) return LLVMFuzzerMutate(data, size, max);
     size_t bytes = table_bytes(data, size), words = LEAD + bytes, count = (size - words) / 4;
-    enum call call = number_at(data, 2) % INPUTS;
-    uint32_t change = draw(&input, 8);
-    if (call == SHEET_IN_FORCE && change) {
+    uint32_t number = number_at(data, 2) % INPUTS, change = draw(&input, 8);
+    if (number == APPLY_WINDOWS && change) {
+        change_windows(&input, words, bytes, count);
+        return input.size;
+    }
+    if (number == SHEET_IN_FORCE && change) {
         change_register(&input, bytes, words, count);
         return input.size;
     }
+    enum call call = number;
     switch (change) {
     case 0: change_call(&input, words, call); break;
     case 1: put(data + 2, draw(&input, draw(&input, 2) ? 16 : 2000), 2); break;

@@ -3,6 +3,7 @@
 #include <valgrind/memcheck.h>
 
 #include "stored.h"
+#include "windows.h"
 
 // A word for each place of an output, so that one that is wrongly written or moved shows.
 static void fill(uint32_t *out, size_t count) {
@@ -53,8 +54,55 @@ static int agrees(const struct stored *stored) {
     return same;
 }
 
+// ---- windows
+
+enum { DRAWN = 50000 };
+
+static void unset(uint8_t *bytes, size_t count) { VALGRIND_MAKE_MEM_UNDEFINED(bytes, count); }
+
+// Still undefined, where memcheck runs.
+static void left_unset(uint8_t *bytes, size_t count) {
+    uint8_t bits;
+    for (size_t i = 0; i < count; i++) {
+        if (VALGRIND_GET_VBITS(bytes + i, &bits, 1) == 1) SO(bits == UINT8_MAX);
+        VALGRIND_MAKE_MEM_DEFINED(bytes + i, 1);
+    }
+}
+
+static uint32_t draw(uint64_t *seed, uint32_t bound) {
+    *seed = *seed * 6364136223846793005 + 1442695040888963407;
+    return (uint32_t)(*seed >> 33) % bound;
+}
+
+// Lists, dates and tables of which about half are accepted, and how many calls these are.
+static size_t windows(void) {
+    uint64_t seed = 1;
+    size_t accepted = 0;
+    for (size_t i = 0; i < DRAWN; i++) {
+        size_t count = DATES + 2 * draw(&seed, 34) + !draw(&seed, 30), bytes = draw(&seed, 20) ? 256 : draw(&seed, 300);
+        uint32_t *given = block(count * sizeof *given);
+        uint8_t *table = block(bytes);
+        for (size_t k = 0; k < DATES; k += 3) {
+            int known = draw(&seed, 10) != 0;
+            given[k] = known ? 1900 + draw(&seed, 300) : 0;
+            given[k + 1] = known ? 1 + draw(&seed, 12) : 0;
+            given[k + 2] = known ? 1 + draw(&seed, draw(&seed, 20) ? 28 : 32) : 0;
+        }
+        for (size_t k = DATES; k < count; k++) {
+            uint32_t first = draw(&seed, 300);
+            given[k] = (k - DATES) % 2 ? first << 16 | (first + draw(&seed, 65236)) : draw(&seed, 4) << 30 | draw(&seed, 1024);
+        }
+        for (size_t k = 0; k < bytes; k++) table[k] = (uint8_t)draw(&seed, 256) & (draw(&seed, 100) ? 0x55 : 0xAA);
+        accepted += windows_hold(given, count, table, bytes, draw(&seed, 20) ? 256 + draw(&seed, 3) : draw(&seed, 256), unset, left_unset) == 0;
+        free(given);
+        free(table);
+    }
+    SO(accepted > DRAWN / 4);
+    return DRAWN;
+}
+
 int main(int files, char **names) {
-    size_t calls = 0;
+    size_t calls = windows();
     for (int i = 1; i < files; i++) {
         struct file file = stored_in(names[i]);
         struct stored stored;

@@ -10,8 +10,30 @@ static void write_seed(const struct stored *stored, const char *name) {
     }
 }
 
+// Inputs of windows: two windows, two dates and a whole table, a file for each pair of dates.
+static void write_windows(const char *folder) {
+    static const uint32_t dates[][6] = {{2026, 8, 17, 2026, 11, 15}, {2000, 2, 29, 2001, 3, 1}, {0, 0, 0, 2026, 11, 15}, {1900, 1, 1, 2199, 12, 31}};
+    static const uint32_t list[] = {0x80000006, 0x0000005A, 0x40000007, 0x00000009};
+    for (size_t i = 0; i < sizeof dates / sizeof *dates; i++) {
+        char name[4096];
+        uint8_t input[LEAD + VIERSKOF_TABLE_BYTES + 40] = {0, APPLY_WINDOWS, 1, 0, 1, 0};
+        uint8_t *at = input + LEAD + VIERSKOF_TABLE_BYTES;
+        for (size_t k = 0; k < 10; k++) {
+            uint32_t word = k < 6 ? dates[i][k] : list[k - 6];
+            for (size_t byte = 4; byte-- > 0; word >>= 8) at[4 * k + byte] = (uint8_t)word;
+        }
+        snprintf(name, sizeof name, "%s/windows-%zu", folder, i);
+        FILE *to = fopen(name, "wb");
+        if (!to || fwrite(input, 1, sizeof input, to) != sizeof input || fclose(to)) {
+            perror(name);
+            exit(2);
+        }
+    }
+}
+
 int main(int words, char **word) {
     if (words != 3) return 2;
+    write_windows(word[2]);
     struct file file = stored_in(word[1]);
     struct stored stored;
     for (size_t place = 1; next_stored(&file, &stored); place++) {

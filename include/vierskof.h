@@ -42,7 +42,8 @@ enum {
     VIERSKOF_TABLE_BYTES = 256,    /* the longest fact table */
     VIERSKOF_SET_NUMBERS = 16,     /* a set of facts, fact 0 the top bit of the first number */
     VIERSKOF_REGISTER_WORDS = 512, /* the longest register of sheets, two words an entry */
-    VIERSKOF_NO_SHEET = 65536      /* in the place of a sheet's number: none */
+    VIERSKOF_NO_SHEET = 65536,     /* in the place of a sheet's number: none */
+    VIERSKOF_WINDOWS = 32          /* the most windows of a list */
 };
 
 /* An output of so many words is room enough for the calls on a sheet of `words` words and on what comes of it. */
@@ -50,7 +51,7 @@ enum {
 
 /* Why a call is turned back. Of several causes a call names the first in this order: 1, 2, then 3 and 4 from fact 0 on,
    then 5 to 9 from the first word on, then 10, then 11. A register has 15 alone. A join has an order of its own: 2 in either
-   table, 3 in either, 14, then 11. Later versions may have further numbers. */
+   table, 3 in either, 14, then 11; for windows it is 12, 13, 3, 11. Later versions may have further numbers. */
 enum vierskof_cause {
     VIERSKOF_ACCEPTED = 0,
     VIERSKOF_REFUSED_LENGTH = 1,              /* the sheet or record has no word, or too many */
@@ -64,6 +65,8 @@ enum vierskof_cause {
     VIERSKOF_REFUSED_REPEATED_OBLIGATION = 9, /* an obligation is repeated in one list */
     VIERSKOF_REFUSED_WORDS_AFTER_TREE = 10,   /* there are words after the tree */
     VIERSKOF_REFUSED_ROOM = 11,               /* the result has no room in the output, or exceeds a limit */
+    VIERSKOF_REFUSED_DATE = 12,               /* a date doesn't exist or lies outside the years 1900 to 2199 */
+    VIERSKOF_REFUSED_WINDOWS = 13,            /* the list of windows isn't as it has to be, or its table isn't 256 bytes */
     VIERSKOF_REFUSED_CLASH = 14,              /* a fact is Present in one of two joined tables and Absent in the other */
     VIERSKOF_REFUSED_REGISTER = 15            /* the words are no register of sheets */
 };
@@ -121,6 +124,15 @@ uint64_t vierskof_sheet_in_force(const uint32_t *entries, size_t words, uint32_t
    `out` overlaps neither table; VIERSKOF_TABLE_BYTES are room enough. */
 uint64_t vierskof_join_tables(const uint8_t *one, size_t one_bytes, const uint8_t *two, size_t two_bytes,
                               uint8_t *VIERSKOF_RESTRICT out, size_t room);
+
+/* Sets facts of a table by the age of a reading. Value: the bytes written, 256. A window is two words: verdict (1; 0 closed,
+   1 open), unit (1; 0 days, 1 completed years), zero (20), fact (10); first and last age (16 each), both included. `windows`
+   holds 0 to 32 of them, two words each, `facts` 256 bytes. A date is year, month and day, or unknown with all three 0. A fact
+   that some window names becomes what the first listed window of it says that holds the age, Absent if none does, Unknown if
+   a date is; other facts keep their field. `out` overlaps neither `windows` nor `facts`: a table is not set in place. */
+uint64_t vierskof_apply_windows(const uint32_t *windows, size_t words, uint32_t year, uint32_t month, uint32_t day,
+                                uint32_t today_year, uint32_t today_month, uint32_t today_day, const uint8_t *facts,
+                                size_t bytes, uint8_t *VIERSKOF_RESTRICT out, size_t room);
 
 /*
  * Readers of a record that a call wrote or accepted. They judge nothing; of other words they say something or other, but

@@ -22,3 +22,6 @@ pub mod UnpackedLaws
 pub mod BitwiseLaws
 pub mod JoinLaws
 pub mod JoinCalls
+pub mod CalendarLaws
+pub mod WindowLaws
+pub mod FieldSetLaws

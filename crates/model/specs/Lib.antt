@@ -20,3 +20,6 @@ pub mod Register
 pub mod WorkedRegister
 pub mod Join
 pub mod WorkedJoin
+pub mod Calendar
+pub mod Windows
+pub mod WorkedWindows

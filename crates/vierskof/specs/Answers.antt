@@ -5,6 +5,7 @@ use Prim.Native.Nat.{ℕ, _+_, _*_, _^_}
 use Rattle.model.specs.Required.{Required, oneBit, Asked}
 use Rattle.model.specs.Calls.{Answer, numberOf, writtenOf, afterwards}
 use Rattle.model.specs.Register as register
+use Rattle.model.specs.Calendar.{Date}
 use Rattle.required.specs.Answers.{setAfter}
 
 abbrev pub returned : ℕ → ℕ → ℕ
@@ -15,7 +16,7 @@ pub record Requires (m : Required) (before after : List ℕ) (r : ℕ) : Type 0 
   pub answer : r ≡ returned (m .number) (m .count)
   pub set-is : after ≡ setAfter before (m .set)
 
--- A call that writes: the words written, and the output afterwards.
+-- A call that writes: the words or bytes written, and the output afterwards.
 pub record Writes (a : Answer) (before after : List ℕ) (r : ℕ) : Type 0 where
   pub answer : r ≡ returned (numberOf a) (writtenOf a)
   pub output-is : after ≡ afterwards a before
@@ -27,3 +28,7 @@ said a = returned (a .number) (oneBit (a .yes))
 -- The sheet in force: its number, or that of none.
 abbrev pub named : register.InForce → ℕ
 named a = returned (register.numberOf a) (register.valueOf a)
+
+-- A date passes as three numbers.
+abbrev pub dated : ℕ → ℕ → ℕ → Date
+dated year month day = record { year = year; month = month; day = day }

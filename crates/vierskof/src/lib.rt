@@ -1,6 +1,7 @@
 // The exported C interface. A slice passes as a pointer and an element count. A call returns one number: that of the refusal times 2^32, or 0
 // when it is accepted, and the call's value.
 use answer::Answer;
+use calendar::Date;
 use questions::Told;
 use register::InForce;
 use required::Required;
@@ -8,6 +9,7 @@ ghost use Rattle.model.specs.Products.{evaluate, requiredFacts, requiredResidua
 ghost use Rattle.model.specs.Partial.{permitsFirst, sheetOrder};
 ghost use Rattle.model.specs.Register.{sheetInForce};
 ghost use Rattle.model.specs.Join.{joinTables};
+ghost use Rattle.model.specs.Windows.{applyWindows};
 ghost use mathlib.Core.Path.{_≡_};
 ghost use lib.ListN.{length};
 ghost use Rattle.answer.specs.Answers.{numberOf as Answer·numberOf, writtenOf};
@@ -15,7 +17,7 @@ ghost use Rattle.required.specs.Answers.{numberOf, countOf};
 ghost use Rattle.questions.specs.Answers.{asked};
 ghost use Rattle.register.specs.Answers.{inForceOf};
 ghost use Rattle.vierskof.specs.Answers.{Requires, Writes, returned};
-ghost use Rattle.vierskof.specs.Answers.{said, named};
+ghost use Rattle.vierskof.specs.Answers.{said, named, dated};
 
 // The number of the refusal and the words or bytes written, as one number.
 fn written(answer: Answer) -> u64
@@ -168,4 +170,28 @@ pub extern "C" fn vierskof_join_tables(one: &[u8], two: &[u8], out: &mut [u8]) -
     ensures { λ r. ⌜ Writes (joinTables (now (one .entry)) (now (two .entry)) (length (now (out .entry)))) (now (out .entry)) (now (out .exit)) r ⌝ }
 {
     written(join::join_tables(one, two, out))
+}
+
+// Sets the facts that a list of windows names by the age of a reading: from the date of the reading to today's.
+#[no_mangle]
+pub extern "C" fn vierskof_apply_windows(
+    windows: &[u32],
+    year: u32,
+    month: u32,
+    day: u32,
+    today_year: u32,
+    today_month: u32,
+    today_day: u32,
+    facts: &[u8],
+    out: &mut [u8],
+) -> u64
+    ensures { λ r. ⌜ Writes (applyWindows (now (windows .entry)) (dated year month day) (dated «today_year» «today_month» «today_day») (now (facts .entry)) (length (now (out .entry)))) (now (out .entry)) (now (out .exit)) r ⌝ }
+{
+    let reading = Date { year, month, day };
+    let today = Date {
+        year: today_year,
+        month: today_month,
+        day: today_day,
+    };
+    written(windows::apply_windows(windows, reading, today, facts, out))
 }

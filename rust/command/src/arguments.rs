@@ -3,12 +3,12 @@
 use std::path::PathBuf;
 
 use clap::{Args, Parser, Subcommand};
-use vierskof::{Fact, Presence};
+use vierskof::{Date, Fact, Presence};
 
-use crate::facts::{self, Bytes, TableForm};
+use crate::facts::{self, Bytes};
 use crate::form::Form;
 use crate::register::{self, Words};
-use crate::{guide, numbers};
+use crate::{guide, numbers, windows};
 
 /// Decides who may read which product, by a policy sheet and the facts about a request.
 #[derive(Debug, Parser)]
@@ -68,6 +68,17 @@ Example:
 Example:
   vierskof join --hex AAA2AA AAAA2A --to facts")]
     Join(Join),
+    /// Sets facts by the age of a reading, by a list of retention windows.
+    #[command(after_help = "\
+Of one fact the first window in the list that holds the age decides: open
+makes the fact present, closed absent. A fact that is named and held by no
+window is absent; if either date is unknown it is unknown. Other facts stay
+as they are. Both ends of a window are included.
+
+Example:
+  echo 'open 6 0..90 days' |
+    vierskof window --reading 2026-08-17 --today 2026-11-15")]
+    Window(Windowed),
 }
 
 /// Where words come from.
@@ -166,7 +177,27 @@ pub struct Join {
     pub hex: bool,
     /// The form of the table that is written.
     #[arg(long, value_name = "FORM", default_value = "hex")]
-    pub to: TableForm,
+    pub to: facts::TableForm,
+}
+
+/// Facts set by age.
+#[derive(Args, Debug)]
+pub struct Windowed {
+    /// The file with the windows, one a line, such as `open 6 0..90 days`; - is standard input.
+    #[arg(default_value = "-")]
+    pub file: PathBuf,
+    /// The date of the reading, such as 2026-08-17, or unknown.
+    #[arg(long, value_name = "DATE", value_parser = dated)]
+    pub reading: Date,
+    /// Today's date, or unknown.
+    #[arg(long, value_name = "DATE", value_parser = dated)]
+    pub today: Date,
+    /// The facts that are set; a table has all of its 256 bytes.
+    #[command(flatten)]
+    pub facts: Facts,
+    /// The form of the table that is written.
+    #[arg(long, value_name = "FORM", default_value = "facts")]
+    pub to: windows::TableForm,
 }
 
 /// The facts about a request, in one of three ways.
@@ -174,7 +205,7 @@ pub struct Join {
 pub struct Facts {
     /// Facts, such as 5=present,6=absent,7=unknown; may come several times.
     ///
-    /// A fact that is not named is absent in evaluate and complete, and unknown in reduce and narrow.
+    /// A fact that is not named is absent in evaluate, complete and window, and unknown in reduce and narrow.
     #[arg(long, value_name = "FACTS", value_delimiter = ',', value_parser = said)]
     pub facts: Vec<(Fact, Presence)>,
     /// A file with a fact table, its bytes taken as they are.
@@ -191,6 +222,17 @@ fn day(text: &str) -> Result<u32, String> {
     register::day(text).map_err(|due| format!("{due} is due"))
 }
 
+impl Facts {
+    /// Whether the facts are said one by one, and not as a table's bytes.
+    pub const fn is_said(&self) -> bool {
+        self.table.is_none() && self.table_hex.is_none()
+    }
+}
+
 fn said(text: &str) -> Result<(Fact, Presence), String> {
     numbers::said(text).map_err(|due| format!("{due} is due"))
+}
+
+fn dated(text: &str) -> Result<Date, String> {
+    numbers::date(text).map_err(|due| format!("{due} is due"))
 }

@@ -62,11 +62,7 @@ impl Given {
         stdin: impl Read,
         of: impl FnOnce(&[u8], &str) -> Result<Self, String>,
     ) -> Result<Self, Failure> {
-        let (name, bytes) = if file == Path::new("-") {
-            ("standard input".to_owned(), read(stdin))
-        } else {
-            (file.display().to_string(), open(file))
-        };
+        let (name, bytes) = bytes_of(file, stdin);
         let named = |message| Failure::Usage(format!("{name}: {message}"));
         let bytes = bytes.map_err(named)?;
         of(&bytes, &name).map_err(named)
@@ -180,6 +176,15 @@ fn judged(words: &[u32], due: Due) -> Result<(), Refusal> {
         Due::Sheet => Sheet::read(words).map(|_| ()),
         Due::Record => Record::read(words).map(|_| ()),
         Due::Either => Document::read(words).map(|_| ()),
+    }
+}
+
+/// What a file is called, and its bytes; - is standard input.
+pub fn bytes_of(file: &Path, stdin: impl Read) -> (String, Result<Vec<u8>, String>) {
+    if file == Path::new("-") {
+        ("standard input".to_owned(), read(stdin))
+    } else {
+        (file.display().to_string(), open(file))
     }
 }
 

@@ -73,6 +73,15 @@ The text form
     permit-with-trace 0003 label 4 obligations 7 facts 5,6
     deny-with-trace hidden denied 0003 label 1 reason 2 facts 5
 
+Windows
+  A list of retention windows says what facts are while a reading has an age,
+  one window a line; # begins a comment:
+    open 6 0..90 days       fact 6 is present from 0 to 90 days
+    closed 6 10..20 days    fact 6 is absent from 10 to 20 days
+    open 7 0..9 years       fact 7 is present for ten years
+  Both ends are included, and years are completed ones. The command window
+  sets the facts of a table by such a list.
+
 The road in four commands
   Two relays join their tables: one knows that fact 6 is absent, the other
   that fact 8 is. With what both know the sheet is reduced, the district

@@ -16,4 +16,5 @@ pub mod guide;
 pub mod numbers;
 pub mod register;
 pub mod text;
+pub mod windows;
 pub mod work;

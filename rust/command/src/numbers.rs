@@ -1,6 +1,8 @@
 //! The numbers of the field as they are typed. A reader that fails says what is due in the number's place.
 
-use vierskof::{Fact, Label, Obligation, Presence, Products, Reason};
+use std::ops::RangeInclusive;
+
+use vierskof::{Date, Fact, Label, Obligation, Presence, Products, Reason};
 
 /// Reads one item, or says what is due.
 pub type Read<T> = fn(&str) -> Result<T, &'static str>;
@@ -45,6 +47,30 @@ pub fn said(text: &str) -> Result<(Fact, Presence), &'static str> {
         Some((fact(number).ok()?, presence(name)?))
     };
     read().ok_or("a fact from 0 to 1023 with =present, =absent or =unknown")
+}
+
+/// Ages from a first to a last, such as `0..90`.
+pub fn ages(text: &str) -> Result<RangeInclusive<u16>, &'static str> {
+    let read = || {
+        let (first, last) = text.split_once("..")?;
+        Some(number(first)?..=number(last)?)
+    };
+    read().ok_or("ages from 0 to 65535, such as 0..90")
+}
+
+/// A date, such as `2026-08-17`, whether or not there is such a day; or `unknown`.
+pub fn date(text: &str) -> Result<Date, &'static str> {
+    if text == "unknown" {
+        return Ok(Date::UNKNOWN);
+    }
+    let mut parts = text.split('-');
+    let mut part = |digits: usize| {
+        let part = parts.next().filter(|part| part.len() == digits)?;
+        number(part).map(u32::from)
+    };
+    let mut read = || Some(Date::new(part(4)?, part(2)?, part(2)?));
+    let date = read().filter(|_| text.len() == 10);
+    date.ok_or("a date such as 2026-08-17, or unknown,")
 }
 
 /// Hexadecimal digits without what may stand among them: `0x` before them, and `_` between.

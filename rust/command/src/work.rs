@@ -8,11 +8,12 @@ use std::path::Path;
 use vierskof::read::{Decision, Record};
 use vierskof::{Presence, RECORD_WORDS, Refusal, TABLE_BYTES};
 
-use crate::arguments::{Arguments, Asked, Call, Command, Facts, Input, Join, Reduction};
+use crate::arguments::{Arguments, Asked, Call, Command, Facts, Input, Join, Reduction, Windowed};
 use crate::document::Document;
 use crate::facts;
 use crate::form::Form;
-use crate::given::{Due, Given, open};
+use crate::given::{Due, Given, bytes_of, open};
+use crate::windows::{self, List};
 
 /// Why there is no answer.
 #[derive(Clone, Debug, PartialEq, Eq)]
@@ -98,6 +99,7 @@ pub fn run(arguments: &Arguments, stdin: impl Read) -> Result<Done, Failure> {
         Command::Assemble(assembled) => rewritten(&assembled.input, stdin, assembled.to),
         Command::InForce(asked) => in_force(asked, stdin),
         Command::Join(tables) => join(tables),
+        Command::Window(windowed) => window(windowed, stdin),
     }
 }
 
@@ -190,6 +192,28 @@ fn file(file: &Path) -> Result<Vec<u8>, Failure> {
 fn typed(text: &Path) -> Result<Vec<u8>, Failure> {
     let bytes = facts::bytes(&text.to_string_lossy()).map(|bytes| bytes.0);
     bytes.map_err(|message| Failure::Usage(format!("{}: {message}", text.display())))
+}
+
+fn window(windowed: &Windowed, stdin: impl Read) -> Result<Done, Failure> {
+    let (name, bytes) = bytes_of(&windowed.file, stdin);
+    let named = |message| Failure::Usage(format!("{name}: {message}"));
+    let text = windows::text(bytes.map_err(named)?).map_err(named)?;
+    let list = List::read(&text).map_err(|fault| named(fault.to_string()))?;
+    let mut table = table(&windowed.facts, Presence::Absent)?;
+    if windowed.facts.is_said() {
+        table.resize(TABLE_BYTES, 0);
+    }
+    let Windowed { reading, today, .. } = *windowed;
+    let mut out = [0; TABLE_BYTES];
+    let set = vierskof::apply_windows(&list.words(), reading, today, &table, &mut out);
+    let set = set.map_err(|refusal| {
+        Failure::Refused(refusal, list.place(refusal, [reading, today], &table))
+    })?;
+    Ok(Done::plainly(list.write(
+        set,
+        windowed.to,
+        &windowed.facts.facts,
+    )))
 }
 
 fn table(facts: &Facts, rest: Presence) -> Result<Vec<u8>, Failure> {

@@ -10,3 +10,4 @@ pub mod limits;
 pub mod registers;
 pub mod rng;
 pub mod tables;
+pub mod windows;

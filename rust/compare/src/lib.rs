@@ -1,8 +1,8 @@
-//! Document 01's calls on words and bytes, answered by the original evaluation core.
+//! Document 01's calls on words and bytes, answered by the original evaluation core; and those that it lacks, by implementations of their own.
 //!
 //! [`words`] is document 01's format, [`reference`] the calls on sheets and records, [`listing`]
-//! the listing's bytes; [`register`] answers for the register of sheets and [`join`] for the join
-//! of tables, which the original lacks.
+//! the listing's bytes; [`register`], [`join`] and [`windows`] answer for the register of sheets,
+//! the join of tables and retention windows, which the original lacks.
 //! [`worked`] has document 01's worked sheets as cases, [`generate`] makes cases from a seed;
 //! [`answers`] and [`rows`] write cases with their answers. With the feature `proved`, `proved` compares the proved calls with them.
 
@@ -19,5 +19,6 @@ pub mod reference;
 pub mod refusal;
 pub mod register;
 pub mod rows;
+pub mod windows;
 pub mod words;
 pub mod worked;

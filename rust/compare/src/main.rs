@@ -53,6 +53,12 @@ enum Command {
         #[command(flatten)]
         sample: Sample,
     },
+    /// Compares the proved call on windows with the comparison's own, and shows the first case in which they differ.
+    #[cfg(feature = "proved")]
+    Windows {
+        #[command(flatten)]
+        sample: Sample,
+    },
 }
 
 #[derive(clap::Args)]
@@ -179,6 +185,8 @@ fn main() -> io::Result<()> {
         Command::Proved { sample } => proved(&sample),
         #[cfg(feature = "proved")]
         Command::Registers { sample } => registers(&sample),
+        #[cfg(feature = "proved")]
+        Command::Windows { sample } => windows(&sample),
     }
 }
 
@@ -234,6 +242,30 @@ fn registers(sample: &Sample) -> io::Result<()> {
     }
     println!(
         "{} registers, seed {}: no difference",
+        sample.count, sample.seed
+    );
+    Ok(())
+}
+
+/// In batches as well.
+#[cfg(feature = "proved")]
+fn windows(sample: &Sample) -> io::Result<()> {
+    use compare::generate::windows::draw;
+    use compare::proved::sets_as;
+
+    const BATCH: usize = 20_000;
+    let mut accepted = 0;
+    for (batch, first) in (0..sample.count).step_by(BATCH).enumerate() {
+        let count = BATCH.min(sample.count - first);
+        for case in draw(sample.seed + batch as u64, count) {
+            if !sets_as(&case) {
+                return Err(io::Error::other(format!("differs: {case:X?}")));
+            }
+            accepted += usize::from(case.answer().is_ok());
+        }
+    }
+    println!(
+        "{} cases, seed {}: no difference; {accepted} of them accepted",
         sample.count, sample.seed
     );
     Ok(())

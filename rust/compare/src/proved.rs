@@ -5,6 +5,7 @@ use crate::join::Join;
 use crate::narrow::Order;
 use crate::refusal::Refusal;
 use crate::register::Question;
+use crate::windows;
 
 /// A proved call that takes words, a table and an output.
 pub type Writer = for<'o> fn(&[u32], &[u8], &'o mut [u32]) -> Result<&'o [u32], vierskof::Refusal>;
@@ -104,6 +105,24 @@ fn says(
         Ok(Answer::Says(yes)) => found == Ok(*yes),
         Ok(_) => false,
         Err(refusal) => refused(&found, *refusal),
+    }
+}
+
+/// Whether the proved call sets facts by age as the comparison's own does, and leaves what it must.
+pub fn sets_as(case: &windows::Case) -> bool {
+    let before: Vec<u8> = (0x0F..=0xFF).cycle().take(case.room).collect();
+    let mut out = before.clone();
+    let date = |[year, month, day]: windows::Numbers| vierskof::Date { year, month, day };
+    let (reading, today) = (date(case.reading), date(case.today));
+    let found = vierskof::apply_windows(&case.windows, reading, today, &case.table, &mut out);
+    let found = found.map(<[u8]>::to_vec);
+    match case.answer() {
+        Ok(bytes) => {
+            found.as_ref() == Ok(&bytes)
+                && out[..bytes.len()] == bytes[..]
+                && out[bytes.len()..] == before[bytes.len()..]
+        }
+        Err(refusal) => refused(&found, refusal) && out == before,
     }
 }
 

@@ -26,6 +26,10 @@ pub enum Refusal {
     Trailing = 10,
     /// Result longer than the output or 16,384 words, or a fact list in it over 4,095.
     Room = 11,
+    /// A date that doesn't exist or lies outside 1900 to 2199.
+    Date = 12,
+    /// A list of windows that isn't as it has to be, or a table for it that isn't 256 bytes.
+    Windows = 13,
     /// Present in one of two joined tables, Absent in the other.
     Clash = 14,
     /// Words that are no register of sheets.

@@ -3,6 +3,8 @@
 //! Each call returns one number: that of its refusal, or 0, in the upper half, and its value in the lower one.
 #![allow(unsafe_code)]
 
+use crate::Date;
+
 /// Calls that write a record: words, a table and an output. The value is the count of words written.
 macro_rules! writes {
     ($($call:ident = $symbol:ident;)*) => {
@@ -121,4 +123,49 @@ unsafe extern "C" {
 pub fn sheet_in_force(entries: &[u32], group: u32, day: u32) -> u64 {
     // SAFETY: as for the calls that write.
     unsafe { vierskof_sheet_in_force(entries.as_ptr(), entries.len(), group, day) }
+}
+
+unsafe extern "C" {
+    fn vierskof_apply_windows(
+        windows: *const u32,
+        words: usize,
+        year: u32,
+        month: u32,
+        day: u32,
+        today_year: u32,
+        today_month: u32,
+        today_day: u32,
+        facts: *const u8,
+        bytes: usize,
+        out: *mut u8,
+        room: usize,
+    ) -> u64;
+}
+
+/// Sets facts by age: the words of windows, two dates, a table and an output. The value is the count of bytes written.
+pub fn apply_windows(
+    windows: &[u32],
+    reading: Date,
+    today: Date,
+    facts: &[u8],
+    out: &mut [u8],
+) -> u64 {
+    let room = out.len();
+    // SAFETY: as for the calls that write a record.
+    unsafe {
+        vierskof_apply_windows(
+            windows.as_ptr(),
+            windows.len(),
+            reading.year,
+            reading.month,
+            reading.day,
+            today.year,
+            today.month,
+            today.day,
+            facts.as_ptr(),
+            facts.len(),
+            out.as_mut_ptr(),
+            room,
+        )
+    }
 }

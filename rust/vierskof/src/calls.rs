@@ -1,6 +1,6 @@
 //! The calls on sheets, records and tables.
 
-use crate::{FactSet, Refusal, c};
+use crate::{Date, FactSet, Refusal, c};
 
 /// Decides a sheet with a known table: the Resolved record is the first words of `out`.
 ///
@@ -293,6 +293,48 @@ pub fn is_deny_constant(record: &[u32]) -> Result<bool, Refusal> {
 /// ```
 pub fn carries_obligation(record: &[u32]) -> Result<bool, Refusal> {
     says(c::carries_obligation(record))
+}
+
+/// Sets facts of a table by the age of a reading: the table with these facts set is the first 256 bytes of `out`.
+///
+/// `windows` has the words of 0 to 32 windows, [`Window::words`](crate::Window::words) one after the other, and the table is 256 bytes,
+/// [`FactTable::to_bytes`](crate::FactTable::to_bytes). A fact that some window names becomes what the first listed window of that fact says that holds the
+/// age, and Absent if none does; if either date is [`Date::UNKNOWN`], it becomes Unknown. Every other fact keeps its field. Later bytes of `out` are left
+/// as they were, and so is all of it when the call is refused.
+///
+/// # Errors
+///
+/// In this order: [`Refusal::Date`], [`Refusal::Windows`], [`Refusal::TableField`], [`Refusal::Room`].
+///
+/// # Examples
+///
+/// ```
+/// use vierskof::{Ages, Date, Fact, FactTable, Window};
+///
+/// const RAW_STAGE: Fact = Fact::new(6).unwrap();
+/// const HOURLY_MEANS: Fact = Fact::new(7).unwrap();
+///
+/// // Raw stage for 90 days, hourly means for ten years.
+/// let windows = [
+///     Window::open(RAW_STAGE, Ages::days(0..=90)).words(),
+///     Window::open(HOURLY_MEANS, Ages::years(0..=9)).words(),
+/// ];
+/// let (reading, today) = (Date::new(2026, 8, 16), Date::new(2026, 11, 15));
+/// let mut out = [0; 256];
+/// let table = FactTable::new().to_bytes();
+/// let facts = vierskof::apply_windows(windows.as_flattened(), reading, today, &table, &mut out)?;
+/// // 91 days are too many, and 0 years are not.
+/// assert_eq!(facts[1], 0x01);
+/// # Ok::<(), vierskof::Refusal>(())
+/// ```
+pub fn apply_windows<'o>(
+    windows: &[u32],
+    reading: Date,
+    today: Date,
+    facts: &[u8],
+    out: &'o mut [u8],
+) -> Result<&'o [u8], Refusal> {
+    written(c::apply_windows(windows, reading, today, facts, out), out)
 }
 
 /// The words or bytes written.

@@ -9,7 +9,8 @@
 //! words, fact tables are bytes, and each call writes its record into an output that its caller
 //! lends. [`build`] makes a sheet's words, [`read`] gives words back as typed values, and
 //! [`FactTable`] holds what is known. [`in_force`] tells which sheet of a register rules for a group
-//! on a day.
+//! on a day, [`join_tables`] makes one table of two, and [`apply_windows`] sets facts by the age of a
+//! reading.
 //!
 //! No call blocks, allocates, keeps state or panics, and none needs more than 256 KiB of stack: on a
 //! thread with less, a deep or long sheet may overflow it. Calls on separate outputs may run at the
@@ -117,13 +118,14 @@ mod products;
 mod refusal;
 mod register;
 mod shape;
+mod windows;
 
 pub mod build;
 pub mod read;
 
 pub use calls::{
-    carries_obligation, complete_residual, evaluate, is_deny_constant, is_permit_constant,
-    join_tables, narrow_residual, narrow_residual_in_order, partial_evaluate,
+    apply_windows, carries_obligation, complete_residual, evaluate, is_deny_constant,
+    is_permit_constant, join_tables, narrow_residual, narrow_residual_in_order, partial_evaluate,
     partial_evaluate_in_order, required_facts, required_residual_facts,
 };
 pub use facts::{FactSet, FactSetIter, FactTable, Presence};
@@ -132,6 +134,7 @@ pub use products::Products;
 pub use refusal::Refusal;
 pub use register::{Entry, in_force};
 pub use shape::Shape;
+pub use windows::{Ages, Date, Window};
 
 /// Words of the longest sheet.
 pub const SHEET_WORDS: usize = 4_096;
@@ -145,6 +148,8 @@ pub const LEVELS: usize = 32;
 pub const LIST: usize = 4_095;
 /// Words of the longest register, two an entry.
 pub const REGISTER_WORDS: usize = 512;
+/// The most windows of one list.
+pub const WINDOWS: usize = 32;
 
 /// An output that is room enough for every call on a sheet of so many words and on the records that come of it.
 ///

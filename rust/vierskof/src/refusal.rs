@@ -10,7 +10,8 @@ use crate::OutOfRange;
 /// The discriminant is the cause's number. Where there are several causes, the call names the first
 /// that its reading meets: the length of the words, then the table, then the words from the first,
 /// then what follows them, then the room. A register has one cause alone. A join looks at both
-/// lengths, both tables' fields, whether they clash, then the room.
+/// lengths, both tables' fields, whether they clash, then the room. For windows it is the dates,
+/// the list, the table, the room.
 ///
 /// ```
 /// use vierskof::Refusal;
@@ -45,8 +46,13 @@ pub enum Refusal {
     RepeatedObligation = 9,
     /// There are words after the tree.
     WordsAfterTree = 10,
-    /// The result is longer than the output, or a record than 16,384 words, or a fact list in it has over 4,095 facts.
+    /// The result is longer than the output; or it is a record over 16,384 words, or with a fact list of over 4,095 facts.
     Room = 11,
+    /// A date doesn't exist, or isn't of the years 1900 to 2199.
+    Date = 12,
+    /// A list of windows has an odd number of words, over 32 windows, a field that must be 0 and isn't or a first age above the last, or its table isn't 256
+    /// bytes long.
+    Windows = 13,
     /// A fact is Present in one of two joined tables and Absent in the other.
     Clash = 14,
     /// The words are no register of sheets: an odd count of them or over 512, a field that must be 0 and isn't, or one group and number twice.
@@ -67,11 +73,13 @@ impl Refusal {
         Self::RepeatedObligation,
         Self::WordsAfterTree,
         Self::Room,
+        Self::Date,
+        Self::Windows,
         Self::Clash,
         Self::Register,
     ];
 
-    /// The number: 1 to 11, 14 or 15.
+    /// The number of the cause.
     #[must_use]
     pub const fn number(self) -> u32 {
         self as u32
@@ -90,6 +98,10 @@ impl Refusal {
             Self::RepeatedObligation => "an obligation is repeated in one list",
             Self::WordsAfterTree => "there are words after the tree",
             Self::Room => "the result has no room in the output or exceeds its limits",
+            Self::Date => "a date doesn't exist or lies outside the years 1900 to 2199",
+            Self::Windows => {
+                "the list of windows is not as it has to be, or its table is not 256 bytes long"
+            }
             Self::Clash => "a fact is Present in one table and Absent in the other",
             Self::Register => "the words are no register of sheets",
         }
@@ -116,8 +128,6 @@ impl TryFrom<u32> for Refusal {
     fn try_from(number: u32) -> Result<Self, OutOfRange> {
         let mut all = Self::ALL.iter().copied();
         all.find(|refusal| refusal.number() == number)
-            .ok_or(OutOfRange::new(
-                "a refusal is a number from 1 to 11, 14 or 15",
-            ))
+            .ok_or(OutOfRange::new("no refusal has this number"))
     }
 }

@@ -10,8 +10,9 @@ use command::guide::ROAD;
 use super::{answer, folder};
 
 /// The subcommands, in an order in which each example finds the files that an earlier one wrote.
-const SUBCOMMANDS: [&str; 9] = [
+const SUBCOMMANDS: [&str; 10] = [
     "evaluate", "reduce", "narrow", "complete", "required", "show", "assemble", "in-force", "join",
+    "window",
 ];
 
 /// Runs commands as they would be pasted into a shell, with this build's command on the path.
@@ -95,7 +96,7 @@ fn help_tells_of_each_subcommand_and_status() {
     }
     for name in ["evaluate", "reduce", "narrow", "complete"] {
         let help = answer(&format!("{name} --help"), "");
-        let said = "absent in evaluate and complete, and unknown in reduce and narrow";
+        let said = "absent in evaluate, complete and window, and unknown in reduce and narrow";
         assert!(help.contains(said), "{help}");
         let reduces = ["reduce", "narrow"].contains(&name);
         assert_eq!(help.contains("--in-order\n"), reduces, "{help}");

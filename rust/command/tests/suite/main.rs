@@ -10,6 +10,7 @@ mod registers;
 mod run;
 mod show;
 mod statuses;
+mod windows;
 
 use std::fs;
 use std::io::Write;

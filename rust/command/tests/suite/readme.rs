@@ -21,3 +21,17 @@ fn the_readme_shows_what_is_printed() {
     let shown = help::shell(&typed.replace("./run", "vierskof"), &folder("readme"));
     assert_eq!(shown, printed);
 }
+
+/// The curators' example, from windows to a decision.
+#[test]
+fn the_readme_sets_facts_by_age() {
+    let (_, example) = README.split_once("## Facts by age").expect("a section");
+    let (_, example) = example.split_once("```sh\n").expect("an example");
+    let (typed, said) = example.split_once("```").expect("its end");
+    let shown = help::shell(&typed.replace("./run ", "vierskof "), &folder("age"));
+    assert!(
+        shown.starts_with("6=absent,7=present\n# Permit: product 1.\n"),
+        "{shown}"
+    );
+    assert!(said.contains("`6=absent,7=present`, and product 1 is permitted"));
+}

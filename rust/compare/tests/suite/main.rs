@@ -22,6 +22,7 @@ mod sitting;
 mod stages;
 #[cfg(feature = "proved")]
 mod typed;
+mod windows;
 mod worked;
 
 use compare::case::{Answer, Call, Case};

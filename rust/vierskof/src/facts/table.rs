@@ -98,6 +98,21 @@ impl FactTable {
         self.bytes.get(..self.length).unwrap_or_default()
     }
 
+    /// The table in 256 bytes, its whole length, as [`apply_windows`](crate::apply_windows) needs it: silence has become Absent.
+    ///
+    /// ```
+    /// use vierskof::{Fact, FactTable, Presence};
+    ///
+    /// const MEMBER: Fact = Fact::new(5).unwrap();
+    ///
+    /// let bytes = FactTable::new().with(MEMBER, Presence::Present).to_bytes();
+    /// assert_eq!((bytes[1], bytes.len()), (0x10, 256));
+    /// ```
+    #[must_use]
+    pub const fn to_bytes(&self) -> [u8; TABLE_BYTES] {
+        self.bytes
+    }
+
     /// Says what is known of a fact, instead of what was said before. The table ends no earlier than with the byte of this fact.
     ///
     /// ```

@@ -1,6 +1,6 @@
 //! The C header says what the crate says.
 
-use vierskof::{RECORD_WORDS, REGISTER_WORDS, Refusal, SHEET_WORDS, TABLE_BYTES};
+use vierskof::{RECORD_WORDS, REGISTER_WORDS, Refusal, SHEET_WORDS, TABLE_BYTES, WINDOWS};
 
 const HEADER: &str = include_str!("../../../../include/vierskof.h");
 
@@ -40,6 +40,7 @@ fn limits_and_version_are_the_same() {
     assert_eq!(number("VIERSKOF_SET_NUMBERS"), 16);
     assert_eq!(number("VIERSKOF_REGISTER_WORDS"), REGISTER_WORDS);
     assert_eq!(number("VIERSKOF_NO_SHEET"), usize::from(u16::MAX) + 1);
+    assert_eq!(number("VIERSKOF_WINDOWS"), WINDOWS);
     let parts = ["MAJOR", "MINOR", "PATCH"];
     let parts = parts.map(|part| number(&format!("VIERSKOF_VERSION_{part}")).to_string());
     assert_eq!(parts.join("."), env!("CARGO_PKG_VERSION"));
@@ -51,7 +52,7 @@ fn limits_and_version_are_the_same() {
 #[test]
 fn each_output_is_restricted() {
     let calls: Vec<&str> = HEADER.split("\nuint64_t ").skip(1).collect();
-    assert_eq!(calls.len(), 13);
+    assert_eq!(calls.len(), 14);
     for call in calls {
         let (call, _) = call.split_once(");").expect("a prototype");
         let writes = call.contains(" out,") || call.contains(" set,");

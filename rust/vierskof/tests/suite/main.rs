@@ -9,6 +9,7 @@ mod linking;
 mod numbers;
 mod read;
 mod refusals;
+mod windows;
 mod worked;
 
 use vierskof::{Fact, Label, Obligation, Products, Reason};

@@ -162,13 +162,13 @@ fn no_register_is_15() {
 
 #[test]
 fn numbers_and_refusals_belong_together() {
-    for (number, &refusal) in (1..=11).chain([14, 15]).zip(Refusal::ALL) {
+    for (number, &refusal) in (1..).zip(Refusal::ALL) {
         assert_eq!(refusal.number(), number);
         assert_eq!(u32::from(refusal), number);
         assert_eq!(Refusal::try_from(number), Ok(refusal));
     }
-    assert_eq!(Refusal::ALL.len(), 13);
-    for number in [0, 12, 13, 16, u32::MAX] {
+    assert_eq!(Refusal::ALL.len(), 15);
+    for number in [0, 16, u32::MAX] {
         assert!(Refusal::try_from(number).is_err());
     }
     let sentences: BTreeSet<String> = Refusal::ALL.iter().map(ToString::to_string).collect();

@@ -43,7 +43,7 @@ static int same(const void *one, const void *other, size_t bytes) { return bytes
 
 // A refusal has a number of the table and no value; an accepted call's value is in its range.
 static void in_range(const struct given *given, const struct answer *answer) {
-    bool in_table = answer->number <= VIERSKOF_REFUSED_ROOM, no_register = answer->number == VIERSKOF_REFUSED_REGISTER;
+    bool in_table = answer->number <= VIERSKOF_REFUSED_ROOM && answer->number != 9, no_register = answer->number == VIERSKOF_REFUSED_REGISTER;
     HOLDS(given->call == SHEET_IN_FORCE ? no_register || answer->number == 0 : in_table);
     if (answer->number) {
         HOLDS(answer->value == 0);

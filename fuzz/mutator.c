@@ -100,13 +100,27 @@ static void change_list(struct input *input, size_t at, uint32_t word) {
     }
 }
 
-// Another outcome or shape, or four more obligations.
+// More obligations of a node 8 or 12: four, often one four times, or one as many times as the node can hold.
+static void more_obligations(struct input *input, size_t at, uint32_t word) {
+    uint32_t held = word >> 20 & 0x7F, most = word >> 28 == 8 ? 64 : 127;
+    uint32_t same = 0x01010101 * draw(input, 64);
+    if (held % 4 == 0 && held < most && draw(input, 4) == 0) {
+        put(input->data + at, word + ((most - held) << 20), 4);
+        // 127 leave a byte of the last word unused.
+        insert(input, at + 8 + held, most % 4 ? same & 0xFFFFFF00 : same);
+        for (uint32_t left = (most - held - 1) / 4; left > 0; left--) insert(input, at + 8 + held, same);
+    } else {
+        put(input->data + at, word + 0x400000, 4);
+        insert(input, at + 8, draw(input, 2) ? same : 0x00010203 + 0x04040404 * draw(input, 16));
+    }
+}
+
+// Another outcome or shape, or more obligations.
 static void change_grant(struct input *input, size_t at, uint32_t word) {
     if (draw(input, 2)) {
         put(input->data + at, word ^ (draw(input, 4) ? 1U << draw(input, 3) : 0x08000000), 4);
     } else {
-        put(input->data + at, word + 0x400000, 4);
-        insert(input, at + 8, 0x00010203 + 0x04040404 * draw(input, 16));
+        more_obligations(input, at, word);
     }
 }
 
@@ -140,6 +154,7 @@ static void change_word(struct input *input, size_t at, int sheet) {
     case 7: change_policy(input, at, sheet); break;
     case 8: change_grant(input, at, word); break;
     case 11: put(input->data + at, draw(input, 2) ? 0x90000002 : 0xA0000002, 4); break;
+    case 12: (draw(input, 2) ? more_obligations : change_facts)(input, at, word); break;
     default: change_facts(input, at, word);
     }
 }

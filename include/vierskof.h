@@ -50,25 +50,24 @@ enum {
 #define VIERSKOF_ROOM(words) (3 * (size_t)(words) + 513)
 
 /* Why a call is turned back. Of several causes a call names the first in this order: 1, 2, then 3 and 4 from fact 0 on,
-   then 5 to 9 from the first word on, then 10, then 11. A register has 15 alone. A join has an order of its own: 2 in either
+   then 5 to 8 from the first word on, then 10, then 11. 9 is not used. A register has 15 alone. A join has an order of its own: 2 in either
    table, 3 in either, 14, then 11; for windows it is 12, 13, 3, 11. Later versions may have further numbers. */
 enum vierskof_cause {
     VIERSKOF_ACCEPTED = 0,
-    VIERSKOF_REFUSED_LENGTH = 1,              /* the sheet or record has no word, or too many */
-    VIERSKOF_REFUSED_TABLE_LENGTH = 2,        /* the fact table has more than 256 bytes */
-    VIERSKOF_REFUSED_TABLE_FIELD = 3,         /* a field of the table is 3, which is no presence */
-    VIERSKOF_REFUSED_UNKNOWN_FACT = 4,        /* a fact is Unknown, where evaluating or completing needs all */
-    VIERSKOF_REFUSED_KIND = 5,                /* a node's kind may not stand where it stands */
-    VIERSKOF_REFUSED_WORDS_END = 6,           /* the words end before the record or tree is complete */
-    VIERSKOF_REFUSED_LEVEL = 7,               /* a node stands on a 33rd level */
-    VIERSKOF_REFUSED_FIELD = 8,               /* a field holds a number that it may not hold */
-    VIERSKOF_REFUSED_REPEATED_OBLIGATION = 9, /* an obligation is repeated in one list */
-    VIERSKOF_REFUSED_WORDS_AFTER_TREE = 10,   /* there are words after the tree */
-    VIERSKOF_REFUSED_ROOM = 11,               /* the result has no room in the output, or exceeds a limit */
-    VIERSKOF_REFUSED_DATE = 12,               /* a date doesn't exist or lies outside the years 1900 to 2199 */
-    VIERSKOF_REFUSED_WINDOWS = 13,            /* the list of windows isn't as it has to be, or its table isn't 256 bytes */
-    VIERSKOF_REFUSED_CLASH = 14,              /* a fact is Present in one of two joined tables and Absent in the other */
-    VIERSKOF_REFUSED_REGISTER = 15            /* the words are no register of sheets */
+    VIERSKOF_REFUSED_LENGTH = 1,            /* the sheet or record has no word, or too many */
+    VIERSKOF_REFUSED_TABLE_LENGTH = 2,      /* the fact table has more than 256 bytes */
+    VIERSKOF_REFUSED_TABLE_FIELD = 3,       /* a field of the table is 3, which is no presence */
+    VIERSKOF_REFUSED_UNKNOWN_FACT = 4,      /* a fact is Unknown, where evaluating or completing needs all */
+    VIERSKOF_REFUSED_KIND = 5,              /* a node's kind may not stand where it stands */
+    VIERSKOF_REFUSED_WORDS_END = 6,         /* the words end before the record or tree is complete */
+    VIERSKOF_REFUSED_LEVEL = 7,             /* a node stands on a 33rd level */
+    VIERSKOF_REFUSED_FIELD = 8,             /* a field holds a number that it may not hold */
+    VIERSKOF_REFUSED_WORDS_AFTER_TREE = 10, /* there are words after the tree */
+    VIERSKOF_REFUSED_ROOM = 11,             /* the result has no room in the output, or exceeds a limit */
+    VIERSKOF_REFUSED_DATE = 12,             /* a date doesn't exist or lies outside the years 1900 to 2199 */
+    VIERSKOF_REFUSED_WINDOWS = 13,          /* the list of windows isn't as it has to be, or its table isn't 256 bytes */
+    VIERSKOF_REFUSED_CLASH = 14,            /* a fact is Present in one of two joined tables and Absent in the other */
+    VIERSKOF_REFUSED_REGISTER = 15          /* the words are no register of sheets */
 };
 
 /* The number of the refusal, 0 when the call was accepted; and the call's value. */

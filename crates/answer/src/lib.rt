@@ -20,7 +20,7 @@ pub fn put_record(
     facts: &[u8],
     entries: &[u16],
     listed: usize,
-    buf: &mut [u8],
+    buf: &[u8],
     named: &mut [u16],
     out: &mut [u32],
 ) -> Answer
@@ -31,9 +31,10 @@ pub fn put_record(
     if entries.len() < listed {
         return Answer::Refused(11);
     }
-    let held = decision::obligations(words, decision, buf);
+    let mut obligations = [0u8; decision::LIST_ROOM];
+    let held = decision::obligations(words, decision, buf, &mut obligations);
     let count = clause::clause_facts(words, decision.clause, facts, named);
-    if count > policy_model::MOST_LISTED {
+    if !clause::countable(decision.permit, held, count) {
         return Answer::Refused(11);
     }
     let size = clause::decision_words(decision.permit, held, count);
@@ -41,7 +42,15 @@ pub fn put_record(
         return Answer::Refused(11);
     }
     let front = record::write_front(true, entries, listed, out);
-    let rest = clause::write_decision(words, decision, buf, held, named, count, &mut out[front..]);
+    let rest = clause::write_decision(
+        words,
+        decision,
+        &obligations,
+        held,
+        named,
+        count,
+        &mut out[front..],
+    );
     Answer::Written(front + rest)
 }
 

@@ -15,12 +15,12 @@ use Rattle.model.specs.Policy.{Policy}
 use Rattle.model.specs.Partial.{ReducedPolicy, resolved, pending}
 use Rattle.model.specs.Consulted.{Consulted, once}
 use Rattle.model.specs.Record.{Record, tree}
-use Rattle.model.specs.Writing.{mostListed, shortD, short}
+use Rattle.model.specs.Writing.{mostListed, mostHeld, shortD, short}
 use Rattle.model.specs.Reading.{Parsed, refuse, got, recordWords, recordLength}
 use Rattle.model.specs.Calls as model
 use Rattle.model.specs.Products.{Outcome, encode, encodeR, leadKind, readPolicy, readRecord, write, policyAt}
 use Rattle.laws.specs.Size.{pairs}
-use Rattle.laws.specs.Form.{FormD}
+use Rattle.laws.specs.Form.{Countable, FormD}
 use Rattle.laws.specs.Products.{InRange, writtenProducts}
 use Rattle.laws.specs.ReadForm.{ok-record}
 use Rattle.laws.specs.Canon.{same-record}
@@ -35,8 +35,8 @@ use Rattle.calls.specs.Judged.{kindOf, judgedRecord}
 use Rattle.calls.proofs.Judging.{judged-got, by-judged, few-words}
 
 -- A Resolved record that was read is written as it stands: its lists are short, and it has the length of a record.
-short-decision : (d : Decision Outcome) → FormD InRange d → shortD d ≡ true
-short-decision (permits p) h = le-leb (length (p .facts)) mostListed (h .3 .0)
+short-decision : (d : Decision Outcome) → FormD InRange Countable d → shortD d ≡ true
+short-decision (permits p) h = rw (le-leb (length (p .facts)) mostListed (h .3 .0), le-leb (length (p .obligations)) mostHeld (h .1 .0))
 short-decision (denies n) h = le-leb (length (n .facts)) mostListed (h .1 .0)
 
 write-copied : (ws : List ℕ) (room : ℕ) (x : Record Outcome) → encodeR x ≡ ws → recordLength ws ≡ true → short (tree x) ≡ true → write room x ≡ copied ws room

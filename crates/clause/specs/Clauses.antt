@@ -1,9 +1,11 @@
 -- A clause of the code as the model's clause, and how many words a decision's node takes. Document 01, "Policies" and "What a call receives".
-use mathlib.Core.Bool.{Bool, true, false}
+use mathlib.Core.Bool.{Bool, true, false, _&&_}
 use mathlib.Core.List.{List}
 use Prim.Native.Nat.{ℕ, _+_}
+use lib.Dec.{leb}
 use Rattle.model.specs.Fields.{wordsFor}
 use Rattle.model.specs.Decision.{Denial}
+use Rattle.model.specs.Writing.{mostListed, mostHeld}
 use Rattle.model.specs.Reading.{shapeOf}
 use Rattle.model.specs.Products.{Outcome}
 use Rattle.policy_model.specs.Heads.{bitOf, deniedBy}
@@ -23,3 +25,8 @@ clauseBy label reason hidden denied outcome fs =
 abbrev pub decisionSize : Bool → ℕ → ℕ → ℕ
 decisionSize true n m = 2 + wordsFor 4 n + wordsFor 2 m
 decisionSize false n m = 3 + wordsFor 2 m
+
+-- Whether such a node's counts can say so many.
+abbrev pub countable : Bool → ℕ → ℕ → Bool
+countable true n m = leb m mostListed && leb n mostHeld
+countable false n m = leb m mostListed

@@ -5,14 +5,15 @@ use policy_model::PolicyHead;
 use record::Denied;
 use record::Mark;
 ghost use mathlib.Core.Path.{_≡_};
+ghost use mathlib.Core.Bool.{true};
 ghost use mathlib.Core.List.{List};
 ghost use Prim.Native.Nat.{ℕ, _+_, _*_, _^_, _≤_, _<_, min};
 ghost use lib.ListN.{length};
 ghost use Rattle.model.specs.Facts.{tableOf};
-ghost use Rattle.model.specs.Writing.{countBits, mostListed};
-ghost use Rattle.decision.specs.Room.{obligationRoom};
+ghost use Rattle.model.specs.Writing.{mostListed};
 ghost use Rattle.clause.specs.Room.{RoomToName};
 ghost use Rattle.clause.specs.Clauses.{clauseBy, denialOf, decisionSize};
+ghost use Rattle.clause.specs.Clauses.{countable as Clauses·countable};
 ghost use Rattle.clause.specs.Answers.{FactsListed, ClauseFacts, ClauseIs, DecisionWritten};
 
 // What a node gives a decision but for facts: label, reason, shape and the outcome that was denied.
@@ -22,6 +23,9 @@ struct Clause {
     pub hidden: bool,
     pub denied: Denied,
 }
+
+// A node's count of obligations has seven bits.
+const MOST_HELD: usize = policy_model::OBLIGATION_COUNTS as usize - 1;
 
 // The levels that a grant leaves to its condition.
 const CONDITION_LEVELS: usize = policy_model::LEVELS - 1;
@@ -134,6 +138,19 @@ fn clause_at(words: &[u32], at: usize) -> Clause
     }
 }
 
+// Whether a decision's node can say so many obligations and so many facts.
+pub fn countable(permit: bool, held: usize, count: usize) -> bool
+    ensures { λ r. ⌜ r ≡ Clauses·countable permit held count ⌝ }
+{
+    if count > policy_model::MOST_LISTED {
+        return false;
+    }
+    if permit {
+        return held <= MOST_HELD;
+    }
+    true
+}
+
 // How many words a decision's node takes, with so many obligations and so many facts.
 pub fn decision_words(permit: bool, held: usize, count: usize) -> usize
     requires { ⌜ (held < 2 ^ 32) × (count < 2 ^ 32) ⌝ }
@@ -157,7 +174,7 @@ pub fn write_decision(
     count: usize,
     out: &mut [u32],
 ) -> usize
-    requires { ⌜ (held ≤ obligationRoom) × (held ≤ length (now obligations)) × (count < 2 ^ (4 + countBits)) × (count ≤ length (now named)) × (decisionSize (decision .permit) held count ≤ length (now out)) ⌝ }
+    requires { ⌜ (Clauses·countable (decision .permit) held count ≡ true) × (held ≤ length (now obligations)) × (count ≤ length (now named)) × (decisionSize (decision .permit) held count ≤ length (now out)) ⌝ }
     ensures { λ r. ⌜ DecisionWritten (now (words .entry)) decision (now (obligations .entry)) held (now (named .entry)) count (now (out .entry)) (now (out .exit)) r ⌝ }
 {
     let clause = clause_at(words, decision.clause);

@@ -13,7 +13,7 @@ use Rattle.model.specs.Consulted.{Consulted, once}
 use Rattle.model.specs.Products.{Outcome, read, readPolicy, write}
 use Rattle.laws.specs.FieldLaws.{Holds, weaker, both-hold}
 use Rattle.laws.specs.Size.{words}
-use Rattle.laws.specs.Form.{FormOf, Free}
+use Rattle.laws.specs.Form.{FormOf, Countable, Free}
 use Rattle.laws.specs.Products.{InRange, writtenProducts}
 use Rattle.laws.specs.ReadForm.{ok-T}
 use Rattle.staging.specs.Entries.{read-fits}
@@ -27,7 +27,7 @@ use Rattle.completion.specs.Answers.{LoadsConsulted, completedAfter}
 use Rattle.completion.proofs.Shallow.{few-levels-in}
 
 -- The entries before a tree and the facts that a walk lists after them are no more than two for each word, nor more than 1,024.
-pub fits-there : (W : List ℕ) (at : ℕ) (es : Consulted) (log : Policy Outcome → Consulted) → ((p : Policy Outcome) → FormOf InRange Free p → length (log p) ≤ min 1024 (length es + words p)) →
+pub fits-there : (W : List ℕ) (at : ℕ) (es : Consulted) (log : Policy Outcome → Consulted) → ((p : Policy Outcome) → FormOf InRange Free Countable p → length (log p) ≤ min 1024 (length es + words p)) →
     at ≤ length W → length es ≤ 2 * at → (res : Bool) → Holds (λ p rest. length (log p) ≤ min 1024 (2 * length W)) (readPolicy res 32 (drop at W))
 fits-there W at es log few inside near res =
     let left = length-drop at W in
@@ -50,5 +50,5 @@ module _ {W : List ℕ} {count at depth : ℕ} {T : Table} {s u : Lent} {r : Pol
             subst (λ D. Answered (write (length before) (record { body = resolved D; log = read T p (once es) })) before after a) (k .decision-is)
             (w .put (read T p (once es)) (k .sound) (log .long) (log .in-order)))
             (both-hold q (few-levels-in (drop at W) depth (omega (arith, length-drop at W)) res deep)
-            (fits-there W at es (λ p. read T p (once es)) (λ p form. read-fits productSets T InRange Free p form es named) inside near res));
+            (fits-there W at es (λ p. read T p (once es)) (λ p form. read-fits productSets T InRange Free Countable p form es named) inside near res));
       }

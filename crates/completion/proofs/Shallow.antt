@@ -15,7 +15,7 @@ use Rattle.model.specs.Reading.{Parsed, refuse, got}
 use Rattle.model.specs.Products.{Outcome, encode, readPolicy}
 use Rattle.laws.specs.FieldLaws.{Holds, nothing, fine}
 use Rattle.laws.specs.Size.{wordsC, wordsCs, wordsD, words, wordss, SheetIf}
-use Rattle.laws.specs.Form.{Few, Form, depthC, depthCs, depth, depths}
+use Rattle.laws.specs.Form.{Countable, FormOf, Few, depthC, depthCs, depth, depths}
 use Rattle.laws.specs.ReadForm.{ok-T}
 use Rattle.laws.specs.ReadBack.{back-T}
 use Rattle.laws.specs.Canon.{same-T}
@@ -57,7 +57,7 @@ module _ (W : List ℕ) (d : ℕ) (enough : min 32 (length W) ≤ d) where
   levels-within res few =
       within (readPolicy res 32 W) (ok-T InRange (productSets .value) (writtenProducts .sound) res Few 4095 (λ c h. h) 32 W few) (same-T (productSets .number) (productSets .value) (writtenProducts .only) res 32 W)
     where
-      within : (q : Parsed (Policy Outcome)) → Holds (λ t rest. Form InRange t × (depth t ≤ 32) × (words t + length rest ≡ length W) × SheetIf res t) q → Holds (λ t rest. encode t ++ rest ≡ W) q →
+      within : (q : Parsed (Policy Outcome)) → Holds (λ t rest. FormOf InRange Few Countable t × (depth t ≤ 32) × (words t + length rest ≡ length W) × SheetIf res t) q → Holds (λ t rest. encode t ++ rest ≡ W) q →
           Holds (λ t rest. readPolicy res d W ≡ got t rest) q
       within (refuse n) h e = nothing
       within (got t rest) h e =

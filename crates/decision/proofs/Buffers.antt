@@ -3,20 +3,17 @@
 use mathlib.Core.Path.{_≡_, refl, sym, _∙_, ap, ap₂, subst}
 use mathlib.Core.Bool.{false, cond}
 use mathlib.Core.List.{List, [], _++_}
-use Prim.Native.Nat.{_*_, ℕ, zero, suc, _-_, _/_, _%_, _≤_, _<_}
+use Prim.Native.Nat.{ℕ, _-_, _/_, _%_, _≤_, _<_}
 use native.Mathlib.Omega.{arith}
-use borrow.Author.Tests.{eq-eqb, ne-eqb}
-use lib.Dec.{eqb, eqb·suc-zero}
 use lib.ListN.{length, take, drop, getD, length-drop}
 use lib.Seq.{length-take-le, take-all, take-append-le, take-take, drop-at}
 use Rattle.model.specs.Facts.{Table}
-use Rattle.model.specs.Decision.{permits, denies, unionObligations}
+use Rattle.model.specs.Decision.{permits, denies}
 use Rattle.laws.specs.FieldAt.{firsts}
-use Rattle.laws.specs.Form.{FormO}
 use Rattle.decision.specs.declared.Decision.{Decision}
 use Rattle.decision.specs.Nodes.{clauseAt, obligationsAt, obligationFields}
-use Rattle.decision.specs.Meaning.{permittedAt, obligationsIn, permitOf, decisionOf, Names, Sound}
-use Rattle.decision.specs.Answers.{Loaded, United, Held, Unobliged, Both, Kept}
+use Rattle.decision.specs.Meaning.{obligationsIn, Appended, permitOf, decisionOf, Names, Sound}
+use Rattle.decision.specs.Answers.{Unobliged, Kept}
 use Rattle.decision.proofs.Nodes.{none-held, obligations-there, no-obligations}
 use Rattle.decision.specs.Room.{obligationRoom}
 
@@ -24,7 +21,7 @@ use Rattle.decision.specs.Room.{obligationRoom}
 module _ (words before after : List ℕ) (d : Decision) (e : take (d .united) after ≡ take (d .united) before) where
   pub same-obligations : obligationsIn words after d ≡ obligationsIn words before d
   unfolding obligationsIn
-  same-obligations = ap (cond (eqb (d .united) 0) (obligationsAt words (d .obligations))) e
+  same-obligations = ap (λ os. obligationsAt words (d .obligations) ++ os) e
 
   pub same-permit : (T : Table) → permitOf words T after d ≡ permitOf words T before d
   unfolding permitOf
@@ -35,7 +32,7 @@ module _ (words before after : List ℕ) (d : Decision) (e : take (d .united) af
   same-decision T = ap (λ p. cond (d .permit) (permits p) (denies (clauseAt words T (d .clause)))) (same-permit T)
 
   pub same-sound : Sound words before d → Sound words after d
-  same-sound s = record { clause = s .clause; held = s .held; formed = subst FormO (sym same-obligations) (s .formed); bare = s .bare }
+  same-sound s = record { clause = s .clause; held = s .held; appended = subst Appended (sym e) (s .appended); bare = s .bare }
 
 -- A deny has no bytes.
 module _ (words before after : List ℕ) (d : Decision) (e : d .permit ≡ false) (s : Sound words before d) where
@@ -68,25 +65,10 @@ module _ (buf tail rest : List ℕ) (room : obligationRoom ≤ length buf) where
 pub lent-tail : (buf : List ℕ) → take (length buf - obligationRoom) (drop obligationRoom buf) ≡ drop obligationRoom buf
 lent-tail buf = take-all (length buf - obligationRoom) (drop obligationRoom buf) (omega (arith, length-drop obligationRoom buf))
 
--- ---- a decision's obligations, at the front of its buffer
-pub held-bytes : (words buf : List ℕ) (d : Decision) → d .united ≤ obligationRoom → (d .united ≡ 0 → ⊥) → Held words d buf buf (d .united)
-unfolding obligationsIn
-held-bytes words buf d few n =
-    record { few = few; front = λ _. sym (ap (λ b. cond b (obligationsAt words (d .obligations)) (take (d .united) buf)) (ne-eqb (d .united) 0 n)); rest = refl }
-
-pub held-node : (words before after : List ℕ) (d : Decision) (n : ℕ) → d .united ≡ 0 → Loaded words (d .obligations) before after n → Held words d before after n
-unfolding obligationsIn
-held-node words before after d n e l =
-    record {
-      few = l .few;
-      front = λ names. l .front names ∙ sym (ap (λ b. cond b (obligationsAt words (d .obligations)) (take (d .united) before)) (eq-eqb (d .united) 0 e));
-      rest = l .rest;
-    }
-
 -- No bytes, and a node without obligations.
 unobliged-node : (words : List ℕ) (d : Decision) → d .united ≡ 0 → (Names words (d .obligations) → obligationsAt words (d .obligations) ≡ []) → Unobliged words d
 unfolding obligationsIn
-unobliged-node words d e h = record { none = λ names buf. ap (λ b. cond b (obligationsAt words (d .obligations)) (take (d .united) buf)) (eq-eqb (d .united) 0 e) ∙ h names }
+unobliged-node words d e h = record { none = λ names buf. ap₂ (λ os n. os ++ take n buf) (h names) e }
 
 pub unobliged-past : (words : List ℕ) (d : Decision) → d .united ≡ 0 → length words ≤ d .obligations → Unobliged words d
 unobliged-past words d e h = unobliged-node words d e (λ _. none-held words (d .obligations) h)
@@ -95,30 +77,3 @@ pub unobliged-there : (words : List ℕ) (d : Decision) → d .united ≡ 0 → 
 unfolding firsts
 unobliged-there words d e h z =
     unobliged-node words d e (λ names. sym (obligations-there words (d .obligations) h names) ∙ ap (λ k. obligationFields k (drop 2 (drop (d .obligations) words))) (no-obligations (getD words (d .obligations) 0) z))
-
--- Two decisions' obligations, the second one's brought to the front of its own buffer, are united.
-module _ (words before mid tail rest after : List ℕ) (sofar incoming : Decision) (count more r : ℕ) (room : 2 * obligationRoom ≤ length mid) (long : length tail ≡ length mid - obligationRoom)
-    (one : Held words sofar before mid count) (two : Held words incoming (take (length mid - obligationRoom) (drop obligationRoom mid)) tail more) where
-  first-there : Sound words before sofar → take count (take obligationRoom mid ++ (tail ++ rest)) ≡ obligationsIn words before sofar
-  first-there s = lent-front mid tail rest (omega arith) count (one .few) ∙ one .front (s .held)
-
-  second-there : Sound words (drop obligationRoom before) incoming → take more (drop obligationRoom (take obligationRoom mid ++ (tail ++ rest))) ≡ obligationsIn words (drop obligationRoom before) incoming
-  second-there t =
-      lent-back mid tail rest (omega arith) more (omega (arith, two .few))
-      ∙ two .front (t .held)
-      ∙ ap (λ buf. obligationsIn words buf incoming) (lent-tail mid ∙ one .rest)
-
-  pub united-both : United count more (take obligationRoom mid ++ (tail ++ rest)) after r → Both words sofar incoming before after r
-  united-both u =
-      record {
-        few = u .few;
-        front = λ s t.
-            u .front (subst FormO (sym (first-there s)) (s .formed)) (subst FormO (sym (second-there t)) (t .formed))
-            ∙ ap₂ unionObligations (first-there s) (second-there t);
-      }
-
--- United obligations stand in the buffer, or there are none.
-pub united-are : (words buf : List ℕ) (o at none n : ℕ) → length words ≤ none → obligationsIn words buf (permittedAt o at none n) ≡ take n buf
-unfolding obligationsIn
-united-are words buf o at none zero h = none-held words none h
-united-are words buf o at none (suc n) h = ap (λ b. cond b (obligationsAt words none) (take (suc n) buf)) (eqb·suc-zero n)

@@ -12,17 +12,15 @@ use Rattle.model.specs.Facts.{Table}
 use Rattle.model.specs.Outcome.{productSets, unionOf, intersectionOf}
 use Rattle.model.specs.Decision.{Permit, Denial, combined, unionObligations}
 use Rattle.model.specs.Products.{Outcome, meetPermit, joinPermit}
-use Rattle.laws.specs.Form.{FormO}
 use Rattle.laws.specs.Products.{InRange}
 use Rattle.laws.specs.Folds.{and-all}
 use Rattle.decision.specs.declared.Decision.{Decision}
 use Rattle.decision.specs.Nodes.{clauseAt}
 use Rattle.decision.specs.Meaning.{permittedAt, obligationsIn, permitOf, Names, past, Sound}
 use Rattle.decision.specs.Answers.{Unobliged, Both, Kept, Folded}
-use Rattle.decision.proofs.Lists.{form-union}
 use Rattle.decision.proofs.Nodes.{no-clause}
 use Rattle.decision.proofs.Standing.{permitted-is, sound-permitted}
-use Rattle.decision.proofs.Buffers.{same-permit, same-sound, united-are}
+use Rattle.decision.proofs.Buffers.{same-permit, same-sound}
 use Rattle.decision.specs.Room.{obligationRoom}
 
 -- ---- two outcomes folded from their end on
@@ -119,31 +117,22 @@ module _ (words before : List ℕ) (sofar incoming : Decision) (o : ℕ) (is : o
   join-second after r few k n e =
       keeps-second joinPermit words before sofar incoming after r few k (λ T. joins T false true n e)
 
-  -- the permit with the obligations at the front of the buffer
+  -- the permit with the obligations of the permit so far and those that were appended
   united : (after : List ℕ) (at n : ℕ) → Both words sofar incoming before after n → (T : Table) → Sound words before sofar → Sound words (drop obligationRoom before) incoming →
-      permitOf words T after (permittedAt o at (length words) n) ≡ record { outcome = o; obligations = union; label = clauseAt words T at .label; facts = clauseAt words T at .facts }
-  unfolding permitOf
-  united after at n u T s t =
-      ap (λ os. record { outcome = o; obligations = os; label = clauseAt words T at .label; facts = clauseAt words T at .facts })
-      (united-are words after o at (length words) n (omega arith) ∙ u .front s t)
+      permitOf words T after (permittedAt o at (sofar .obligations) n) ≡ record { outcome = o; obligations = union; label = clauseAt words T at .label; facts = clauseAt words T at .facts }
+  unfolding permitOf obligationsIn
+  united after at n u T s t = ap (λ os. record { outcome = o; obligations = os; label = clauseAt words T at .label; facts = clauseAt words T at .facts }) (u .united s t)
 
   united-sound : (after : List ℕ) (at n : ℕ) → Both words sofar incoming before after n → Names words at → Sound words before sofar → Sound words (drop obligationRoom before) incoming →
-      Sound words after (permittedAt o at (length words) n)
+      Sound words after (permittedAt o at (sofar .obligations) n)
   united-sound after at n u names s t =
-      record {
-        clause = names;
-        held = past (omega arith);
-        formed =
-            subst FormO (sym (united-are words after o at (length words) n (omega arith) ∙ u .front s t))
-            (form-union (obligationsIn words before sofar) (obligationsIn words (drop obligationRoom before) incoming) (s .formed) (t .formed));
-        bare = λ e. let z : _≡_ {A = ℕ} 0 1 = cc in absurd (omega arith);
-      }
+      record { clause = names; held = s .held; appended = u .appended s t; bare = λ e. let z : _≡_ {A = ℕ} 0 1 = cc in absurd (omega arith) }
 
-  pub join-both : (after : List ℕ) (n : ℕ) (r : Decision) → r ≡ permittedAt o (sofar .clause) (length words) n → Both words sofar incoming before after n →
+  pub join-both : (after : List ℕ) (n : ℕ) (r : Decision) → r ≡ permittedAt o (sofar .clause) (sofar .obligations) n → Both words sofar incoming before after n →
       eqb o (sofar .outcome) ≡ true → eqb o (incoming .outcome) ≡ true → Folded joinPermit words before after sofar incoming r
   unfolding permitOf
   join-both after n r e u m k =
-      let it : Folded joinPermit words before after sofar incoming (permittedAt o (sofar .clause) (length words) n) =
+      let it : Folded joinPermit words before after sofar incoming (permittedAt o (sofar .clause) (sofar .obligations) n) =
       record {
         few = u .few;
         permit = λ _ _. refl;
@@ -167,11 +156,11 @@ module _ (words before : List ℕ) (sofar incoming : Decision) (o : ℕ) (is : o
             ∙ ap (λ os. withObligations (permitOf words T before sofar) (unionObligations (obligationsIn words before sofar) os)) (u .none (t .held) (drop obligationRoom before)));
       }
 
-  pub join-neither : (after : List ℕ) (n : ℕ) (r : Decision) → r ≡ permittedAt o (length words) (length words) n → Both words sofar incoming before after n →
+  pub join-neither : (after : List ℕ) (n : ℕ) (r : Decision) → r ≡ permittedAt o (length words) (sofar .obligations) n → Both words sofar incoming before after n →
       eqb o (sofar .outcome) ≡ false → eqb o (incoming .outcome) ≡ false → Folded joinPermit words before after sofar incoming r
   join-neither after n r e u m k =
       let none = length words in
-      let it : Folded joinPermit words before after sofar incoming (permittedAt o none none n) =
+      let it : Folded joinPermit words before after sofar incoming (permittedAt o none (sofar .obligations) n) =
       record {
         few = u .few;
         permit = λ _ _. refl;

@@ -2,9 +2,8 @@
 use mathlib.Core.Path.{_≡_, refl, sym, _∙_, ap, ap₂, subst}
 use mathlib.Core.Bool.{Bool, true, false, cond}
 use mathlib.Core.Option.{some}
-use mathlib.Core.List.{List, []}
+use mathlib.Core.List.{List, [], _++_, append-nil}
 use Prim.Native.Nat.{ℕ, _≤_}
-use lib.Dec.{eqb}
 use lib.ListN.{length, take, drop}
 use Rattle.model.specs.Facts.{Table}
 use Rattle.model.specs.Outcome.{productSets}
@@ -14,12 +13,11 @@ use Rattle.model.specs.Policy.{Grant, Policy, grant, stored}
 use Rattle.model.specs.Evaluate.{evalGrant}
 use Rattle.model.specs.Reading.{got, levels}
 use Rattle.model.specs.Products.{Outcome, evalPolicy, readPolicy}
-use Rattle.laws.specs.Form.{FormO}
 use Rattle.laws.specs.Deeper.{deeper, follows-got}
 use Rattle.decision.specs.declared.Decision.{Decision}
 use Rattle.decision.specs.Nodes.{named, nodeAt, clauseRead, obligationsRead, clauseAt, obligationsAt}
 use Rattle.decision.specs.Meaning.{deniedAt, permittedAt, obligationsIn, permitOf, decisionOf, Names, past, Sound}
-use Rattle.decision.proofs.Nodes.{none-held, no-clause, obligations-form}
+use Rattle.decision.proofs.Nodes.{none-held, no-clause}
 
 -- ---- nodes
 -- A node that reads inside a tree, with fewer levels left or in a sheet, reads so at its position.
@@ -59,7 +57,7 @@ module _ (words : List ℕ) (T : Table) (buf : List ℕ) where
   pub permitted-is : (o none : ℕ) → length words ≤ none → permitOf words T buf (permittedAt o none none 0) ≡ combined o []
   unfolding permitOf obligationsIn
   permitted-is o none h =
-      ap₂ (λ os (c : Denial Outcome). record { outcome = o; obligations = os; label = c .label; facts = c .facts }) (none-held words none h) (no-clause words T none h)
+      ap₂ (λ os (c : Denial Outcome). record { outcome = o; obligations = os; label = c .label; facts = c .facts }) (append-nil (obligationsAt words none) ∙ none-held words none h) (no-clause words T none h)
 
   pub permitted-bare : (o none : ℕ) → length words ≤ none → decisionOf words T buf (permittedAt o none none 0) ≡ permits (combined o [])
   unfolding decisionOf
@@ -70,22 +68,20 @@ module _ (words : List ℕ) (T : Table) (buf : List ℕ) where
       decisionOf words T buf (permittedAt (g .outcome) at at 0) ≡ evalPolicy T (grant g c)
   unfolding decisionOf permitOf obligationsIn clauseAt obligationsAt
   permitted-grant at g c vs fs n e =
-      ap (λ q. permits (record { outcome = g .outcome; obligations = obligationsRead q; label = clauseRead T q .label; facts = clauseRead T q .facts })) n
+      ap (λ q. permits (record { outcome = g .outcome; obligations = obligationsRead q ++ []; label = clauseRead T q .label; facts = clauseRead T q .facts })) n
+      ∙ ap (λ os. permits (record { outcome = g .outcome; obligations = os; label = g .label; facts = named (evalCondition T c) })) (append-nil (g .obligations))
       ∙ ap (λ ev. permits (record { outcome = g .outcome; obligations = g .obligations; label = g .label; facts = named ev })) e
       ∙ sym (ap (evalGrant g) e)
 
   pub permitted-stored : (at : ℕ) (p : Permit Outcome) (vs : List ℕ) → nodeAt words at ≡ got (stored (permits p)) vs → decisionOf words T buf (permittedAt (p .outcome) at at 0) ≡ permits p
   unfolding decisionOf permitOf obligationsIn clauseAt obligationsAt
   permitted-stored at p vs n =
-      ap (λ q. permits (record { outcome = p .outcome; obligations = obligationsRead q; label = clauseRead T q .label; facts = clauseRead T q .facts })) n
+      ap (λ q. permits (record { outcome = p .outcome; obligations = obligationsRead q ++ []; label = clauseRead T q .label; facts = clauseRead T q .facts })) n
+      ∙ ap (λ os. permits (record { outcome = p .outcome; obligations = os; label = p .label; facts = p .facts })) (append-nil (p .obligations))
 
 -- ---- sound decisions
-none-formed : (words buf : List ℕ) (d : Decision) → d .united ≡ 0 → FormO (obligationsIn words buf d)
-unfolding obligationsIn
-none-formed words buf d e = subst FormO (sym (ap (λ n. cond (eqb n 0) (obligationsAt words (d .obligations)) (take n buf)) e)) (obligations-form words (d .obligations))
-
 pub sound-denied : (words buf : List ℕ) (at none : ℕ) → Names words at → length words ≤ none → Sound words buf (deniedAt at none)
-sound-denied words buf at none n h = record { clause = n; held = past h; formed = none-formed words buf (deniedAt at none) refl; bare = λ _. refl }
+sound-denied words buf at none n h = record { clause = n; held = past h; appended = (tt, tt); bare = λ _. refl }
 
 pub sound-permitted : (words buf : List ℕ) (o at : ℕ) → Names words at → Sound words buf (permittedAt o at at 0)
-sound-permitted words buf o at n = record { clause = n; held = n; formed = none-formed words buf (permittedAt o at at 0) refl; bare = λ _. refl }
+sound-permitted words buf o at n = record { clause = n; held = n; appended = (tt, tt); bare = λ _. refl }

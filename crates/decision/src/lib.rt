@@ -1,19 +1,21 @@
 // Decisions as small values, and the folds of permits over them, after gatekeep's evaluate.rs (`Permit::meet`, `Permit::join`, `union_obligations`).
-// A walk keeps no lists: a decision names nodes of the lent words by position, and only obligations that were united stand in a lent buffer.
+// A walk keeps no lists: a decision names nodes of the lent words by position, and only obligations that a join appended stand in a lent buffer.
 use outcome::Products;
 use policy_model::PolicyHead;
 ghost use mathlib.Core.Path.{_≡_};
 ghost use mathlib.Core.Bool.{true};
-ghost use Prim.Native.Nat.{_≤_, _<_};
+ghost use mathlib.Core.List.{_∷_, []};
+ghost use Prim.Native.Nat.{_≤_, _<_, _^_};
 ghost use lib.ListN.{length, take, drop};
-ghost use Rattle.model.specs.Decision.{held};
-ghost use Rattle.model.specs.Writing.{obligationBits};
+ghost use lib.Bits.{bitOr};
+ghost use Rattle.model.specs.Writing.{obligationBits, mostHeld};
+ghost use Rattle.model.specs.Reading.{obligationCount};
 ghost use Rattle.model.specs.Products.{meetPermit, joinPermit};
 ghost use Rattle.laws.specs.FieldAt.{fieldAt};
-ghost use Rattle.decision.specs.Room.{obligationRoom, RoomToUnite, Few};
-ghost use Rattle.decision.specs.Nodes.{obligationCountOf};
-ghost use Rattle.decision.specs.Meaning.{deniedAt, permittedAt};
-ghost use Rattle.decision.specs.Answers.{Listed, Loaded, Inserted, United, Held, Unobliged, Both, Kept, Folded};
+ghost use Rattle.decision.specs.Room.{obligationRoom, listRoom, RoomToUnite, Few};
+ghost use Rattle.decision.specs.Nodes.{obligationsAt, obligationCountOf, obligationFields};
+ghost use Rattle.decision.specs.Meaning.{deniedAt, permittedAt, Names};
+ghost use Rattle.decision.specs.Answers.{Listed, Loaded, Held, Masked, Grown, GrownBy, Unobliged, Both, Kept, Folded};
 
 // What was decided. A position is that of a grant or of a stored decision, or the number of words for none.
 pub struct Decision {
@@ -24,12 +26,18 @@ pub struct Decision {
     pub clause: usize,
     // of a permit: the node whose obligations it has
     pub obligations: usize,
-    // of a permit: where not 0, its obligations are instead so many bytes at the front of the buffer
+    // of a permit: how many more it has, which joins appended, at the front of the buffer
     pub united: usize,
 }
 
-// No list of obligations is longer: they are 0 to 63, and none is repeated.
-pub const OBLIGATION_ROOM: usize = policy_model::MOST_OBLIGATIONS as usize;
+// An obligation is a number below this.
+const OBLIGATION_NUMBERS: u8 = policy_model::OBLIGATION_NUMBERS as u8;
+
+// No more are appended: obligations are 0 to 63, and a join appends only those that are not held.
+pub const OBLIGATION_ROOM: usize = policy_model::OBLIGATION_NUMBERS as usize;
+
+// All obligations of a decision: at most 127 of its node, and those that were appended.
+pub const LIST_ROOM: usize = policy_model::OBLIGATION_COUNTS as usize + OBLIGATION_ROOM;
 
 // A deny with the clause of the node at `at`, or with nothing named where `at` is the number of words.
 pub fn denied_by(at: usize, none: usize) -> Decision
@@ -71,22 +79,22 @@ pub fn permitted(outcome: u16, none: usize) -> Decision
     permitted_by(outcome, none)
 }
 
-// A permit with the label and facts of the node at `at`, and with the first `united` bytes of the buffer for obligations.
-fn with_united(outcome: u16, at: usize, none: usize, united: usize) -> Decision
-    ensures { λ r. ⌜ r ≡ permittedAt outcome at none united ⌝ }
+// A permit with the label and facts of the node at `at`, and with the obligations of the node at `held` and the first `united` bytes of the buffer.
+fn with_united(outcome: u16, at: usize, held: usize, united: usize) -> Decision
+    ensures { λ r. ⌜ r ≡ permittedAt outcome at held united ⌝ }
 {
     Decision {
         permit: true,
         outcome,
         clause: at,
-        obligations: none,
+        obligations: held,
         united,
     }
 }
 
 // How many obligations a node has, by its first word.
 fn obligation_count(word: u32) -> usize
-    ensures { λ r. ⌜ (r ≡ obligationCountOf word) × (r ≤ obligationRoom) ⌝ }
+    ensures { λ r. ⌜ (r ≡ obligationCountOf word) × (r ≤ mostHeld) ⌝ }
 {
     match policy_model::policy_head(word, true) {
         PolicyHead::Grant {
@@ -104,7 +112,7 @@ fn obligation_count(word: u32) -> usize
 
 // Obligation `i` of a list that starts two words after its node's first: four to a word. 0 where the words end.
 fn obligation_at(node: &[u32], i: usize) -> u8
-    requires { ⌜ i < obligationRoom ⌝ }
+    requires { ⌜ i < mostHeld ⌝ }
     ensures { λ r. ⌜ r ≡ fieldAt obligationBits (drop 2 (now (node .entry))) i ⌝ }
 {
     let at = 2 + i / 4;
@@ -114,86 +122,161 @@ fn obligation_at(node: &[u32], i: usize) -> u8
     ((node[at] >> (24 - i % 4 * 8)) % policy_model::QUARTER) as u8
 }
 
-// Writes the first `count` obligations of a node to the front of the buffer.
-fn load_list(node: &[u32], count: usize, buf: &mut [u8])
-    requires { ⌜ (count ≤ obligationRoom) × RoomToUnite 1 (now buf) ⌝ }
-    ensures { λ r. ⌜ Listed (now (node .entry)) count (now (buf .entry)) (now (buf .exit)) ⌝ }
+// Writes the first `count` obligations of a node to the front of `out`.
+fn load_list(node: &[u32], count: usize, out: &mut [u8])
+    requires { ⌜ (count ≤ mostHeld) × (count ≤ length (now out)) ⌝ }
+    ensures { λ r. ⌜ Listed (now (node .entry)) count (now (out .exit)) ⌝ }
 {
     let mut i = 0;
     while i < count {
-        buf[i] = obligation_at(node, i);
+        out[i] = obligation_at(node, i);
         i += 1;
     }
 }
 
-// Writes the obligations of the node at `at` to the front of the buffer, and returns how many there are.
-fn load_obligations(words: &[u32], at: usize, buf: &mut [u8]) -> usize
-    requires { ⌜ RoomToUnite 1 (now buf) ⌝ }
-    ensures { λ r. ⌜ Loaded (now (words .entry)) at (now (buf .entry)) (now (buf .exit)) r ⌝ }
+// Writes the obligations of the node at `at` to the front of `out`, and returns how many there are.
+fn load_obligations(words: &[u32], at: usize, out: &mut [u8]) -> usize
+    requires { ⌜ mostHeld ≤ length (now out) ⌝ }
+    ensures { λ r. ⌜ Loaded (now (words .entry)) at (now (out .exit)) r ⌝ }
 {
     if words.len() <= at {
         return 0;
     }
     let count = obligation_count(words[at]);
-    load_list(&words[at..], count, buf);
+    load_list(&words[at..], count, out);
     count
 }
 
-// Whether one of the first `count` bytes is the obligation.
-fn holds(buf: &[u8], count: usize, obligation: u8) -> bool
-    requires { ⌜ count ≤ length (now buf) ⌝ }
-    ensures { λ r. ⌜ r ≡ held obligation (take count (now (buf .entry))) ⌝ }
+// Writes a decision's obligations to the front of `out`, and returns how many there are: those of its node, and then those that were appended.
+pub fn obligations(words: &[u32], decision: Decision, buf: &[u8], out: &mut [u8]) -> usize
+    requires { ⌜ Few decision × RoomToUnite 1 (now buf) × (listRoom ≤ length (now out)) ⌝ }
+    ensures { λ r. ⌜ Held (now (words .entry)) decision (now (buf .entry)) (now (out .exit)) r ⌝ }
 {
+    let own = load_obligations(words, decision.obligations, out);
+    let count = decision.united;
     let mut i = 0;
     while i < count {
-        if obligation == buf[i] {
-            return true;
-        }
+        out[own + i] = buf[i];
         i += 1;
     }
-    false
+    own + count
 }
 
-// Appends the obligation unless it is held, and returns the new count. A list of 64 holds every obligation, so the last test never fails.
-fn insert(buf: &mut [u8], count: usize, obligation: u8) -> usize
-    requires { ⌜ (count ≤ obligationRoom) × RoomToUnite 1 (now buf) ⌝ }
-    ensures { λ r. ⌜ Inserted count obligation (now (buf .entry)) (now (buf .exit)) r ⌝ }
+// The obligations that are held, one bit each, and how many of them stand in the buffer.
+struct Union {
+    mask: u64,
+    count: usize,
+}
+
+// The mask with one more. No obligation that reads is over 63.
+fn with_bit(mask: u64, obligation: u8) -> u64
+    ensures { λ r. ⌜ (obligation < obligationCount → r ≡ bitOr mask (2 ^ obligation)) ⌝ }
 {
-    if holds(buf, count, obligation) {
-        return count;
+    if obligation >= OBLIGATION_NUMBERS {
+        return mask;
+    }
+    mask | (1u64 << obligation)
+}
+
+// The mask of the first `count` obligations of a node.
+fn list_mask(node: &[u32], count: usize) -> u64
+    requires { ⌜ count ≤ mostHeld ⌝ }
+    ensures { λ r. ⌜ Masked 0 (obligationFields count (drop 2 (now (node .entry)))) r ⌝ }
+{
+    let mut mask: u64 = 0;
+    let mut i = 0;
+    while i < count {
+        mask = with_bit(mask, obligation_at(node, i));
+        i += 1;
+    }
+    mask
+}
+
+// The mask of the obligations of the node at `at`.
+fn node_mask(words: &[u32], at: usize) -> u64
+    ensures { λ r. ⌜ (Names (now (words .entry)) at → Masked 0 (obligationsAt (now (words .entry)) at) r) ⌝ }
+{
+    if words.len() <= at {
+        return 0;
+    }
+    list_mask(&words[at..], obligation_count(words[at]))
+}
+
+// The mask with the first `count` bytes.
+fn bytes_mask(mask: u64, buf: &[u8], count: usize) -> u64
+    requires { ⌜ count ≤ length (now buf) ⌝ }
+    ensures { λ r. ⌜ Masked mask (take count (now (buf .entry))) r ⌝ }
+{
+    let mut all = mask;
+    let mut i = 0;
+    while i < count {
+        all = with_bit(all, buf[i]);
+        i += 1;
+    }
+    all
+}
+
+// Appends the obligation unless it is held. Where 64 were appended every obligation is held, so the last test never fails.
+fn append(union: Union, obligation: u8, buf: &mut [u8]) -> Union
+    requires { ⌜ (union .count ≤ obligationRoom) × RoomToUnite 1 (now buf) ⌝ }
+    ensures { λ r. ⌜ Grown (obligation ∷ []) (now (buf .entry)) (now (buf .exit)) union r ⌝ }
+{
+    let mask = union.mask;
+    let count = union.count;
+    if obligation >= OBLIGATION_NUMBERS {
+        return union;
+    }
+    if (mask >> obligation) % 2 == 1 {
+        return union;
     }
     if count < OBLIGATION_ROOM {
         buf[count] = obligation;
-        return count + 1;
+        return Union {
+            mask: with_bit(mask, obligation),
+            count: count + 1,
+        };
     }
-    count
+    union
 }
 
-// Appends to the first `count` bytes those of the `more` bytes from the second room on that are not held, one by one, and returns the new count.
-fn union_obligations(buf: &mut [u8], count: usize, more: usize) -> usize
-    requires { ⌜ (count ≤ obligationRoom) × (more ≤ obligationRoom) × RoomToUnite 2 (now buf) ⌝ }
-    ensures { λ r. ⌜ United count more (now (buf .entry)) (now (buf .exit)) r ⌝ }
+// Appends the first `count` obligations of a node, one by one.
+fn append_list(union: Union, node: &[u32], count: usize, buf: &mut [u8]) -> Union
+    requires { ⌜ (union .count ≤ obligationRoom) × (count ≤ mostHeld) × RoomToUnite 1 (now buf) ⌝ }
+    ensures { λ r. ⌜ Grown (obligationFields count (drop 2 (now (node .entry)))) (now (buf .entry)) (now (buf .exit)) union r ⌝ }
 {
-    let mut n = count;
+    let mut all = union;
+    let mut i = 0;
+    while i < count {
+        all = append(all, obligation_at(node, i), buf);
+        i += 1;
+    }
+    all
+}
+
+// Appends those of the node at `at`.
+fn append_node(union: Union, words: &[u32], at: usize, buf: &mut [u8]) -> Union
+    requires { ⌜ (union .count ≤ obligationRoom) × RoomToUnite 1 (now buf) ⌝ }
+    ensures { λ r. ⌜ GrownBy (Names (now (words .entry)) at) (obligationsAt (now (words .entry)) at) (now (buf .entry)) (now (buf .exit)) union r ⌝ }
+{
+    if words.len() <= at {
+        return union;
+    }
+    append_list(union, &words[at..], obligation_count(words[at]), buf)
+}
+
+// Appends the `more` bytes from the second room on, one by one.
+fn append_bytes(union: Union, more: usize, buf: &mut [u8]) -> Union
+    requires { ⌜ (union .count ≤ obligationRoom) × (more ≤ obligationRoom) × RoomToUnite 2 (now buf) ⌝ }
+    ensures { λ r. ⌜ Grown (take more (drop obligationRoom (now (buf .entry)))) (now (buf .entry)) (now (buf .exit)) union r ⌝ }
+{
+    let mut all = union;
     let mut i = 0;
     while i < more {
         let obligation = buf[OBLIGATION_ROOM + i];
-        n = insert(buf, n, obligation);
+        all = append(all, obligation, buf);
         i += 1;
     }
-    n
-}
-
-// Brings a decision's obligations to the front of its buffer, and returns how many there are.
-pub fn obligations(words: &[u32], decision: Decision, buf: &mut [u8]) -> usize
-    requires { ⌜ Few decision × RoomToUnite 1 (now buf) ⌝ }
-    ensures { λ r. ⌜ Held (now (words .entry)) decision (now (buf .entry)) (now (buf .exit)) r ⌝ }
-{
-    let count = decision.united;
-    if count != 0 {
-        return count;
-    }
-    load_obligations(words, decision.obligations, buf)
+    all
 }
 
 // Whether a permit is known to have no obligations, so that there is nothing to unite. The field that counts them stands in one place in all
@@ -211,14 +294,16 @@ fn unobliged(words: &[u32], decision: Decision) -> bool
     policy_model::obligations_of(words[at]) == 0
 }
 
-// Unites the obligations of two permits at the front of the buffer, those of the permit so far first, and returns how many there are.
+// Appends the obligations of the incoming permit to those of the permit so far, and returns how many bytes of the buffer these take then.
 fn unite(words: &[u32], sofar: Decision, incoming: Decision, buf: &mut [u8]) -> usize
     requires { ⌜ Few sofar × Few incoming × RoomToUnite 2 (now buf) ⌝ }
     ensures { λ r. ⌜ Both (now (words .entry)) sofar incoming (now (buf .entry)) (now (buf .exit)) r ⌝ }
 {
-    let count = obligations(words, sofar, buf);
-    let more = obligations(words, incoming, &mut buf[OBLIGATION_ROOM..]);
-    union_obligations(buf, count, more)
+    let count = sofar.united;
+    let mask = bytes_mask(node_mask(words, sofar.obligations), buf, count);
+    let union = append_node(Union { mask, count }, words, incoming.obligations, buf);
+    let all = append_bytes(union, incoming.united, buf);
+    all.count
 }
 
 // The incoming decision of an arm, whose buffer starts at the second room, as the decision so far, whose buffer is the front.
@@ -275,7 +360,7 @@ pub fn join(words: &[u32], sofar: Decision, incoming: Decision, buf: &mut [u8]) 
                 sofar
             } else {
                 let united = unite(words, sofar, incoming, buf);
-                with_united(either.bits, sofar.clause, none, united)
+                with_united(either.bits, sofar.clause, sofar.obligations, united)
             }
         } else {
             sofar
@@ -284,6 +369,6 @@ pub fn join(words: &[u32], sofar: Decision, incoming: Decision, buf: &mut [u8]) 
         keep(incoming, buf)
     } else {
         let count = unite(words, sofar, incoming, buf);
-        with_united(either.bits, none, none, count)
+        with_united(either.bits, none, sofar.obligations, count)
     }
 }

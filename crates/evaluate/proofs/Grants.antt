@@ -46,8 +46,7 @@ unfolding Says permitTraceHead
 permit-trace-says w r =
     let h = PermitWithTrace (r / 1048576 % 128) (r % 65536) in
     let g = cond (eqb (r / 65536 % 16) 0) h BadField in
-    either-says w (eqb (r / 134217728) 0) (cond (leb (r / 1048576 % 128) mostObligations) g BadField) BadField
-    (either-says w (leb (r / 1048576 % 128) mostObligations) g BadField (either-says w (eqb (r / 65536 % 16) 0) h BadField tt tt) tt) tt
+    either-says w (eqb (r / 134217728) 0) g BadField (either-says w (eqb (r / 65536 % 16) 0) h BadField tt tt) tt
 
 deny-trace-says : (w r : ℕ) → Says w (denyTraceHead r)
 unfolding Says denyTraceHead

@@ -22,7 +22,7 @@ use Rattle.policy_model.specs.declared.PolicyHead.{PolicyHead}
 use Rattle.policy_model.specs.Heads.{policyHead, bitOf, deniedBy, grantNode, permitTraceNode, denyTraceNode}
 use Rattle.policy_model.specs.HeadLaws.{policy-node}
 use Rattle.policy_model.proofs.Checking.{word-at}
-use Rattle.policy_model.proofs.Masks.{obligations-leave}
+use Rattle.policy_model.proofs.Quads.{obligations-leave}
 use Rattle.policy_model.proofs.Policies.{nodeOf}
 
 -- ---- reading

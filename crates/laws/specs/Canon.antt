@@ -161,8 +161,7 @@ module _ {O : Type 0} (number : O → ℕ) (value : ℕ → Option O) (only : (v
       let z = r / 65536 % 16 in
       let v = r % 65536 in
       let pr = parts-of r in
-      if-holds (eqb sh 0) 8 (unless (leb n mostObligations) 8 (unless (eqb z 0) 8 (outcomeOf value (value v) (λ o. another us (λ w vs. more12 value n o (w / 65536) (w % 65536) vs))))) (λ es.
-      if-holds (leb n mostObligations) 8 (unless (eqb z 0) 8 (outcomeOf value (value v) (λ o. another us (λ w vs. more12 value n o (w / 65536) (w % 65536) vs)))) (λ _.
+      if-holds (eqb sh 0) 8 (unless (eqb z 0) 8 (outcomeOf value (value v) (λ o. another us (λ w vs. more12 value n o (w / 65536) (w % 65536) vs)))) (λ es.
       if-holds (eqb z 0) 8 (outcomeOf value (value v) (λ o. another us (λ w vs. more12 value n o (w / 65536) (w % 65536) vs))) (λ ez.
       same-outcome v (value v) (λ o. another us (λ w vs. more12 value n o (w / 65536) (w % 65536) vs)) (only v) (λ o eo.
       another-is us (λ w vs. more12 value n o (w / 65536) (w % 65536) vs) (λ w vs ew.
@@ -178,7 +177,7 @@ module _ {O : Type 0} (number : O → ℕ) (value : ℕ → Option O) (only : (v
       let head : length os * 1048576 + number o ≡ r = omega arith in
       let second : marked l * 65536 + length fs ≡ w = omega arith in
       fine (ap₂ (λ x y. word 12 x ∷ y) head
-      (ap₂ (λ x y. x ∷ y) second (append-assoc (pack obligationBits os) (pack entryBits fs) ss ∙ ap (λ y. pack obligationBits os ++ y) (efs .0) ∙ eos .0) ∙ sym ew)))))))))))
+      (ap₂ (λ x y. x ∷ y) second (append-assoc (pack obligationBits os) (pack entryBits fs) ss ∙ ap (λ y. pack obligationBits os ++ y) (efs .0) ∙ eos .0) ∙ sym ew))))))))))
 
   -- a denied outcome of which the present bit is h
   same-denied : {B : Type 0} {R : B → List ℕ → Type 0} (h v : ℕ) (k : Option O → Parsed B) → h ≤ 1 → ((x : Option O) → deniedField number x ≡ h * 67108864 + v → Holds R (k x)) → Holds R (deniedOf value h v k)

@@ -1,4 +1,4 @@
--- What document 01 asks of a tree that stands in a sheet or a record: each field fits its bits, no list repeats an obligation,
+-- What document 01 asks of a tree that stands in a sheet or a record: each field fits its bits,
 -- no list is longer than its count can say, and the nesting.
 use mathlib.Core.Path.{_≡_}
 use mathlib.Core.Bool.{Bool, true, false, _&&_}
@@ -11,9 +11,9 @@ use Rattle.model.specs.Facts.{factCount}
 use Rattle.model.specs.Condition.{Condition, always, never, has, notC, allC, anyC, Conditions, cnil, ccons}
 use Rattle.model.specs.Decision.{Permit, Denial, Decision, permits, denies}
 use Rattle.model.specs.Policy.{Grant, Policy, permit, deny, grant, all, any, orElse, stored, Policies, pnil, pcons}
-use Rattle.model.specs.Writing.{markBits, countC, count, mostListed}
-use Rattle.model.specs.Reading.{obligationCount}
-use Rattle.laws.specs.Lists.{Distinct, Below}
+use Rattle.model.specs.Writing.{markBits, countC, count, mostListed, mostHeld}
+use Rattle.model.specs.Reading.{obligationCount, mostObligations}
+use Rattle.laws.specs.Lists.{Below, repeats}
 use Rattle.laws.specs.Size.{wordsC}
 
 abbrev mutual
@@ -42,27 +42,37 @@ FormL l = IfThere (λ n. n < 2 ^ markBits) l
 abbrev pub FormF : List ℕ → Type 0
 FormF fs = (length fs ≤ mostListed) × Below factCount fs
 
--- Obligations.
-abbrev pub FormO : List ℕ → Type 0
-FormO os = Distinct os × Below obligationCount os
+-- Obligations: they may repeat, and R says how many there may be.
+abbrev pub FormO : (List ℕ → Type 0) → List ℕ → Type 0
+FormO R os = R os × Below obligationCount os
+
+-- In a Grant at most 64. In a node 12 at most 127, and in what comes of a sheet fewer than 64 that stand again, since joining adds no repeat.
+abbrev pub Granted : List ℕ → Type 0
+Granted os = length os ≤ mostObligations
+
+abbrev pub Countable : List ℕ → Type 0
+Countable os = length os ≤ mostHeld
+
+abbrev pub FewRepeats : List ℕ → Type 0
+FewRepeats os = repeats os < mostObligations
 
 -- G says which outcomes fit.
 module _ {O : Type 0} (G : O → Type 0) where
-  abbrev pub FormP : Permit O → Type 0
-  FormP p = G (p .outcome) × FormO (p .obligations) × FormL (p .label) × FormF (p .facts)
+  abbrev pub FormP : (List ℕ → Type 0) → Permit O → Type 0
+  FormP R p = G (p .outcome) × FormO R (p .obligations) × FormL (p .label) × FormF (p .facts)
 
   abbrev pub FormN : Denial O → Type 0
   FormN d = IfThere G (d .denied) × FormF (d .facts) × FormL (d .label) × FormL (d .reason)
 
-  abbrev pub FormD : Decision O → Type 0
-  FormD (permits p) = FormP p
-  FormD (denies d) = FormN d
+  abbrev pub FormD : (List ℕ → Type 0) → Decision O → Type 0
+  FormD R (permits p) = FormP R p
+  FormD R (denies d) = FormN d
 
   abbrev pub FormG : Grant O → Type 0
-  FormG g = G (g .outcome) × FormO (g .obligations) × FormL (g .label) × FormL (g .reason)
+  FormG g = G (g .outcome) × FormO Granted (g .obligations) × FormL (g .label) × FormL (g .reason)
 
--- B says what is asked of a grant's condition.
-module _ {O : Type 0} (G : O → Type 0) (B : Condition → Type 0) where
+-- B says what is asked of a grant's condition, R of a node 12's obligations.
+module _ {O : Type 0} (G : O → Type 0) (B : Condition → Type 0) (R : List ℕ → Type 0) where
   abbrev mutual
     pub FormOf : Policy O → Type 0
     FormOf (permit o) = G o
@@ -71,7 +81,7 @@ module _ {O : Type 0} (G : O → Type 0) (B : Condition → Type 0) where
     FormOf (all ts) = (count ts ≤ mostListed) × FormsOf ts
     FormOf (any ts) = (count ts ≤ mostListed) × FormsOf ts
     FormOf (orElse a b) = FormOf a × FormOf b
-    FormOf (stored d) = FormD G d
+    FormOf (stored d) = FormD G R d
 
     pub FormsOf : Policies O → Type 0
     FormsOf pnil = Unit {0}
@@ -85,10 +95,10 @@ abbrev pub Free : Condition → Type 0
 Free c = Unit {0}
 
 abbrev pub Form : {O : Type 0} → (O → Type 0) → Policy O → Type 0
-Form G t = FormOf G Few t
+Form G t = FormOf G Few FewRepeats t
 
 abbrev pub Forms : {O : Type 0} → (O → Type 0) → Policies O → Type 0
-Forms G ts = FormsOf G Few ts
+Forms G ts = FormsOf G Few FewRepeats ts
 
 -- Nesting, grant and condition together.
 abbrev mutual

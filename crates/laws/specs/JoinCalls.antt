@@ -1,5 +1,5 @@
 -- The join of tables as a call: the order of the two, and the grouping of three, makes no difference, a clash included; which numbers it is refused
--- with, 14 exactly for a clash; how long the result is and what it reads of each fact. Document 02, Ticket 2.
+-- with, 14 exactly for a clash; how long the result is and what it reads of each fact. Request 2.
 use mathlib.Core.Path.{_≡_, refl, sym, _∙_, ap, ap₂}
 use mathlib.Core.Bool.{Bool, true, false, cond, _&&_, and-comm, and-eq-true-iff}
 use mathlib.Core.Option.{Option, none, some}

@@ -5,6 +5,7 @@ pub mod Each
 pub mod Names
 pub mod Size
 pub mod Form
+pub mod FormLaws
 pub mod Lengths
 pub mod ReadForm
 pub mod FieldAtLaws
@@ -25,3 +26,4 @@ pub mod JoinCalls
 pub mod CalendarLaws
 pub mod WindowLaws
 pub mod FieldSetLaws
+pub mod Former

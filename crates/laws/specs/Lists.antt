@@ -1,5 +1,5 @@
--- Lists of numbers in which none is repeated.
-use mathlib.Core.Path.{_≡_, refl, sym, _∙_, ap, subst}
+-- Lists of numbers: in which none is repeated, and in which few are.
+use mathlib.Core.Path.{_≡_, refl, sym, _∙_, ap, ap₂, subst}
 use mathlib.Core.Bool.{Bool, true, false, cond, _||_, or-false, or-true}
 use mathlib.Core.List.{List, [], _∷_, _++_}
 use Prim.Native.Nat.{ℕ, zero, suc, _+_, _≤_, _<_}
@@ -81,10 +81,6 @@ insert-every-at Q os o false h q = every-end Q os o h q
 pub insert-every : (Q : ℕ → Type 0) (os : List ℕ) (o : ℕ) → Every Q os → Q o → Every Q (insert os o)
 insert-every Q os o h q = insert-every-at Q os o (held o os) h q
 
-pub unite-distinct : (os ps : List ℕ) → Distinct os → Distinct (unionObligations os ps)
-unite-distinct os [] d = d
-unite-distinct os (p ∷ ps) d = unite-distinct (insert os p) ps (insert-distinct os p d)
-
 pub unite-every : (Q : ℕ → Type 0) (os ps : List ℕ) → Every Q os → Every Q ps → Every Q (unionObligations os ps)
 unite-every Q os [] h k = h
 unite-every Q os (p ∷ ps) h k = unite-every Q (insert os p) ps (insert-every Q os p h (k .0)) (k .1)
@@ -139,3 +135,81 @@ pub pigeon : (n : ℕ) (os : List ℕ) → Distinct os → Below n os → length
 pigeon zero [] d h = omega arith
 pigeon zero (o ∷ os) d h = omega (arith, h .0)
 pigeon (suc n) os d h = omega (arith, without-length n os, pigeon n (without n os) (without-distinct n os d) (without-below n os d h))
+
+-- ---- lists with repeats: how many stand again later in the list
+abbrev pub repeats : List ℕ → ℕ
+repeats [] = 0
+repeats (o ∷ os) = cond (held o os) (suc (repeats os)) (repeats os)
+
+more-by : (n m : ℕ) (b : Bool) → n ≤ m → cond b (suc n) n ≤ suc m
+more-by n m true h = omega arith
+more-by n m false h = omega arith
+
+repeats-rest : (o : ℕ) (os : List ℕ) → repeats (o ∷ os) ≤ length os
+repeats-rest o [] = omega arith
+repeats-rest o (p ∷ os) = more-by (repeats (p ∷ os)) (length os) (held o (p ∷ os)) (repeats-rest p os)
+
+-- Of a list one at least stands once.
+pub repeats-few : (n : ℕ) (os : List ℕ) → length os ≤ n → 0 < n → repeats os < n
+repeats-few n [] h p = p
+repeats-few n (o ∷ os) h p = omega (arith, repeats-rest o os)
+
+held-other : (x o : ℕ) (os : List ℕ) → eqb x o ≡ false → held x (os ++ o ∷ []) ≡ held x os
+held-other x o [] e = rw e
+held-other x o (p ∷ os) e = ap (λ b. eqb x p || b) (held-other x o os e)
+
+repeats-end : (os : List ℕ) (o : ℕ) → held o os ≡ false → repeats (os ++ o ∷ []) ≡ repeats os
+repeats-end [] o h = refl
+repeats-end (p ∷ os) o h =
+    let e : eqb p o ≡ false = eqb-sym o p (or-false-l (eqb o p) (held o os) h) in
+    ap₂ (λ b n. cond b (suc n) n) (held-other p o os e) (repeats-end os o (or-false-r (eqb o p) (held o os) h))
+
+insert-repeats-at : (os : List ℕ) (o : ℕ) (b : Bool) → held o os ≡ b → repeats (cond b os (os ++ o ∷ [])) ≡ repeats os
+insert-repeats-at os o true e = refl
+insert-repeats-at os o false e = repeats-end os o e
+
+-- Joining appends what is not held, one by one: it adds no repeat.
+pub unite-repeats : (os ps : List ℕ) → repeats (unionObligations os ps) ≡ repeats os
+unite-repeats os [] = refl
+unite-repeats os (p ∷ ps) = unite-repeats (insert os p) ps ∙ insert-repeats-at os p (held p os) refl
+
+-- Each once.
+abbrev onceEach : List ℕ → List ℕ
+onceEach [] = []
+onceEach (o ∷ os) = cond (held o os) (onceEach os) (o ∷ onceEach os)
+
+once-held-at : (x o : ℕ) (os : List ℕ) (b : Bool) → held x (o ∷ os) ≡ false → held x (onceEach os) ≡ false → held x (cond b (onceEach os) (o ∷ onceEach os)) ≡ false
+once-held-at x o os true h k = k
+once-held-at x o os false h k = or-falses (eqb x o) (held x (onceEach os)) (or-false-l (eqb x o) (held x os) h) k
+
+once-held : (x : ℕ) (os : List ℕ) → held x os ≡ false → held x (onceEach os) ≡ false
+once-held x [] h = refl
+once-held x (o ∷ os) h = once-held-at x o os (held o os) h (once-held x os (or-false-r (eqb x o) (held x os) h))
+
+once-distinct-at : (o : ℕ) (os : List ℕ) (b : Bool) → held o os ≡ b → Distinct (onceEach os) → Distinct (cond b (onceEach os) (o ∷ onceEach os))
+once-distinct-at o os true e d = d
+once-distinct-at o os false e d = (once-held o os e, d)
+
+once-distinct : (os : List ℕ) → Distinct (onceEach os)
+once-distinct [] = tt
+once-distinct (o ∷ os) = once-distinct-at o os (held o os) refl (once-distinct os)
+
+once-every-at : (Q : ℕ → Type 0) (o : ℕ) (os : List ℕ) (b : Bool) → Q o → Every Q (onceEach os) → Every Q (cond b (onceEach os) (o ∷ onceEach os))
+once-every-at Q o os true q h = h
+once-every-at Q o os false q h = (q, h)
+
+once-every : (Q : ℕ → Type 0) (os : List ℕ) → Every Q os → Every Q (onceEach os)
+once-every Q [] h = tt
+once-every Q (o ∷ os) h = once-every-at Q o os (held o os) (h .0) (once-every Q os (h .1))
+
+once-length-at : (o : ℕ) (os : List ℕ) (b : Bool) → length os ≡ repeats os + length (onceEach os) → length (o ∷ os) ≡ cond b (suc (repeats os)) (repeats os) + length (cond b (onceEach os) (o ∷ onceEach os))
+once-length-at o os true h = omega arith
+once-length-at o os false h = omega arith
+
+once-length : (os : List ℕ) → length os ≡ repeats os + length (onceEach os)
+once-length [] = refl
+once-length (o ∷ os) = once-length-at o os (held o os) (once-length os)
+
+-- Of numbers below n a list has no more than n and its repeats.
+pub most-repeated : (n : ℕ) (os : List ℕ) → Below n os → length os ≤ repeats os + n
+most-repeated n os h = omega (arith, once-length os, pigeon n (onceEach os) (once-distinct os) (once-every (λ o. o < n) os h))

@@ -1,5 +1,6 @@
--- Every refusal has a number of document 01's table, "How a request is turned back": 1 to 11. So 0 can say that a call was accepted. Assumes nothing.
-use mathlib.Core.Bool.{Bool, true, false, cond, not, _&&_}
+-- Every refusal has a number of document 01's table, "How a request is turned back": 1 to 11, but for 9, which no longer occurs. So 0 can say that a call was accepted. Assumes nothing.
+use mathlib.Core.Path.{_≡_}
+use mathlib.Core.Bool.{Bool, true, false, cond, _&&_}
 use mathlib.Core.Option.{Option, none, some}
 use mathlib.Core.List.{List, [], _∷_}
 use Prim.Native.Nat.{ℕ, zero, suc, _+_, _-_, _/_, _%_, _^_, _≤_}
@@ -10,7 +11,7 @@ use Rattle.model.specs.Fields.{bits, split, perWord}
 use Rattle.model.specs.Facts.{factBits, factCount, TableKind, partialFacts, knownFacts, fieldFault, orFault, firstFault, tableFields, tableBytes, tableFault, tableOf}
 use Rattle.model.specs.Outcome.{Outcomes, outcomeBits}
 use Rattle.model.specs.Condition.{Condition, always, never, has, cnil, ccons, notC, allC, anyC}
-use Rattle.model.specs.Decision.{Decision, permits, denies, held}
+use Rattle.model.specs.Decision.{Decision, permits, denies}
 use Rattle.model.specs.Policy.{Policy, deny, grant, all, any, orElse, permit, stored, pnil, pcons}
 use Rattle.model.specs.Partial.{ReducedPolicy, resolved, pending, Order}
 use Rattle.model.specs.Consulted.{Consulted}
@@ -19,9 +20,9 @@ use Rattle.model.specs.Writing.{encodeR, countBits, markBits, obligationBits, e
 use Rattle.model.specs.Reading.{Parsed, refuse, got, next, unless, another, Fields, bad, ok, put, takeField, takeFields, readWords, readList, obligation, fewObligations, listed, entry, consulted, kindOf, restOf, plain, counted, many, nodeC, readCondition, levels, sheetLength, recordLength, whole, mark, shapeOf, outcomeOf, deniedOf, grantMore, parseGrant, grantAt, more12, parse12, at12, more13, parse13, at13, asStored, inResidual, nodeP, lastKind, readPolicy, readSheet, node14, parse14, parse15, rest, leads, readLead, readRecord, obligationCount}
 use Rattle.model.specs.Calls.{Answer, refusal, wrote, unlessLong, unlessFault, onRead, fits, write, evaluate, partialEvaluate, narrowResidual, completeResidual}
 
--- A number of the table.
+-- A number of the table. There is no 9: obligations may repeat.
 abbrev pub Cause : ℕ → Type 0
-Cause n = (1 ≤ n) × (n ≤ 11)
+Cause n = (1 ≤ n) × (n ≤ 11) × (n ≡ 9 → ⊥)
 
 -- What reads, or is refused with a number of the table.
 abbrev pub Numbered : {A : Type 0} → Parsed A → Type 0
@@ -42,25 +43,22 @@ unless-numbered true n p c h = h
 unless-numbered false n p c h = c
 
 one : Cause 1
-one = (omega arith, omega arith)
+one = (omega arith, omega arith, λ e. omega arith)
 
 five : Cause 5
-five = (omega arith, omega arith)
+five = (omega arith, omega arith, λ e. omega arith)
 
 six : Cause 6
-six = (omega arith, omega arith)
+six = (omega arith, omega arith, λ e. omega arith)
 
 seven : Cause 7
-seven = (omega arith, omega arith)
+seven = (omega arith, omega arith, λ e. omega arith)
 
 eight : Cause 8
-eight = (omega arith, omega arith)
-
-nine : Cause 9
-nine = (omega arith, omega arith)
+eight = (omega arith, omega arith, λ e. omega arith)
 
 ten : Cause 10
-ten = (omega arith, omega arith)
+ten = (omega arith, omega arith, λ e. omega arith)
 
 plain-numbered : {A : Type 0} (r : ℕ) (p : Parsed A) → Numbered p → Numbered (plain r p)
 plain-numbered r p h = unless-numbered (eqb r 0) 8 p eight h
@@ -117,7 +115,7 @@ module _ {A : Type 0} (chk : List A → ℕ → Parsed A) (sound : (xs : List A)
   list-numbered width k ws = words-numbered width (perWord width) ws (ok [] k) tt
 
 obligation-numbered : (os : List ℕ) (b : ℕ) → Numbered (obligation os b)
-obligation-numbered os b = unless-numbered (ltb b obligationCount) 8 (unless (not (held b os)) 9 (got b [])) eight (unless-numbered (not (held b os)) 9 (got b []) nine tt)
+obligation-numbered os b = unless-numbered (ltb b obligationCount) 8 (got b []) eight tt
 
 listed-numbered : (fs : List ℕ) (b : ℕ) → Numbered (listed fs b)
 listed-numbered fs b = unless-numbered (ltb b factCount) 8 (got b []) eight tt
@@ -224,10 +222,9 @@ module _ {O : Type 0} (value : ℕ → Option O) where
   parse12-numbered sh n z v ws =
       let more : O → ℕ → List ℕ → Parsed (Decision O) = λ o w vs. more12 value n o (w / 2 ^ (4 + countBits)) (w % 2 ^ (4 + countBits)) vs in
       let body : Parsed (Decision O) = outcomeOf value (value v) (λ o. another ws (more o)) in
-      unless-numbered (eqb sh 0) 8 (unless (fewObligations n) 8 (unless (eqb z 0) 8 body)) eight
-      (unless-numbered (fewObligations n) 8 (unless (eqb z 0) 8 body) eight (unless-numbered (eqb z 0) 8 body eight
+      unless-numbered (eqb sh 0) 8 (unless (eqb z 0) 8 body) eight (unless-numbered (eqb z 0) 8 body eight
       (outcome-numbered (value v) (λ o. another ws (more o)) (λ o. another-numbered ws (more o)
-      (λ w vs. more12-numbered n o (w % 2 ^ (4 + countBits)) (w / 2 ^ (4 + countBits)) vs)))))
+      (λ w vs. more12-numbered n o (w % 2 ^ (4 + countBits)) (w / 2 ^ (4 + countBits)) vs))))
 
   at12-numbered : (r : ℕ) (ws : List ℕ) → Numbered (at12 value r ws)
   at12-numbered r ws = parse12-numbered (r / 2 ^ (7 + 4 + outcomeBits)) (bits (4 + outcomeBits) 7 r) (bits outcomeBits 4 r) (r % 2 ^ outcomeBits) ws
@@ -334,8 +331,8 @@ field-faulty : (k : TableKind) (q : ℕ) → Faulty (fieldFault k q)
 field-faulty k zero = tt
 field-faulty k (suc zero) = tt
 field-faulty partialFacts (suc (suc zero)) = tt
-field-faulty knownFacts (suc (suc zero)) = (omega arith, omega arith)
-field-faulty k (suc (suc (suc n))) = (omega arith, omega arith)
+field-faulty knownFacts (suc (suc zero)) = (omega arith, omega arith, λ e. omega arith)
+field-faulty k (suc (suc (suc n))) = (omega arith, omega arith, λ e. omega arith)
 
 or-faulty : (a b : Option ℕ) → Faulty a → Faulty b → Faulty (orFault a b)
 or-faulty none b h g = g
@@ -350,7 +347,7 @@ table-faulty k bs = by (leb (length bs) tableBytes)
   where
     by : (b : Bool) → Faulty (cond b (firstFault k (tableFields bs)) (some 2))
     by true = first-faulty k (tableFields bs)
-    by false = (omega arith, omega arith)
+    by false = (omega arith, omega arith, λ e. omega arith)
 
 -- ---- the four calls
 abbrev pub Told : Answer → Type 0
@@ -375,7 +372,7 @@ module _ (L : Outcomes) where
     where
       by : (b : Bool) → Told (cond b (wrote (encodeR (L .number) r)) (refusal 11))
       by true = tt
-      by false = (omega arith, omega arith)
+      by false = (omega arith, omega arith, λ e. omega arith)
 
   pub evaluate-told : (sheet facts : List ℕ) (room : ℕ) → Told (evaluate L sheet facts room)
   evaluate-told sheet facts room =

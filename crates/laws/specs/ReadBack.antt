@@ -11,19 +11,19 @@ use lib.ListN.{length}
 use Rattle.model.specs.Fields.{pack}
 use Rattle.model.specs.Facts.{Presence, absent, present, unknown}
 use Rattle.model.specs.Condition.{Condition, always, never, has, notC, allC, anyC, Conditions, cnil, ccons}
-use Rattle.model.specs.Decision.{Shape, forbidden, hidden, Permit, Denial, Decision, permits, denies, held}
+use Rattle.model.specs.Decision.{Shape, forbidden, hidden, Permit, Denial, Decision, permits, denies}
 use Rattle.model.specs.Policy.{Grant, Policy, permit, deny, grant, all, any, orElse, stored, Policies, pnil, pcons}
 use Rattle.model.specs.Partial.{ReducedPolicy, resolved, pending}
 use Rattle.model.specs.Consulted.{Entry, Consulted}
 use Rattle.model.specs.Record.{Record, tree}
 use Rattle.model.specs.Writing.{obligationBits, entryBits, word, shapeBit, marked, presenceField, entryField, countC, count, encodeC, encodeCs, deniedField, encodeD, encode, encodes, encodeR}
 use Rattle.model.specs.Reading.{Parsed, got, next, unless, readList, obligation, listed, entry, consulted, many, nodeC, readCondition, whole, mark, shapeOf, outcomeOf, deniedOf, grantMore, parseGrant, grantAt, more12, parse12, at12, more13, parse13, at13, asStored, node, readPolicy, readSheet, node14, parse14, parse15, rest, leads, readLead, readRecord, obligationCount, mostObligations}
-use Rattle.laws.specs.Lists.{Distinct, Every, Below, eqb-sym, or-false-l, or-false-r, held-end, pigeon}
+use Rattle.laws.specs.Lists.{Below}
 use Rattle.laws.specs.FieldAt.{Narrow}
 use Rattle.laws.specs.FieldLaws.{Passes, back-list}
 use Rattle.laws.specs.FieldAtLaws.{narrow-below, narrow-entries}
 use Rattle.laws.specs.Size.{IsSheet, SheetIf, SheetsIf}
-use Rattle.laws.specs.Form.{FormC, FormCs, IfThere, FormL, FormO, FormP, FormN, FormD, FormG, Form, Forms, depthC, depthCs, depth, depths}
+use Rattle.laws.specs.Form.{FormC, FormCs, IfThere, FormL, Countable, FormP, FormN, FormD, FormG, FormOf, FormsOf, Few, depthC, depthCs, depth, depths}
 use Rattle.laws.specs.ReadForm.{Named}
 
 -- ---- tests
@@ -77,26 +77,9 @@ mutual
 abbrev self : ℕ → ℕ
 self n = n
 
--- None of the list is held yet.
-abbrev Fresh : List ℕ → List ℕ → Type 0
-Fresh sofar os = Every (λ o. held o sofar ≡ false) os
-
-fresh-end : (sofar : List ℕ) (o : ℕ) (os : List ℕ) → held o os ≡ false → Fresh sofar os → Fresh (sofar ++ o ∷ []) os
-fresh-end sofar o [] h f = tt
-fresh-end sofar o (p ∷ os) h f =
-    (held-end p o sofar (f .0) (eqb-sym o p (or-false-l (eqb o p) (held o os) h)), fresh-end sofar o os (or-false-r (eqb o p) (held o os) h) (f .1))
-
-fresh-nil : (os : List ℕ) → Fresh [] os
-fresh-nil [] = tt
-fresh-nil (o ∷ os) = (refl, fresh-nil os)
-
-obligation-passes : (os : List ℕ) (o : ℕ) → o < obligationCount → held o os ≡ false → obligation os o ≡ got o []
-obligation-passes os o h f = unless-is 8 (unless (not (held o os)) 9 (got o [])) (lt-ltb o obligationCount h) ∙ unless-is 9 (got o []) (ap not f)
-
-passes-obligations : (os sofar : List ℕ) → Below obligationCount os → Distinct os → Fresh sofar os → Passes self obligation sofar os
-passes-obligations [] sofar b d f = tt
-passes-obligations (o ∷ os) sofar b d f =
-    (obligation-passes sofar o (b .0) (f .0), passes-obligations os (sofar ++ o ∷ []) (b .1) (d .1) (fresh-end sofar o os (d .0) (f .1)))
+passes-obligations : (os sofar : List ℕ) → Below obligationCount os → Passes self obligation sofar os
+passes-obligations [] sofar b = tt
+passes-obligations (o ∷ os) sofar b = (unless-is 8 (got o []) (lt-ltb o obligationCount (b .0)), passes-obligations os (sofar ++ o ∷ []) (b .1))
 
 -- Numbers below n, as they are packed.
 narrow : (width n : ℕ) (vs : List ℕ) → n ≤ 2 ^ width → Below n vs → Narrow width (map self vs)
@@ -106,10 +89,10 @@ passes-facts : (fs sofar : List ℕ) → Below 1024 fs → Passes self listed so
 passes-facts [] sofar b = tt
 passes-facts (f ∷ fs) sofar b = (unless-is 8 (got f []) (lt-ltb f 1024 (b .0)), passes-facts fs (sofar ++ f ∷ []) (b .1))
 
-back-obligations : (os : List ℕ) (ws : List ℕ) → FormO os → readList obligation obligationBits (length os) (pack obligationBits os ++ ws) ≡ got os ws
+back-obligations : (os : List ℕ) (ws : List ℕ) → Below obligationCount os → readList obligation obligationBits (length os) (pack obligationBits os ++ ws) ≡ got os ws
 back-obligations os ws f =
     ap (λ l. readList obligation obligationBits (length os) (pack obligationBits l ++ ws)) (sym (map-id os))
-    ∙ back-list self obligation obligationBits 3 os ws refl (narrow obligationBits obligationCount os (omega arith) (f .1)) (passes-obligations os [] (f .1) (f .0) (fresh-nil os))
+    ∙ back-list self obligation obligationBits 3 os ws refl (narrow obligationBits obligationCount os (omega arith) f) (passes-obligations os [] f)
 
 back-facts : (fs : List ℕ) (ws : List ℕ) → Below 1024 fs → readList listed entryBits (length fs) (pack entryBits fs ++ ws) ≡ got fs ws
 back-facts fs ws f =
@@ -168,12 +151,9 @@ module _ {O : Type 0} (G : O → Type 0) (number : O → ℕ) (value : ℕ → O
   back-grantMore p g c ws f h =
       ap (λ q. next q (λ l _. next (mark (marked (g .reason))) (λ m _. next (readList obligation obligationBits (length (g .obligations)) (pack obligationBits (g .obligations) ++ (encodeC c ++ ws))) (λ os vs. next (p vs) (λ x us. got (grant (record { outcome = g .outcome; obligations = os; label = l; reason = m; shape = shapeOf (shapeBit (g .shape)) }) x) us))))) (mark-back (g .label) (f .2))
       ∙ ap (λ q. next q (λ m _. next (readList obligation obligationBits (length (g .obligations)) (pack obligationBits (g .obligations) ++ (encodeC c ++ ws))) (λ os vs. next (p vs) (λ x us. got (grant (record { outcome = g .outcome; obligations = os; label = g .label; reason = m; shape = shapeOf (shapeBit (g .shape)) }) x) us)))) (mark-back (g .reason) (f .3))
-      ∙ ap (λ q. next q (λ os vs. next (p vs) (λ x us. got (grant (record { outcome = g .outcome; obligations = os; label = g .label; reason = g .reason; shape = shapeOf (shapeBit (g .shape)) }) x) us))) (back-obligations (g .obligations) (encodeC c ++ ws) (f .1))
+      ∙ ap (λ q. next q (λ os vs. next (p vs) (λ x us. got (grant (record { outcome = g .outcome; obligations = os; label = g .label; reason = g .reason; shape = shapeOf (shapeBit (g .shape)) }) x) us))) (back-obligations (g .obligations) (encodeC c ++ ws) (f .1 .1))
       ∙ ap (λ q. next q (λ x us. got (grant (record { outcome = g .outcome; obligations = g .obligations; label = g .label; reason = g .reason; shape = shapeOf (shapeBit (g .shape)) }) x) us)) h
       ∙ ap (λ s. got (grant (record { outcome = g .outcome; obligations = g .obligations; label = g .label; reason = g .reason; shape = s }) c) ws) (shape-back (g .shape))
-
-  obligations-few : (os : List ℕ) → FormO os → length os ≤ mostObligations
-  obligations-few os f = pigeon obligationCount os (f .0) (f .1)
 
   back-grant : (p : List ℕ → Parsed Condition) (g : Grant O) (c : Condition) (ws : List ℕ) → FormG G g → p (encodeC c ++ ws) ≡ got c ws
       → grantAt value p (shapeBit (g .shape) * 134217728 + length (g .obligations) * 1048576 + number (g .outcome)) ((marked (g .label) * 65536 + marked (g .reason)) ∷ (pack obligationBits (g .obligations) ++ (encodeC c ++ ws))) ≡ got (grant g c) ws
@@ -184,7 +164,7 @@ module _ {O : Type 0} (G : O → Type 0) (number : O → ℕ) (value : ℕ → O
       let r = sb * 134217728 + n * 1048576 + o in
       let w = marked (g .label) * 65536 + marked (g .reason) in
       let vs = pack obligationBits (g .obligations) ++ (encodeC c ++ ws) in
-      let few = obligations-few (g .obligations) (f .1) in
+      let few : length (g .obligations) ≤ mostObligations = f .1 .0 in
       let so = small (g .outcome) (f .0) in
       let ss = shape-small (g .shape) in
       let mr = marked-small (g .reason) (f .3) in
@@ -201,7 +181,7 @@ module _ {O : Type 0} (G : O → Type 0) (number : O → ℕ) (value : ℕ → O
       ∙ (λ i. grantMore value p sb n (g .outcome) (e₅ i) (e₆ i) vs)
       ∙ back-grantMore p g c ws f h
 
-  back-12 : (q : Permit O) (ws : List ℕ) → FormP G q
+  back-12 : (q : Permit O) (ws : List ℕ) → FormP G Countable q
       → at12 value (length (q .obligations) * 1048576 + number (q .outcome)) ((marked (q .label) * 65536 + length (q .facts)) ∷ ((pack obligationBits (q .obligations) ++ pack entryBits (q .facts)) ++ ws)) ≡ got (permits q) ws
   back-12 q ws f =
       let n = length (q .obligations) in
@@ -211,7 +191,7 @@ module _ {O : Type 0} (G : O → Type 0) (number : O → ℕ) (value : ℕ → O
       let w = marked (q .label) * 65536 + m in
       let vs = (pack obligationBits (q .obligations) ++ pack entryBits (q .facts)) ++ ws in
       let vs′ = pack obligationBits (q .obligations) ++ (pack entryBits (q .facts) ++ ws) in
-      let few = obligations-few (q .obligations) (f .1) in
+      let few = f .1 .0 in
       let so = small (q .outcome) (f .0) in
       let fm : m ≤ 4095 = f .3 .0 in
       let e₁ : r / 134217728 ≡ 0 = omega arith in
@@ -223,12 +203,11 @@ module _ {O : Type 0} (G : O → Type 0) (number : O → ℕ) (value : ℕ → O
       let e₆ : w % 65536 ≡ m = omega arith in
       let mk : Option ℕ → List ℕ → List ℕ → List ℕ → Parsed (Decision O) = λ l os fs us. got (permits (record { outcome = q .outcome; obligations = os; label = l; facts = fs })) us in
       (λ i. parse12 value (e₁ i) (e₂ i) (e₃ i) (e₄ i) (w ∷ vs))
-      ∙ unless-is 8 (outcomeOf value (value o) (λ x. more12 value n x (w / 65536) (w % 65536) vs)) (le-leb n mostObligations few)
       ∙ outcome-back (q .outcome) (f .0) (λ x. more12 value n x (w / 65536) (w % 65536) vs)
       ∙ (λ i. more12 value n (q .outcome) (e₅ i) (e₆ i) (append-assoc (pack obligationBits (q .obligations)) (pack entryBits (q .facts)) ws i))
       ∙ ap (λ x. next x (λ l _. unless (ltb m 4096) 8 (next (readList obligation obligationBits n vs′) (λ os us. next (readList listed entryBits m us) (λ fs ts. mk l os fs ts))))) (mark-back (q .label) (f .2))
       ∙ unless-is 8 (next (readList obligation obligationBits n vs′) (λ os us. next (readList listed entryBits m us) (λ fs ts. mk (q .label) os fs ts))) (lt-ltb m 4096 (omega arith))
-      ∙ ap (λ x. next x (λ os us. next (readList listed entryBits m us) (λ fs ts. mk (q .label) os fs ts))) (back-obligations (q .obligations) (pack entryBits (q .facts) ++ ws) (f .1))
+      ∙ ap (λ x. next x (λ os us. next (readList listed entryBits m us) (λ fs ts. mk (q .label) os fs ts))) (back-obligations (q .obligations) (pack entryBits (q .facts) ++ ws) (f .1 .1))
       ∙ ap (λ x. next x (λ fs ts. mk (q .label) (q .obligations) fs ts)) (back-facts (q .facts) ws (f .3 .1))
 
   -- the denied outcome, by its present bit
@@ -293,9 +272,9 @@ module _ {O : Type 0} (G : O → Type 0) (number : O → ℕ) (value : ℕ → O
   parse-word : (res : Bool) (d k r : ℕ) (ws : List ℕ) → r < 268435456 → readPolicy value res (suc d) (word k r ∷ ws) ≡ node value res (λ vs. readCondition d vs) (λ vs. readPolicy value res d vs) k r ws
   parse-word res d k r ws h = λ i. node value res (λ vs. readCondition d vs) (λ vs. readPolicy value res d vs) (word-kind k r h i) (word-rest k r h i) ws
 
-  back-D : (d : ℕ) (e : Decision O) (ws : List ℕ) → FormD G e → readPolicy value true (suc d) (encodeD number e ++ ws) ≡ got (stored e) ws
+  back-D : (d : ℕ) (e : Decision O) (ws : List ℕ) → FormD G Countable e → readPolicy value true (suc d) (encodeD number e ++ ws) ≡ got (stored e) ws
   back-D d (permits q) ws f =
-      let few = obligations-few (q .obligations) (f .1) in
+      let few = f .1 .0 in
       let so = small (q .outcome) (f .0) in
       parse-word true d 12 (length (q .obligations) * 1048576 + number (q .outcome)) ((marked (q .label) * 65536 + length (q .facts)) ∷ ((pack obligationBits (q .obligations) ++ pack entryBits (q .facts)) ++ ws)) (omega arith)
       ∙ ap (asStored value) (back-12 q ws f)
@@ -333,7 +312,7 @@ module _ {O : Type 0} (G : O → Type 0) (number : O → ℕ) (value : ℕ → O
   rest-if false t ts s = s .1
 
   mutual
-    pub back-T : (t : Policy O) (res : Bool) (d : ℕ) (ws : List ℕ) → depth t ≤ d → Form G t → SheetIf res t → readPolicy value res d (encode number t ++ ws) ≡ got t ws
+    pub back-T : (t : Policy O) (res : Bool) (d : ℕ) (ws : List ℕ) → depth t ≤ d → FormOf G Few Countable t → SheetIf res t → readPolicy value res d (encode number t ++ ws) ≡ got t ws
     back-T (permit o) res zero ws h f s = let z : ⊥ = omega arith in absurd z
     back-T (permit o) res (suc d) ws h f s =
         let so = small o f in
@@ -346,7 +325,7 @@ module _ {O : Type 0} (G : O → Type 0) (number : O → ℕ) (value : ℕ → O
     back-T deny res (suc d) ws h f s = parse-word res d 7 0 ws (omega arith)
     back-T (grant g c) res zero ws h f s = let z : ⊥ = omega arith in absurd z
     back-T (grant g c) res (suc d) ws h f s =
-        let few = obligations-few (g .obligations) (f .0 .1) in
+        let few : length (g .obligations) ≤ mostObligations = f .0 .1 .0 in
         let so = small (g .outcome) (f .0 .0) in
         let ss = shape-small (g .shape) in
         let r = shapeBit (g .shape) * 134217728 + length (g .obligations) * 1048576 + number (g .outcome) in
@@ -374,7 +353,7 @@ module _ {O : Type 0} (G : O → Type 0) (number : O → ℕ) (value : ℕ → O
     back-T (stored e) true (suc d) ws h f s = back-D d e ws f
     back-T (stored e) false (suc d) ws h f s = absurd s
 
-    back-Ts : (ts : Policies O) (res : Bool) (d : ℕ) (ws : List ℕ) → depths ts ≤ d → Forms G ts → SheetsIf res ts → many pnil pcons (λ vs. readPolicy value res d vs) (count ts) (encodes number ts ++ ws) ≡ got ts ws
+    back-Ts : (ts : Policies O) (res : Bool) (d : ℕ) (ws : List ℕ) → depths ts ≤ d → FormsOf G Few Countable ts → SheetsIf res ts → many pnil pcons (λ vs. readPolicy value res d vs) (count ts) (encodes number ts ++ ws) ≡ got ts ws
     back-Ts pnil res d ws h f s = refl
     back-Ts (pcons t ts) res d ws h f s =
         ap (λ vs. many pnil pcons (λ us. readPolicy value res d us) (suc (count ts)) vs) (append-assoc (encode number t) (encodes number ts) ws)
@@ -382,16 +361,16 @@ module _ {O : Type 0} (G : O → Type 0) (number : O → ℕ) (value : ℕ → O
         ∙ ap (λ q. next q (λ xs us. got (pcons t xs) us)) (back-Ts ts res d ws (omega arith) (f .1) (rest-if res t ts s))
 
   -- A sheet of good form is read back from its words.
-  pub back-sheet : (t : Policy O) → IsSheet t → Form G t → depth t ≤ 32 → length (encode number t) ≤ 4096 → 1 ≤ length (encode number t) → readSheet value (encode number t) ≡ got t []
+  pub back-sheet : (t : Policy O) → IsSheet t → FormOf G Few Countable t → depth t ≤ 32 → length (encode number t) ≤ 4096 → 1 ≤ length (encode number t) → readSheet value (encode number t) ≡ got t []
   back-sheet t s f d k m =
       unless-is 1 (whole (readPolicy value false 32 (encode number t))) (both-is (leb 1 (length (encode number t))) (leb (length (encode number t)) 4096) (le-leb 1 (length (encode number t)) m) (le-leb (length (encode number t)) 4096 k))
       ∙ ap (λ us. whole (readPolicy value false 32 us)) (sym (append-nil (encode number t)))
       ∙ ap whole (back-T t false 32 [] d f s)
 
   -- ---- records
-  back-14 : (e : Decision O) (ws : List ℕ) → FormD G e → parse14 value (encodeD number e ++ ws) ≡ got (resolved e) ws
+  back-14 : (e : Decision O) (ws : List ℕ) → FormD G Countable e → parse14 value (encodeD number e ++ ws) ≡ got (resolved e) ws
   back-14 (permits q) ws f =
-      let few = obligations-few (q .obligations) (f .1) in
+      let few = f .1 .0 in
       let so = small (q .outcome) (f .0) in
       let r = length (q .obligations) * 1048576 + number (q .outcome) in
       let hr : r < 268435456 = omega arith in
@@ -420,7 +399,7 @@ module _ {O : Type 0} (G : O → Type 0) (number : O → ℕ) (value : ℕ → O
   lead-word : (k : ℕ) (n : ℕ) (vs : List ℕ) → n < 268435456 → readLead value (word k n ∷ vs) ≡ unless (leb 14 k) 5 (leads value (k - 14) n vs)
   lead-word k n vs h = λ i. unless (leb 14 (word-kind k n h i)) 5 (leads value (word-kind k n h i - 14) (word-rest k n h i) vs)
 
-  back-lead : (b : ReducedPolicy O) (es : Consulted) (ws : List ℕ) → length es < 4096 → Named es → Form G (tree (record { body = b; log = es })) → depth (tree (record { body = b; log = es })) ≤ 32
+  back-lead : (b : ReducedPolicy O) (es : Consulted) (ws : List ℕ) → length es < 4096 → Named es → FormOf G Few Countable (tree (record { body = b; log = es })) → depth (tree (record { body = b; log = es })) ≤ 32
       → readLead value (encodeR number (record { body = b; log = es }) ++ ws) ≡ got (record { body = b; log = es }) ws
   back-lead (resolved e) es ws n f g h =
       lead-word 14 (length es) ((pack entryBits (map entryField es) ++ encodeD number e) ++ ws) (omega arith)
@@ -430,7 +409,7 @@ module _ {O : Type 0} (G : O → Type 0) (number : O → ℕ) (value : ℕ → O
       ∙ back-rest (parse15 value) (pending t) es (encode number t) ws n f (ap (λ q. next q (λ x us. got (pending x) us)) (back-T t true 32 ws h g tt))
 
   -- A record of good form is read back from its words.
-  pub back-R : (r : Record O) → length (r .log) < 4096 → Named (r .log) → Form G (tree r) → depth (tree r) ≤ 32 → length (encodeR number r) ≤ 16384 → readRecord value (encodeR number r) ≡ got r []
+  pub back-R : (r : Record O) → length (r .log) < 4096 → Named (r .log) → FormOf G Few Countable (tree r) → depth (tree r) ≤ 32 → length (encodeR number r) ≤ 16384 → readRecord value (encodeR number r) ≡ got r []
   back-R r n f g h k =
       unless-is 1 (whole (readLead value (encodeR number r))) (both-is (leb 1 (length (encodeR number r))) (leb (length (encodeR number r)) 16384) (le-leb 1 (length (encodeR number r)) (omega arith)) (le-leb (length (encodeR number r)) 16384 k))
       ∙ ap (λ us. whole (readLead value us)) (sym (append-nil (encodeR number r)))

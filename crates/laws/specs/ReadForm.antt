@@ -1,7 +1,7 @@
--- What is read is of good form: a sheet or record that is accepted has fields that fit, lists that repeat no obligation,
+-- What is read is of good form: a sheet or record that is accepted has fields that fit,
 -- the nesting that was allowed, and as many words as were read.
 use mathlib.Core.Path.{_≡_, refl, sym, _∙_, ap, ap₂, subst}
-use mathlib.Core.Bool.{Bool, true, false, cond, not, _&&_}
+use mathlib.Core.Bool.{Bool, true, false, cond, _&&_}
 use mathlib.Core.Option.{Option, none, some}
 use mathlib.Core.List.{List, [], _∷_, _++_}
 use Prim.Native.Nat.{ℕ, zero, suc, _+_, _-_, _*_, _/_, _%_, _≤_, _<_, max}
@@ -12,7 +12,7 @@ use lib.ListN.{length, length-append}
 use Rattle.model.specs.Fields.{wordsFor, perWord}
 use Rattle.model.specs.Facts.{absent, present, unknown, factCount}
 use Rattle.model.specs.Condition.{Condition, always, never, has, notC, allC, anyC, Conditions, cnil, ccons}
-use Rattle.model.specs.Decision.{Decision, permits, denies, held}
+use Rattle.model.specs.Decision.{Decision, permits, denies}
 use Rattle.model.specs.Policy.{Policy, permit, deny, grant, all, any, orElse, stored, Policies, pnil, pcons}
 use Rattle.model.specs.Partial.{ReducedPolicy, resolved, pending, asResidual}
 use Rattle.model.specs.Consulted.{Entry, Consulted}
@@ -20,10 +20,10 @@ use Rattle.model.specs.Record.{Record, tree}
 use Rattle.model.specs.Writing.{obligationBits, entryBits, entryField, countC, count, mostListed}
 use Rattle.model.specs.Reading.{Parsed, refuse, got, next, unless, another, readList, obligation, listed, entry, consulted, kindOf, restOf, counted, many, nodeC, readCondition, recordLength, whole, mark, shapeOf, outcomeOf, deniedOf, grantMore, parseGrant, more12, at12, more13, at13, asStored, inResidual, nodeP, lastKind, readPolicy, readSheet, node14, parse14, parse15, rest, leads, readLead, readRecord, obligationCount, mostObligations}
 use Rattle.model.specs.Calls.{fits}
-use Rattle.laws.specs.Lists.{Below, distinct-end, every-end}
+use Rattle.laws.specs.Lists.{Below, every-end}
 use Rattle.laws.specs.FieldLaws.{Holds, fine, nothing, if-holds, weaker, then-holds, both-hold, same-list, kept-list}
-use Rattle.laws.specs.Size.{wordsC, wordsCs, wordsD, words, wordss, wordsR, IsSheet, SheetIf, SheetsIf}
-use Rattle.laws.specs.Form.{FormC, FormCs, IfThere, FormL, FormO, FormD, FormOf, FormsOf, Few, Free, Form, depthC, depthCs, depth, depths}
+use Rattle.laws.specs.Size.{wordsC, wordsCs, wordsD, words, wordss, wordsR, IsSheet, AreSheets, SheetIf, SheetsIf}
+use Rattle.laws.specs.Form.{FormC, FormCs, IfThere, FormL, Countable, FewRepeats, FormD, FormOf, FormsOf, Few, Free, Form, depthC, depthCs, depth, depths}
 
 and-right : (a b : Bool) → (a && b) ≡ true → b ≡ true
 and-right true b e = e
@@ -66,26 +66,24 @@ ok-C (suc d) (w ∷ ws) = node-C d (λ vs. readCondition d vs) (λ vs. ok-C d vs
 
 -- ---- obligations, facts, entries: a field that passes its check is what it stands for
 pub same-obligation : (os : List ℕ) (b : ℕ) → Holds (λ a _. a ≡ b) (obligation os b)
-same-obligation os b = if-holds (ltb b obligationCount) 8 (unless (not (held b os)) 9 (got b [])) (λ _. if-holds (not (held b os)) 9 (got b []) (λ _. fine refl))
+same-obligation os b = if-holds (ltb b obligationCount) 8 (got b []) (λ _. fine refl)
 
 pub same-listed : (fs : List ℕ) (b : ℕ) → Holds (λ a _. a ≡ b) (listed fs b)
 same-listed fs b = if-holds (ltb b 1024) 8 (got b []) (λ _. fine refl)
 
-obligation-keeps : (os : List ℕ) (b : ℕ) → FormO os → Holds (λ a _. FormO (os ++ a ∷ [])) (obligation os b)
-obligation-keeps os b f =
-    if-holds (ltb b obligationCount) 8 (unless (not (held b os)) 9 (got b [])) (λ e. if-holds (not (held b os)) 9 (got b [])
-    (λ g. fine (distinct-end os b (f .0) (not-true (held b os) g), every-end (λ o. o < obligationCount) os b (f .1) (ltb-true b obligationCount e))))
+obligation-keeps : (os : List ℕ) (b : ℕ) → Below obligationCount os → Holds (λ a _. Below obligationCount (os ++ a ∷ [])) (obligation os b)
+obligation-keeps os b f = if-holds (ltb b obligationCount) 8 (got b []) (λ e. fine (every-end (λ o. o < obligationCount) os b f (ltb-true b obligationCount e)))
 
 listed-keeps : (fs : List ℕ) (b : ℕ) → Below 1024 fs → Holds (λ a _. Below 1024 (fs ++ a ∷ [])) (listed fs b)
 listed-keeps fs b f = if-holds (ltb b 1024) 8 (got b []) (λ e. fine (every-end (λ o. o < 1024) fs b f (ltb-true b 1024 e)))
 
 abbrev pub OkOs : ℕ → ℕ → List ℕ → List ℕ → Type 0
-OkOs n l os vs = FormO os × (length os ≡ n) × (wordsFor (perWord obligationBits) n + length vs ≡ l)
+OkOs n l os vs = Below obligationCount os × (length os ≡ n) × (wordsFor (perWord obligationBits) n + length vs ≡ l)
 
 pub ok-obligations : (n : ℕ) (ws : List ℕ) → Holds (OkOs n (length ws)) (readList obligation obligationBits n ws)
 ok-obligations n ws =
     weaker (readList obligation obligationBits n ws) (λ os vs h. (h .0, h .1 .long, h .1 .took-words))
-    (both-hold (readList obligation obligationBits n ws) (kept-list obligation FormO obligation-keeps obligationBits n ws (tt, tt))
+    (both-hold (readList obligation obligationBits n ws) (kept-list obligation (Below obligationCount) obligation-keeps obligationBits n ws tt)
     (same-list (λ o. o) obligation same-obligation obligationBits 3 n ws refl))
 
 abbrev pub OkFs : ℕ → ℕ → List ℕ → List ℕ → Type 0
@@ -157,10 +155,10 @@ module _ {O : Type 0} (G : O → Type 0) (value : ℕ → Option O) (sound : (n 
 
   -- ---- nodes 12 and 13
   abbrev OkD : ℕ → Decision O → List ℕ → Type 0
-  OkD n d ws = FormD G d × (wordsD d + length ws ≡ n)
+  OkD n d ws = FormD G Countable d × (wordsD d + length ws ≡ n)
 
-  ok-more12 : (n : ℕ) (o : O) (lab m : ℕ) (ws : List ℕ) → G o → Holds (OkD (2 + length ws)) (more12 value n o lab m ws)
-  ok-more12 n o lab m ws g =
+  ok-more12 : (n : ℕ) (o : O) (lab m : ℕ) (ws : List ℕ) → G o → n < 128 → Holds (OkD (2 + length ws)) (more12 value n o lab m ws)
+  ok-more12 n o lab m ws g few =
       let made : Option ℕ → List ℕ → List ℕ → List ℕ → Parsed (Decision O) = λ l os fs us. got (permits (record { outcome = o; obligations = os; label = l; facts = fs })) us in
       then-holds (mark lab) (λ l _. counted m (next (readList obligation obligationBits n ws) (λ os vs. next (readList listed entryBits m vs) (made l os)))) (ok-mark lab) (λ l _ fl.
       if-holds (ltb m 4096) 8 (next (readList obligation obligationBits n ws) (λ os vs. next (readList listed entryBits m vs) (made l os))) (λ e.
@@ -171,19 +169,18 @@ module _ {O : Type 0} (G : O → Type 0) (value : ℕ → Option O) (sound : (n 
       let j : length fs ≡ m = ff .1 in
       let u = fo .2 in
       let v = ff .2 in
-      fine ((g, fo .0, fl, (omega arith, ff .0)), ap₂ (λ x y. 2 + wordsFor (perWord obligationBits) x + wordsFor (perWord entryBits) y + length us) k j ∙ omega arith)))))
+      fine ((g, (omega arith, fo .0), fl, (omega arith, ff .0)), ap₂ (λ x y. 2 + wordsFor (perWord obligationBits) x + wordsFor (perWord entryBits) y + length us) k j ∙ omega arith)))))
 
   ok-12 : (r : ℕ) (ws : List ℕ) → Holds (OkD (suc (length ws))) (at12 value r ws)
   ok-12 r ws =
       let sh = r / 134217728 in
       let n = r / 1048576 % 128 in
       let more : O → ℕ → List ℕ → Parsed (Decision O) = λ o w vs. more12 value n o (w / 65536) (w % 65536) vs in
-      if-holds (eqb sh 0) 8 (unless (leb n mostObligations) 8 (unless (eqb (r / 65536 % 16) 0) 8 (outcomeOf value (value (r % 65536)) (λ o. another ws (more o))))) (λ _.
-      if-holds (leb n mostObligations) 8 (unless (eqb (r / 65536 % 16) 0) 8 (outcomeOf value (value (r % 65536)) (λ o. another ws (more o)))) (λ _.
+      if-holds (eqb sh 0) 8 (unless (eqb (r / 65536 % 16) 0) 8 (outcomeOf value (value (r % 65536)) (λ o. another ws (more o)))) (λ _.
       if-holds (eqb (r / 65536 % 16) 0) 8 (outcomeOf value (value (r % 65536)) (λ o. another ws (more o))) (λ _.
       outcome-holds (value (r % 65536)) (λ o. another ws (more o)) (sound (r % 65536)) (λ o g.
       another-holds ws (more o) (λ w vs e.
-      weaker (more o w vs) (λ d us h. (h .0, h .1 ∙ omega arith)) (ok-more12 n o (w / 65536) (w % 65536) vs g))))))
+      weaker (more o w vs) (λ d us h. (h .0, h .1 ∙ omega arith)) (ok-more12 n o (w / 65536) (w % 65536) vs g (omega arith))))))
 
   ok-more13 : (sh : ℕ) (den : Option O) (lab rea : ℕ) (ws : List ℕ) → IfThere G den → Holds (OkD (2 + length ws)) (more13 value sh den lab rea ws)
   ok-more13 sh den lab rea ws g =
@@ -236,14 +233,14 @@ module _ {O : Type 0} (G : O → Type 0) (value : ℕ → Option O) (sound : (n 
   module _ (res : Bool) (B : Condition → Type 0) (m : ℕ) (bound : (c : Condition) → wordsC c ≤ m → B c) where
     -- the form, the levels, the words there were
     abbrev OkT : ℕ → ℕ → Policy O → List ℕ → Type 0
-    OkT d n t ws = FormOf G B t × (depth t ≤ d) × (words t + length ws ≡ n) × SheetIf res t
+    OkT d n t ws = FormOf G B Countable t × (depth t ≤ d) × (words t + length ws ≡ n) × SheetIf res t
 
     abbrev OkTs : ℕ → ℕ → ℕ → Policies O → List ℕ → Type 0
-    OkTs d n k ts ws = FormsOf G B ts × (depths ts ≤ d) × (wordss ts + length ws ≡ n) × (count ts ≡ k) × SheetsIf res ts
+    OkTs d n k ts ws = FormsOf G B Countable ts × (depths ts ≤ d) × (wordss ts + length ws ≡ n) × (count ts ≡ k) × SheetsIf res ts
 
-    ok-grantMore : (d : ℕ) (p : List ℕ → Parsed Condition) → ((ws : List ℕ) → Holds (OkC d (length ws)) (p ws)) → (sh n : ℕ) (o : O) (lab rea : ℕ) (ws : List ℕ) → G o → length ws ≤ m
+    ok-grantMore : (d : ℕ) (p : List ℕ → Parsed Condition) → ((ws : List ℕ) → Holds (OkC d (length ws)) (p ws)) → (sh n : ℕ) (o : O) (lab rea : ℕ) (ws : List ℕ) → G o → n ≤ mostObligations → length ws ≤ m
         → Holds (OkT (suc d) (suc (suc (length ws)))) (grantMore value p sh n o lab rea ws)
-    ok-grantMore d p hp sh n o lab rea ws g room =
+    ok-grantMore d p hp sh n o lab rea ws g few room =
         let made : Option ℕ → Option ℕ → List ℕ → Condition → List ℕ → Parsed (Policy O) = λ l e os c us. got (grant (record { outcome = o; obligations = os; label = l; reason = e; shape = shapeOf sh }) c) us in
         then-holds (mark lab) (λ l _. next (mark rea) (λ e _. next (readList obligation obligationBits n ws) (λ os vs. next (p vs) (made l e os)))) (ok-mark lab) (λ l _ fl.
         then-holds (mark rea) (λ e _. next (readList obligation obligationBits n ws) (λ os vs. next (p vs) (made l e os))) (ok-mark rea) (λ e _ fm.
@@ -252,18 +249,18 @@ module _ {O : Type 0} (G : O → Type 0) (value : ℕ → Option O) (sound : (n 
         let k : length os ≡ n = fo .1 in
         let u = fo .2 in
         let v = fc .2 in
-        fine (((g, fo .0, fl, fm), fc .0, bound c (omega arith)), omega arith, ap (λ x. 2 + wordsFor (perWord obligationBits) x + wordsC c + length us) k ∙ omega arith, sheet-if res (grant (record { outcome = o; obligations = os; label = l; reason = e; shape = shapeOf sh }) c) tt)))))
+        fine (((g, (omega arith, fo .0), fl, fm), fc .0, bound c (omega arith)), omega arith, ap (λ x. 2 + wordsFor (perWord obligationBits) x + wordsC c + length us) k ∙ omega arith, sheet-if res (grant (record { outcome = o; obligations = os; label = l; reason = e; shape = shapeOf sh }) c) tt)))))
 
     ok-grant : (d : ℕ) (p : List ℕ → Parsed Condition) → ((ws : List ℕ) → Holds (OkC d (length ws)) (p ws)) → (sh n z v : ℕ) (ws : List ℕ) → length ws ≤ m
         → Holds (OkT (suc d) (suc (length ws))) (parseGrant value p sh n z v ws)
     ok-grant d p hp sh n z v ws room =
         let more : O → ℕ → List ℕ → Parsed (Policy O) = λ o w vs. grantMore value p sh n o (w / 65536) (w % 65536) vs in
-        if-holds (leb n mostObligations) 8 (unless (eqb z 0) 8 (outcomeOf value (value v) (λ o. another ws (more o)))) (λ _.
+        if-holds (leb n mostObligations) 8 (unless (eqb z 0) 8 (outcomeOf value (value v) (λ o. another ws (more o)))) (λ few.
         if-holds (eqb z 0) 8 (outcomeOf value (value v) (λ o. another ws (more o))) (λ _.
         outcome-holds (value v) (λ o. another ws (more o)) (sound v) (λ o g.
         another-holds ws (more o) (λ w vs e.
         weaker (more o w vs) (λ t us h. (h .0, h .1, h .2 ∙ ap suc (sym e), h .3))
-        (ok-grantMore d p hp sh n o (w / 65536) (w % 65536) vs g (omega arith))))))
+        (ok-grantMore d p hp sh n o (w / 65536) (w % 65536) vs g (leb-true n mostObligations few) (omega arith))))))
 
     module _ (d : ℕ) (p : List ℕ → Parsed (Policy O)) (hp : (ws : List ℕ) → length ws ≤ suc m → Holds (OkT d (length ws)) (p ws)) where
       many-T : (k : ℕ) (ws : List ℕ) → length ws ≤ suc m → Holds (OkTs d (length ws) k) (many pnil pcons p k ws)
@@ -314,6 +311,21 @@ module _ {O : Type 0} (G : O → Type 0) (value : ℕ → Option O) (sound : (n 
   whole-holds (got a []) f h = fine (f a (h .it))
   whole-holds (got a (w ∷ ws)) f h = nothing
 
+  -- A sheet has no node 12, so whatever is asked of one holds.
+  mutual
+    sheet-form : (B : Condition → Type 0) (R S : List ℕ → Type 0) (t : Policy O) → IsSheet t → FormOf G B R t → FormOf G B S t
+    sheet-form B R S (permit o) s f = f
+    sheet-form B R S deny s f = f
+    sheet-form B R S (grant g c) s f = f
+    sheet-form B R S (all ts) s f = (f .0, sheets-form B R S ts s (f .1))
+    sheet-form B R S (any ts) s f = (f .0, sheets-form B R S ts s (f .1))
+    sheet-form B R S (orElse a b) s f = (sheet-form B R S a (s .0) (f .0), sheet-form B R S b (s .1) (f .1))
+    sheet-form B R S (stored d) s f = absurd s
+
+    sheets-form : (B : Condition → Type 0) (R S : List ℕ → Type 0) (ts : Policies O) → AreSheets ts → FormsOf G B R ts → FormsOf G B S ts
+    sheets-form B R S pnil s f = tt
+    sheets-form B R S (pcons t ts) s f = (sheet-form B R S t (s .0) (f .0), sheets-form B R S ts (s .1) (f .1))
+
   -- A sheet that is read: of good form, nested at most 32 deep, with as many words as were given, at most 4,096.
   abbrev pub OkSheet : List ℕ → Policy O → List ℕ → Type 0
   OkSheet ws t vs = Form G t × (depth t ≤ 32) × (words t ≡ length ws) × IsSheet t × (words t ≤ 4096)
@@ -322,19 +334,19 @@ module _ {O : Type 0} (G : O → Type 0) (value : ℕ → Option O) (sound : (n 
   ok-sheet ws =
       if-holds (leb 1 (length ws) && leb (length ws) 4096) 1 (whole (readPolicy value false 32 ws)) (λ e.
       let room : length ws ≤ 4096 = leb-true (length ws) 4096 (and-right (leb 1 (length ws)) (leb (length ws) 4096) e) in
-      whole-holds (readPolicy value false 32 ws) (λ t h. (h .0, h .1, omega arith, h .3, omega arith)) (ok-T false Few 4095 (λ c h. h) 32 ws room))
+      whole-holds (readPolicy value false 32 ws) (λ t h. (sheet-form Few Countable FewRepeats t (h .3) (h .0), h .1, omega arith, h .3, omega arith)) (ok-T false Few 4095 (λ c h. h) 32 ws room))
 
   -- ---- records
   -- A record that is read: a tree of good form, nested at most 32 deep, entries that name facts, and as many words as were given.
   pub record OkRecord (n : ℕ) (r : Record O) : Type 0 where
-    pub form : FormOf G Free (tree r)
+    pub form : FormOf G Free Countable (tree r)
     pub deep : depth (tree r) ≤ 32
     pub entries : Named (r .log)
     pub few : length (r .log) ≤ mostListed
     pub long : wordsR r ≡ n
 
   abbrev OkB : ℕ → ReducedPolicy O → List ℕ → Type 0
-  OkB n b ws = FormOf G Free (asResidual b) × (depth (asResidual b) ≤ 32) × (words (asResidual b) + length ws ≡ n)
+  OkB n b ws = FormOf G Free Countable (asResidual b) × (depth (asResidual b) ≤ 32) × (words (asResidual b) + length ws ≡ n)
 
   ok-node14 : (k r : ℕ) (ws : List ℕ) → Holds (OkB (suc (length ws))) (node14 value k r ws)
   ok-node14 zero r ws = then-holds (at12 value r ws) (λ d vs. got (resolved d) vs) (ok-12 r ws) (λ d vs h. fine (h .0, omega arith, h .1))

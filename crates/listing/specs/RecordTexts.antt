@@ -16,16 +16,16 @@ use Rattle.model.specs.Decision.{Shape, forbidden, hidden, Permit, Denial, Deci
 use Rattle.model.specs.Partial.{ReducedPolicy, resolved, pending}
 use Rattle.model.specs.Consulted.{Entry, Consulted}
 use Rattle.model.specs.Record.{Record}
-use Rattle.model.specs.Writing.{word, marked, shapeBit, presenceField, entryField, obligationBits, entryBits, mostListed}
-use Rattle.model.specs.Reading.{Parsed, refuse, got, shapeOf, obligationCount, mostObligations}
+use Rattle.model.specs.Writing.{word, marked, shapeBit, presenceField, entryField, obligationBits, entryBits, mostListed, mostHeld}
+use Rattle.model.specs.Reading.{Parsed, refuse, got, shapeOf, obligationCount}
 use Rattle.model.specs.Listing.{text, newline, digits, decimal, listOf, line, shapeName, presenceText, entryText, listing}
 use Rattle.model.specs.Products.{Outcome, deniedField, encodeD, encodeR, readRecord}
-use Rattle.laws.specs.Lists.{Below, pigeon}
+use Rattle.laws.specs.Lists.{Below}
 use Rattle.laws.specs.FieldAt.{fieldAt, firsts}
 use Rattle.laws.specs.FieldLaws.{Holds}
 use Rattle.laws.specs.FieldAtLaws.{fields-held, narrow-below, narrow-entries, presence-few, presence-back}
 use Rattle.laws.specs.Lengths.{length-pack}
-use Rattle.laws.specs.Form.{IfThere, FormP, FormN, FormD}
+use Rattle.laws.specs.Form.{IfThere, Countable, FormP, FormN, FormD}
 use Rattle.laws.specs.Products.{InRange, writtenProducts}
 use Rattle.laws.specs.ReadBack.{shape-back, shape-small}
 use Rattle.laws.specs.ReadForm.{Named, OkRecord, ok-record}
@@ -57,7 +57,7 @@ unfolding fieldText
 facts-same [] = refl
 facts-same (f ∷ fs) = ap (λ l. decimal f ∷ l) (facts-same fs)
 
-low-seven : (x n : ℕ) → x ≡ 3072 + n → n ≤ mostObligations → x % 128 ≡ n
+low-seven : (x n : ℕ) → x ≡ 3072 + n → n ≤ mostHeld → x % 128 ≡ n
 low-seven x n e h = omega arith
 
 denied-small : (x : Option ℕ) → IfThere InRange x → deniedField x < 134217728
@@ -92,14 +92,14 @@ module _ (ws : List ℕ) where
   later-words : (at n : ℕ) (us vs : List ℕ) → length us ≡ n → drop at ws ≡ us ++ vs → drop (at + n) ws ≡ vs
   later-words at n us vs l e = sym (drop-drop n at ws) ∙ ap (drop n) e ∙ drop-at us vs n l
 
-  permit-held : (at : ℕ) (p : Permit Outcome) → drop at ws ≡ encodeD (permits p) → FormP InRange p
+  permit-held : (at : ℕ) (p : Permit Outcome) → drop at ws ≡ encodeD (permits p) → FormP InRange Countable p
       → permitText ws at ≡ permitLines (p .outcome) (listOf (map decimal (p .obligations))) (listOf (map decimal (p .facts)))
   unfolding permitText permitLists
   permit-held at p e f =
       let os = p .obligations in
       let fs = p .facts in
       let packed = pack obligationBits os ++ pack entryBits fs in
-      let few : length os ≤ mostObligations = pigeon obligationCount os (f .1 .0) (f .1 .1) in
+      let few : length os ≤ mostHeld = f .1 .0 in
       let listed : length fs ≤ mostListed = f .3 .0 in
       let first : getD ws at 0 ≡ word 12 (length os * 1048576 + p .outcome) = first-word at (word 12 (length os * 1048576 + p .outcome)) ((marked (p .label) * 65536 + length fs) ∷ packed) e in
       let after : drop (at + 1) ws ≡ (marked (p .label) * 65536 + length fs) ∷ packed = later-words at 1 (word 12 (length os * 1048576 + p .outcome) ∷ []) ((marked (p .label) * 65536 + length fs) ∷ packed) refl e in
@@ -132,11 +132,11 @@ module _ (ws : List ℕ) where
       ap₂ (λ s n. denyLines (shapeOf s) (fieldsText Facts ws (at + 3) n)) es em
       ∙ ap₂ denyLines (shape-back (d .shape)) (facts-held (at + 3) fs [] tail (f .1 .1))
 
-  decision-held : (at : ℕ) (d : Decision Outcome) → drop at ws ≡ encodeD d → FormD InRange d → decisionText ws at ≡ decided d
+  decision-held : (at : ℕ) (d : Decision Outcome) → drop at ws ≡ encodeD d → FormD InRange Countable d → decisionText ws at ≡ decided d
   unfolding decisionText
   decision-held at (permits p) e f =
       let w = word 12 (length (p .obligations) * 1048576 + p .outcome) in
-      let few : length (p .obligations) ≤ mostObligations = pigeon obligationCount (p .obligations) (f .1 .0) (f .1 .1) in
+      let few : length (p .obligations) ≤ mostHeld = f .1 .0 in
       let small : p .outcome < 65536 = f .0 in
       let first : getD ws at 0 ≡ w = first-word at w ((marked (p .label) * 65536 + length (p .facts)) ∷ (pack obligationBits (p .obligations) ++ pack entryBits (p .facts))) e in
       ap (λ b. cond b (permitText ws at) (denyText ws at)) (eq-eqb (getD ws at 0 / 268435456) 12 (omega arith))
@@ -172,7 +172,7 @@ listing-lines (permits p) l =
 listing-lines (denies d) l = deny-lines (d .shape) (listOf (map decimal (d .facts))) (listOf (map entryText l))
 
 -- The words of a Resolved record.
-resolved-text : (d : Decision Outcome) (l : Consulted) → FormD InRange d → Named l → length l ≤ mostListed
+resolved-text : (d : Decision Outcome) (l : Consulted) → FormD InRange Countable d → Named l → length l ≤ mostListed
     → recordText (encodeR (record { body = resolved d; log = l })) ≡ listing d l
 unfolding recordText
 resolved-text d l f named few =

@@ -1,4 +1,4 @@
--- Gregorian dates from 1900 to 2199, and ages. Document 02, request 1.
+-- Gregorian dates from 1900 to 2199, and ages. Request 1.
 use mathlib.Core.Bool.{Bool, true, false, cond, not, _&&_, _||_}
 use mathlib.Core.List.{List, [], _∷_}
 use Prim.Native.Nat.{ℕ, zero, suc, _+_, _-_, _%_}

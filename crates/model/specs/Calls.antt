@@ -1,5 +1,5 @@
 -- The calls over words, bytes and an output. Document 01, "How a request is turned back".
--- Order of the causes: 1, 2, the table's fields (3 or 4), the words from the first (5 to 9), 10, then 11.
+-- Order of the causes: 1, 2, the table's fields (3 or 4), the words from the first (5 to 8), 10, then 11.
 use mathlib.Core.Bool.{Bool, true, false, cond, _&&_}
 use mathlib.Core.Option.{Option, none, some}
 use mathlib.Core.List.{List, [], _∷_, _++_}
@@ -46,7 +46,7 @@ onRead (refuse n) k = refusal n
 onRead (got a ws) k = k a
 
 module _ (L : Outcomes) where
-  -- 11 when the resulting record is longer than the output or 16,384 words, or a fact list in it is over 4,095.
+  -- 11 when the resulting record is longer than the output or 16,384 words, or a list in it is over what its count can say: 4,095 facts, 127 obligations.
   abbrev pub fits : ℕ → Record (L .O) → Bool
   fits room r = leb (length (encodeR (L .number) r)) room && recordLength (encodeR (L .number) r) && short (tree r)
 

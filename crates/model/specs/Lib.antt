@@ -23,3 +23,4 @@ pub mod WorkedJoin
 pub mod Calendar
 pub mod Windows
 pub mod WorkedWindows
+pub mod WorkedRepeats

@@ -1,8 +1,8 @@
 -- Reading words: a tree, a record, or the number of the first cause of refusal. Document 01, "How a request is turned back":
--- 1 a length, 5 kind not allowed here, 6 words end early, 7 the 33rd level, 8 a field, 9 an obligation repeated, 10 words after the tree.
+-- 1 a length, 5 kind not allowed here, 6 words end early, 7 the 33rd level, 8 a field, 10 words after the tree.
 -- At a node, or a record's lead: word present (6), kind (5), level (7), its fields (8);
--- each further word present (6), then at each field from the left 8, then 9.
-use mathlib.Core.Bool.{Bool, true, false, cond, not, _&&_}
+-- each further word present (6), then at each field from the left 8.
+use mathlib.Core.Bool.{Bool, true, false, cond, _&&_}
 use mathlib.Core.Option.{Option, none, some}
 use mathlib.Core.List.{List, [], _∷_, _++_}
 use Prim.Native.Nat.{ℕ, zero, suc, _+_, _-_, _/_, _%_, _^_}
@@ -12,7 +12,7 @@ use Rattle.model.specs.Fields.{bits, split, perWord}
 use Rattle.model.specs.Facts.{absent, present, unknown, factBits, factCount}
 use Rattle.model.specs.Outcome.{outcomeBits}
 use Rattle.model.specs.Condition.{Condition, always, never, has, notC, allC, anyC, cnil, ccons}
-use Rattle.model.specs.Decision.{Shape, forbidden, hidden, Decision, permits, denies, held}
+use Rattle.model.specs.Decision.{Shape, forbidden, hidden, Decision, permits, denies}
 use Rattle.model.specs.Policy.{Policy, permit, deny, grant, all, any, orElse, stored, pnil, pcons}
 use Rattle.model.specs.Partial.{ReducedPolicy, resolved, pending}
 use Rattle.model.specs.Consulted.{Entry, Consulted}
@@ -72,7 +72,7 @@ readWords chk width n (w ∷ ws) (ok xs (suc k)) = readWords chk width n ws (tak
 abbrev pub readList : {A : Type 0} → (List A → ℕ → Parsed A) → ℕ → ℕ → List ℕ → Parsed (List A)
 readList chk width k ws = readWords chk width (perWord width) ws (ok [] k)
 
--- Obligations are 0..63; none is repeated in one list; a list holds at most 64.
+-- Obligations are 0..63, and may repeat. A Grant holds at most 64, a node 12 as many as its seven bits can say.
 abbrev pub obligationCount : ℕ
 obligationCount = 64
 
@@ -80,7 +80,7 @@ abbrev pub mostObligations : ℕ
 mostObligations = 64
 
 abbrev pub obligation : List ℕ → ℕ → Parsed ℕ
-obligation os b = unless (ltb b obligationCount) 8 (unless (not (held b os)) 9 (got b []))
+obligation os b = unless (ltb b obligationCount) 8 (got b [])
 
 abbrev pub fewObligations : ℕ → Bool
 fewObligations n = leb n mostObligations
@@ -222,8 +222,8 @@ module _ {O : Type 0} (value : ℕ → Option O) where
 
   abbrev pub parse12 : ℕ → ℕ → ℕ → ℕ → List ℕ → Parsed (Decision O)
   parse12 sh n z v ws =
-      unless (eqb sh 0) 8 (unless (fewObligations n) 8 (unless (eqb z 0) 8 (outcomeOf (value v) (λ o.
-      another ws (λ w vs. more12 n o (w / 2 ^ (4 + countBits)) (w % 2 ^ (4 + countBits)) vs)))))
+      unless (eqb sh 0) 8 (unless (eqb z 0) 8 (outcomeOf (value v) (λ o.
+      another ws (λ w vs. more12 n o (w / 2 ^ (4 + countBits)) (w % 2 ^ (4 + countBits)) vs))))
 
   abbrev pub at12 : ℕ → List ℕ → Parsed (Decision O)
   at12 r ws = parse12 (r / 2 ^ (7 + 4 + outcomeBits)) (bits (4 + outcomeBits) 7 r) (bits outcomeBits 4 r) (r % 2 ^ outcomeBits) ws

@@ -1,4 +1,4 @@
--- Retention windows: facts set by age. Document 02, request 1.
+-- Retention windows: facts set by age. Request 1.
 use mathlib.Core.Bool.{Bool, true, false, cond, not, _&&_, _||_}
 use mathlib.Core.Option.{Option, none, some}
 use mathlib.Core.List.{List, [], _∷_}

@@ -145,14 +145,14 @@ turns-hold = refl
 abbrev pub refusals : List Row
 refusals =
     -- the leftmost faulty field of a word decides
-    row evaluates 100 [] (0x80300001 ∷ 0x0 ∷ 0x7074000 ∷ 0x0 ∷ []) (refuses 9)
+    row evaluates 100 [] (0x80300001 ∷ 0x0 ∷ 0x7074000 ∷ 0x0 ∷ []) (refuses 8)
     ∷ row evaluates 100 [] (0x80300001 ∷ 0x0 ∷ 0x7400700 ∷ 0x0 ∷ []) (refuses 8)
     -- unused tail fields are fields in their place
-    ∷ row evaluates 100 [] (0x80200001 ∷ 0x0 ∷ 0x7070001 ∷ 0x0 ∷ []) (refuses 9)
+    ∷ row evaluates 100 [] (0x80200001 ∷ 0x0 ∷ 0x7070001 ∷ 0x0 ∷ []) (refuses 8)
     ∷ row evaluates 100 [] (0x80200001 ∷ 0x0 ∷ 0x7080001 ∷ 0x0 ∷ []) (refuses 8)
     -- a count says nothing of presence in advance
     ∷ row narrows 100 [] (0xF0000FFF ∷ 0xC0000000 ∷ []) (refuses 8)
-    ∷ row evaluates 100 [] (0x80500001 ∷ 0x0 ∷ 0x7074000 ∷ []) (refuses 9)
+    ∷ row evaluates 100 [] (0x80500001 ∷ 0x0 ∷ 0x7074000 ∷ []) (refuses 8)
     -- an obligation count over 64 is a field of word one
     ∷ row evaluates 100 [] (0x84100001 ∷ []) (refuses 8)
     -- the table's faults come before those of the words, also where it can't matter

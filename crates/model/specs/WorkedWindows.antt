@@ -1,4 +1,4 @@
--- Dates, ages and windows worked through, by computation. Document 02, request 1: each sentence, and each wrong turn, with a row of its own.
+-- Dates, ages and windows worked through, by computation. Request 1: each sentence, and each wrong turn, with a row of its own.
 use mathlib.Core.Path.{_≡_, refl}
 use mathlib.Core.Bool.{Bool, true, false, _&&_, not}
 use mathlib.Core.List.{List, [], _∷_, _++_}

@@ -124,15 +124,18 @@ module _ {O : Type 0} (number : O → ℕ) where
   abbrev pub encodeR : Record O → List ℕ
   encodeR r = word (leadKind (r .body)) (length (r .log)) ∷ (pack entryBits (map entryField (r .log)) ++ encode (tree r))
 
--- No fact list of the tree is over 4,095, the most that its count can say.
+-- No list of the tree is over what its count can say: 4,095 facts, 127 obligations.
 abbrev pub mostListed : ℕ
 mostListed = 2 ^ countBits - 1
 
 abbrev pub shortList : List ℕ → Bool
 shortList fs = leb (length fs) mostListed
 
+abbrev pub mostHeld : ℕ
+mostHeld = 2 ^ 7 - 1
+
 abbrev pub shortD : {O : Type 0} → Decision O → Bool
-shortD (permits p) = shortList (p .facts)
+shortD (permits p) = shortList (p .facts) && leb (length (p .obligations)) mostHeld
 shortD (denies d) = shortList (d .facts)
 
 abbrev mutual

@@ -14,7 +14,7 @@ use Rattle.model.specs.Consulted.{Consulted, once}
 use Rattle.model.specs.Products.{Outcome, reducePolicy, walk, readPolicy, write}
 use Rattle.laws.specs.FieldLaws.{Holds, weaker, both-hold}
 use Rattle.laws.specs.Size.{words}
-use Rattle.laws.specs.Form.{Free}
+use Rattle.laws.specs.Form.{Countable, Free}
 use Rattle.laws.specs.Products.{InRange, writtenProducts}
 use Rattle.laws.specs.ReadForm.{ok-T}
 use Rattle.staging.specs.Entries.{walk-fits}
@@ -125,5 +125,5 @@ reduces-from {o} {P} {W} {at = at} l none-listed enough k =
           let loaded = l .log es others named c were in
           weaker q (λ p rest h. h .0 (omega (arith, h .1, loaded .same-room)))
           (both-hold q (k .reduces (once es) (λ h. loaded .lists [] none-listed (omega (arith, loaded .same-room))) res)
-          (fits-there W at es (λ p. walk o P p (once es)) (λ p form. walk-fits productSets P InRange Free p form es named o) inside near res));
+          (fits-there W at es (λ p. walk o P p (once es)) (λ p form. walk-fits productSets P InRange Free Countable p form es named o) inside near res));
     }

@@ -154,8 +154,7 @@ few-kind (suc (suc (suc (suc (suc zero))))) r = few-field (eqb r 0) OrElse BadFi
 few-kind (suc (suc (suc (suc (suc (suc zero)))))) r =
     let h = PermitWithTrace (bits 20 7 r) (r % 65536) in
     let g = cond (eqb (bits 16 4 r) 0) h BadField in
-    few-field (eqb (r / 134217728) 0) (cond (fewObligations (bits 20 7 r)) g BadField) BadField
-    (λ _. few-field (fewObligations (bits 20 7 r)) g BadField (λ _. few-field (eqb (bits 16 4 r) 0) h BadField (λ _. tt) tt) tt) tt
+    few-field (eqb (r / 134217728) 0) g BadField (λ _. few-field (eqb (bits 16 4 r) 0) h BadField (λ _. tt) tt) tt
 few-kind (suc (suc (suc (suc (suc (suc (suc zero))))))) r =
     let h = DenyWithTrace (eqb (r / 134217728) 1) true (r % 65536) in
     let i = DenyWithTrace (eqb (r / 134217728) 1) false (r % 65536) in

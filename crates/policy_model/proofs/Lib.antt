@@ -2,7 +2,7 @@ pub mod Words
 pub mod Checking
 pub mod Levels
 pub mod Fields
-pub mod Masks
+pub mod Quads
 pub mod Pairs
 pub mod Conditions
 pub mod Nodes

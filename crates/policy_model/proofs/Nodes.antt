@@ -21,7 +21,7 @@ use Rattle.policy_model.specs.Answers.{checked}
 use Rattle.policy_model.specs.Lists.{markFits, marksFit}
 use Rattle.policy_model.specs.Heads.{bitOf, deniedBy, grantNode, permitTraceNode, denyTraceNode}
 use Rattle.policy_model.proofs.Checking.{word-at, no-word, go-on, give-up, end-with}
-use Rattle.policy_model.proofs.Masks.{obligations-leave}
+use Rattle.policy_model.proofs.Quads.{obligations-leave}
 use Rattle.policy_model.proofs.Pairs.{Judged, judge-unless}
 
 -- ---- a label or reason

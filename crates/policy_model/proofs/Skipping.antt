@@ -129,9 +129,8 @@ opens-permit-trace w e =
     let r = w % 268435456 in
     let n = r / 1048576 % 128 in
     let h = PermitWithTrace n (r % 65536) in
-    when-P w (eqb (r / 134217728) 0) (cond (leb n mostObligations) (cond (eqb (r / 65536 % 16) 0) h policy.BadField) policy.BadField) (λ _.
-    when-P w (leb n mostObligations) (cond (eqb (r / 65536 % 16) 0) h policy.BadField) (λ _. when-P w (eqb (r / 65536 % 16) 0) h (λ _.
-    (subst (λ m. Opens w 0 (λ ws. suc (wordsFor 4 m + wordsFor 2 (getD ws 0 0 % 4096)))) (count-of w) (opens-at w 12 e), (sym (count-of w), omega arith)))))
+    when-P w (eqb (r / 134217728) 0) (cond (eqb (r / 65536 % 16) 0) h policy.BadField) (λ _. when-P w (eqb (r / 65536 % 16) 0) h (λ _.
+    (subst (λ m. Opens w 0 (λ ws. suc (wordsFor 4 m + wordsFor 2 (getD ws 0 0 % 4096)))) (count-of w) (opens-at w 12 e), (sym (count-of w), omega arith))))
 
 opens-deny-trace : (w : ℕ) → w / 268435456 ≡ 13 → OpensP w (denyTraceHead (w % 268435456))
 unfolding denyTraceHead

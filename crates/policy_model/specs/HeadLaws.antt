@@ -112,14 +112,11 @@ module _ (pc : List ℕ → Parsed Condition) (p : List ℕ → Parsed (Policy O
       let more : ℕ → Parsed (Decision Outcome) = λ o. another ws (λ w vs. more12 n o (w / 65536) (w % 65536) vs) in
       let q₃ = outcomeOf (productSets .value (r % 65536)) more in
       let q₂ = unless (eqb z 0) 8 q₃ in
-      let q₁ = unless (leb n mostObligations) 8 q₂ in
       let h₃ = PermitWithTrace n (r % 65536) in
       let h₂ = cond (eqb z 0) h₃ policy.BadField in
-      let h₁ = cond (leb n mostObligations) h₂ policy.BadField in
       let e₃ : asStored q₃ ≡ policyNode pc p h₃ ws = ap (λ x. asStored (outcomeOf x more)) (outcome-is r) in
       let e₂ : asStored q₂ ≡ policyNode pc p h₂ ws = stored-field (eqb z 0) q₃ ∙ field-P (eqb z 0) h₃ (asStored q₃) e₃ in
-      let e₁ : asStored q₁ ≡ policyNode pc p h₁ ws = stored-field (leb n mostObligations) q₂ ∙ field-P (leb n mostObligations) h₂ (asStored q₂) e₂ in
-      stored-field (eqb sh 0) q₁ ∙ field-P (eqb sh 0) h₁ (asStored q₁) e₁
+      stored-field (eqb sh 0) q₂ ∙ field-P (eqb sh 0) h₂ (asStored q₂) e₂
 
   -- the denied outcome, by its present bit
   denied-by-head : (sh here r : ℕ) → sh < 2 → here < 2 →
@@ -201,8 +198,7 @@ unfolding permitTraceHead
 deep-permit-trace r =
     let h₃ = PermitWithTrace (r / 1048576 % 128) (r % 65536) in
     let h₂ = cond (eqb (r / 65536 % 16) 0) h₃ policy.BadField in
-    let h₁ = cond (leb (r / 1048576 % 128) mostObligations) h₂ policy.BadField in
-    deep-field-P (eqb (r / 134217728) 0) h₁ (deep-field-P (leb (r / 1048576 % 128) mostObligations) h₂ (deep-field-P (eqb (r / 65536 % 16) 0) h₃ refl))
+    deep-field-P (eqb (r / 134217728) 0) h₂ (deep-field-P (eqb (r / 65536 % 16) 0) h₃ refl)
 
 deep-deny-trace : (r : ℕ) → deepPolicy (denyTraceHead r) ≡ 7
 unfolding denyTraceHead

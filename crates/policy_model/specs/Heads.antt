@@ -78,9 +78,7 @@ grantHead r =
 unfoldable pub permitTraceHead : ℕ → PolicyHead
 permitTraceHead r =
     cond (eqb (r / 2 ^ (7 + 4 + outcomeBits)) 0)
-    (cond (fewObligations (bits (4 + outcomeBits) 7 r))
     (cond (eqb (bits outcomeBits 4 r) 0) (PermitWithTrace (bits (4 + outcomeBits) 7 r) (r % 2 ^ outcomeBits)) policy.BadField)
-    policy.BadField)
     policy.BadField
 
 -- 13 DenyWithTrace: shape (1), denied present (1), zero (10), outcome (16; 0 if not present).

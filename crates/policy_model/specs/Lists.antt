@@ -1,9 +1,8 @@
--- Lists of fields as the checks see them: obligations by a mask, entries by tests. Document 01, "How a request is turned back".
+-- Lists of fields as the checks see them: obligations by how many are to come, entries by tests. Document 01, "How a request is turned back".
 use mathlib.Core.Bool.{Bool, false, cond, _||_}
 use mathlib.Core.List.{List, [], _∷_}
 use Prim.Native.Nat.{ℕ, zero, suc, _+_, _-_, _/_, _%_, _^_}
 use lib.Dec.{eqb, ltb, leb}
-use lib.Bits.{bitOr}
 use Rattle.model.specs.Facts.{factBits, factCount}
 use Rattle.model.specs.Writing.{markBits, entryBits}
 use Rattle.model.specs.Reading.{obligationCount}
@@ -11,14 +10,12 @@ use Rattle.policy_model.specs.declared.Checked.{Checked}
 use Rattle.policy_model.specs.declared.Checked.the-variants.{Next}
 use Rattle.policy_model.specs.declared.Checked.the-variants as check
 use Rattle.policy_model.specs.declared.Obligations.{Obligations}
-use Rattle.policy_model.specs.declared.Obligations.the-variants.{Seen, Refused}
+use Rattle.policy_model.specs.declared.Obligations.the-variants.{Left, Refused}
 
--- One more field: 8 past 63, 9 where its bit is set; after the last obligation it must be 0.
+-- One more field: 8 past 63; after the last obligation it must be 0.
 unfoldable pub seenOne : Obligations → ℕ → Obligations
 seenOne (Refused n) b = Refused n
-seenOne (Seen mask left) b =
-    cond (eqb left 0) (cond (eqb b 0) (Seen mask left) (Refused 8))
-    (cond (ltb b obligationCount) (cond (eqb (mask / 2 ^ b % 2) 1) (Refused 9) (Seen (bitOr mask (2 ^ b)) (left - 1))) (Refused 8))
+seenOne (Left left) b = cond (eqb left 0) (cond (eqb b 0) (Left left) (Refused 8)) (cond (ltb b obligationCount) (Left (left - 1)) (Refused 8))
 
 unfoldable pub seenAll : Obligations → List ℕ → Obligations
 seenAll seen [] = seen

@@ -96,11 +96,12 @@ pub const HIDDEN: u32 = 134217728;
 
 pub const DENIED: u32 = 67108864;
 
-// A count of obligations, 7 bits, stands above the other 20; it is at most 64.
+// A count of obligations, 7 bits, stands above the other 20.
 pub const OBLIGATIONS: u32 = 1048576;
 
 pub const OBLIGATION_COUNTS: u32 = 128;
 
+// The most obligations of a Grant.
 pub const MOST_OBLIGATIONS: u32 = 64;
 
 // An obligation is a number below this.
@@ -208,7 +209,7 @@ pub enum PolicyHead {
     },
     // no kind of a policy here
     BadKind,
-    // a field that must be 0 isn't, or there are over 64 obligations
+    // a field that must be 0 isn't, or a Grant has over 64 obligations
     BadField,
 }
 
@@ -284,14 +285,11 @@ fn grant_head(rest: u32) -> PolicyHead
     }
 }
 
-// PermitWithTrace: as Grant, shape 0.
+// PermitWithTrace: as Grant, shape 0, and as many obligations as seven bits can say.
 fn permit_trace_head(rest: u32) -> PolicyHead
     ensures { λ r. ⌜ r ≡ permitTraceHead rest ⌝ }
 {
     if rest / HIDDEN != 0 {
-        return PolicyHead::BadField;
-    }
-    if rest / OBLIGATIONS % OBLIGATION_COUNTS > MOST_OBLIGATIONS {
         return PolicyHead::BadField;
     }
     if rest / HALF % BELOW_OBLIGATIONS != 0 {
@@ -419,9 +417,9 @@ enum Checked {
     Refused(u32),
 }
 
-// A list of obligations as far as it is checked: those seen, one bit each, and how many are to come.
+// A list of obligations as far as it is checked: how many are to come.
 enum Obligations {
-    Seen { mask: u64, left: u32 },
+    Left(u32),
     Refused(u32),
 }
 
@@ -431,10 +429,10 @@ fn with_field(seen: Obligations, field: u32) -> Obligations
 {
     match seen {
         Obligations::Refused(number) => Obligations::Refused(number),
-        Obligations::Seen { mask, left } => {
+        Obligations::Left(left) => {
             if left == 0 {
                 return if field == 0 {
-                    Obligations::Seen { mask, left }
+                    Obligations::Left(left)
                 } else {
                     Obligations::Refused(8)
                 };
@@ -442,13 +440,8 @@ fn with_field(seen: Obligations, field: u32) -> Obligations
             if field >= OBLIGATION_NUMBERS {
                 return Obligations::Refused(8);
             }
-            if (mask >> field) % 2 == 1 {
-                return Obligations::Refused(9);
-            }
-            Obligations::Seen {
-                mask: mask | (1u64 << field),
-                left: left - 1,
-            }
+            let more = left - 1;
+            Obligations::Left(more)
         }
     }
 }
@@ -468,18 +461,13 @@ fn check_obligations(words: &[u32], at: usize, count: u32) -> Checked
     ensures { λ r. ⌜ r ≡ checked quads at (readList obligation obligationBits count (drop at (now (words .entry)))) ⌝ }
 {
     let mut next = at;
-    let mut mask: u64 = 0;
     let mut left = count;
     while left != 0 {
         if words.len() <= next {
             return Checked::Refused(6);
         }
-        match with_word(Obligations::Seen { mask, left }, words[next]) {
-            Obligations::Seen {
-                mask: seen,
-                left: more,
-            } => {
-                mask = seen;
+        match with_word(Obligations::Left(left), words[next]) {
+            Obligations::Left(more) => {
                 left = more;
                 next += 1;
             }

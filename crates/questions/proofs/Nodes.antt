@@ -144,7 +144,6 @@ module _ (d w : ℕ) (ws : List ℕ) where
   permit-node : w / 268435456 ≡ 12 → Holds (λ x vs. Node w ws (stored x) vs) (at12 r ws)
   permit-node e =
       if-holds (eqb (r / 134217728) 0) 8 _ (λ _.
-      if-holds (leb (r / 1048576 % 128) mostObligations) 8 _ (λ _.
       if-holds (eqb (r / 65536 % 16) 0) 8 _ (λ _.
       an-outcome (productSets .value (r % 65536)) _ (λ o.
       a-word ws _ (λ w₂ us.
@@ -152,7 +151,7 @@ module _ (d w : ℕ) (ws : List ℕ) where
       if-holds (ltb (w₂ % 65536) 4096) 8 _ (λ _.
       then-holds (readList obligation obligationBits (r / 1048576 % 128) us) _ (obligations-long (r / 1048576 % 128) us) (λ os vs h.
       read-as (readList listed entryBits (w₂ % 65536) vs) _ (λ fs xs _.
-      fine (leaf e (obligation-by w 12 e ∙ some-of os (w / 1048576 % 128) (h ∙ sym (count-of w))) (arms-by w 12 e) refl))))))))))
+      fine (leaf e (obligation-by w 12 e ∙ some-of os (w / 1048576 % 128) (h ∙ sym (count-of w))) (arms-by w 12 e) refl)))))))))
 
   deny-node : w / 268435456 ≡ 13 → Holds (λ x vs. Node w ws (stored x) vs) (at13 r ws)
   deny-node e =

@@ -233,7 +233,7 @@ module _ (pc : List ℕ → Parsed Condition) (sheet : List ℕ) (at : ℕ) (s :
         let o = r % 65536 in
         let g : OwnFacts pc (PermitWithTrace n o) (drop (at + 1) sheet) at s s end =
         stored-facts sheet at end s (permitTraceNode n o (drop (at + 1) sheet)) (subst (λ k. Ended at (permitTraceNode k o (drop (at + 1) sheet)) end) same (c o)) in
-        rw e (own-if s end (eqb (r / 134217728) 0) _ (own-if s end (leb n mostObligations) _ (own-if s end (eqb (r / 65536 % 16) 0) (PermitWithTrace n o) g)))
+        rw e (own-if s end (eqb (r / 134217728) 0) _ (own-if s end (eqb (r / 65536 % 16) 0) (PermitWithTrace n o) g))
 
     -- Kind 13; from 14 on there is no policy.
     own-deny-trace : (end : ℕ) → w / 268435456 ≡ 13 → ((hidden denied : Bool) (o : ℕ) → Ended at (denyTraceNode hidden denied o (drop (at + 1) sheet)) end) →

@@ -2,7 +2,7 @@
 use mathlib.Core.Path.{_≡_, refl, _∙_, ap, ap₂}
 use mathlib.Core.Bool.{true}
 use mathlib.Core.Option.{none}
-use mathlib.Core.List.{List, [], _∷_}
+use mathlib.Core.List.{List, [], _∷_, _++_}
 use Prim.Native.Nat.{ℕ, _+_, _*_, _%_, _≤_, _<_}
 use native.Mathlib.Omega.{arith}
 use lib.ListN.{length, drop, getD, set}
@@ -69,7 +69,7 @@ fact-is : (W : List ℕ) (T : Table) (buf : List ℕ) (o at : ℕ) → plainGran
 unfolding decisionOf permitOf obligationsIn clauseAt obligationsAt nodeAt
 fact-is W T buf o at plain =
     let f = getD W (at + 2) 0 % 1024 in
-    ap (λ q. permits (record { outcome = o; obligations = obligationsRead q; label = clauseRead T q .label; facts = clauseRead T q .facts })) (plain-reads W at plain true 30)
+    ap (λ q. permits (record { outcome = o; obligations = obligationsRead q ++ []; label = clauseRead T q .label; facts = clauseRead T q .facts })) (plain-reads W at plain true 30)
     ∙ ap (λ fs. permits (record { outcome = o; obligations = []; label = none; facts = fs })) (names-it f (T f))
 
 pub node-on-fact : {W : List ℕ} {T : Table} {d : Decision} {buf out : List ℕ} {r : ℕ} → d ≡ permittedAt (d .outcome) (d .clause) (d .clause) 0 → plainGrant (drop (d .clause) W) ≡ true →

@@ -55,7 +55,7 @@ fn lay_on_fact(outcome: u16, fact: u32, out: &mut [u32]) -> usize
 }
 
 // Lays the node of a resolved part, a PermitWithTrace or a DenyWithTrace, at the front of `out`, and returns its size: too many words for a record
-// where its facts can't be counted.
+// where its obligations or its facts can't be counted.
 pub fn policy_from_decision(
     words: &[u32],
     decision: Decision,
@@ -77,16 +77,17 @@ pub fn policy_from_decision(
             return lay_on_fact(decision.outcome, words[at + 2] % policy_model::FACTS, out);
         }
     }
-    let held = decision::obligations(words, decision, buf);
+    let mut obligations = [0u8; decision::LIST_ROOM];
+    let held = decision::obligations(words, decision, buf, &mut obligations);
     let count = clause::clause_facts(words, decision.clause, facts, named);
-    if count > policy_model::MOST_LISTED {
+    if !clause::countable(decision.permit, held, count) {
         return sizes::LIMIT + 1;
     }
     let size = clause::decision_words(decision.permit, held, count);
     if out.len() < size {
         return size;
     }
-    clause::write_decision(words, decision, buf, held, named, count, out)
+    clause::write_decision(words, decision, &obligations, held, named, count, out)
 }
 
 // Moves the `n` words after the first one up by `by` words.

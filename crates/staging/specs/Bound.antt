@@ -13,7 +13,7 @@ use Rattle.model.specs.Consulted.{Consulted, once}
 use Rattle.model.specs.Record.{Record, tree, evaluated, reduced, narrowedFrom, narrowed, completedFrom}
 use Rattle.laws.specs.Each.{EachC, EachCs, Each, Eachs}
 use Rattle.laws.specs.Size.{words, wordsR}
-use Rattle.laws.specs.Form.{FormC, FormCs, FormOf, FormsOf, Few, Form, depth}
+use Rattle.laws.specs.Form.{FormC, FormCs, FormOf, FormsOf, Few, FewRepeats, Form, depth}
 use Rattle.staging.specs.SizeLaws.{most, eval-words, red-most, words-most, most-words}
 use Rattle.staging.specs.FormLaws.{form-eval, form-red, depth-red}
 use Rattle.staging.specs.ConsultedLaws.{Good, good-once, good-read, good-walk, log-length}
@@ -33,9 +33,9 @@ mutual
   small-Cs cnil h = tt
   small-Cs (ccons c cs) h = (small-C c (h .0), small-Cs cs (h .1))
 
-module _ {O : Type 0} (G : O → Type 0) (B : Condition → Type 0) where
+module _ {O : Type 0} (G : O → Type 0) (B : Condition → Type 0) (R : List ℕ → Type 0) where
   mutual
-    pub small-T : (t : Policy O) → FormOf G B t → Each (λ f. f < 1024) t
+    pub small-T : (t : Policy O) → FormOf G B R t → Each (λ f. f < 1024) t
     small-T (permit o) h = tt
     small-T deny h = tt
     small-T (grant g c) h = small-C c (h .1)
@@ -44,7 +44,7 @@ module _ {O : Type 0} (G : O → Type 0) (B : Condition → Type 0) where
     small-T (orElse a b) h = (small-T a (h .0), small-T b (h .1))
     small-T (stored d) h = tt
 
-    small-Ts : (ts : Policies O) → FormsOf G B ts → Eachs (λ f. f < 1024) ts
+    small-Ts : (ts : Policies O) → FormsOf G B R ts → Eachs (λ f. f < 1024) ts
     small-Ts pnil h = tt
     small-Ts (pcons t ts) h = (small-T t (h .0), small-Ts ts (h .1))
 
@@ -73,7 +73,7 @@ module _ (L : Outcomes) (G : L .O → Type 0) (meets : (a b : L .O) → G a → 
           small = omega (arith, red-most L o P t, h .small);
           form = form-red L G meets joins o P t (h .form);
           deep = omega (arith, depth-red L o P t, h .deep);
-          consulted = good-walk (λ f. f < 1024) L o P t (once l) (small-T G Few t (h .form)) (good-once (λ f. f < 1024) l (h .consulted .1));
+          consulted = good-walk (λ f. f < 1024) L o P t (once l) (small-T G Few FewRepeats t (h .form)) (good-once (λ f. f < 1024) l (h .consulted .1));
         }
 
     pub fit-completeBody : (K : Table) (b : ReducedPolicy (L .O)) (l : Consulted) → Fit G n d (record { body = b; log = l }) → Fit G n d (completedFrom L K b l)
@@ -83,7 +83,7 @@ module _ (L : Outcomes) (G : L .O → Type 0) (meets : (a b : L .O) → G a → 
           small = omega (arith, eval-words L K t, h .small);
           form = form-eval L G meets joins K t (h .form);
           deep = omega (arith, depth-pos t, h .deep);
-          consulted = good-read (λ f. f < 1024) L K t (once l) (small-T G Few t (h .form)) (good-once (λ f. f < 1024) l (h .consulted .1));
+          consulted = good-read (λ f. f < 1024) L K t (once l) (small-T G Few FewRepeats t (h .form)) (good-once (λ f. f < 1024) l (h .consulted .1));
         }
 
     pub fit-run : (r : Record (L .O)) (ss : List Step) → Fit G n d r → Fit G n d (run L r ss)
@@ -96,7 +96,7 @@ module _ (L : Outcomes) (G : L .O → Type 0) (meets : (a b : L .O) → G a → 
         small = red-most L o P t;
         form = form-red L G meets joins o P t h;
         deep = depth-red L o P t;
-        consulted = good-walk (λ f. f < 1024) L o P t [] (small-T G Few t h) (tt, tt);
+        consulted = good-walk (λ f. f < 1024) L o P t [] (small-T G Few FewRepeats t h) (tt, tt);
       }
 
   pub fit-evaluate : (K : Table) (t : Policy (L .O)) → Form G t → Fit G (most t) (depth t) (evaluated L K t)
@@ -105,7 +105,7 @@ module _ (L : Outcomes) (G : L .O → Type 0) (meets : (a b : L .O) → G a → 
         small = eval-words L K t;
         form = form-eval L G meets joins K t h;
         deep = depth-pos t;
-        consulted = good-read (λ f. f < 1024) L K t [] (small-T G Few t h) (tt, tt);
+        consulted = good-read (λ f. f < 1024) L K t [] (small-T G Few FewRepeats t h) (tt, tt);
       }
 
   fit-words : (t : Policy (L .O)) (d : ℕ) (r : Record (L .O)) → Fit G (most t) d r → wordsR r ≤ 3 * words t + 513

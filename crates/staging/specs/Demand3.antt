@@ -16,14 +16,15 @@ use Rattle.model.specs.Evaluate.{evalPolicy}
 use Rattle.model.specs.Partial.{Order}
 use Rattle.model.specs.Consulted.{Consulted}
 use Rattle.model.specs.Record.{Record, tree, evaluated, reduced, narrowed, completed}
-use Rattle.model.specs.Writing.{encodeR, shortD, short, shorts}
+use Rattle.model.specs.Writing.{encodeR, mostListed, mostHeld, shortD, short, shorts}
 use Rattle.model.specs.Reading.{Parsed, got, unless, levels, sheetLength, recordLength, whole, readPolicy, readSheet, readRecord}
 use Rattle.model.specs.Calls.{Answer, refusal, wrote, unlessLong, unlessFault, onRead, fits, write, evaluate, partialEvaluate, narrowResidual, completeResidual}
 use Rattle.laws.specs.Lists.{Every}
 use Rattle.laws.specs.FieldLaws.{Holds}
 use Rattle.laws.specs.Each.{Each, Agrees}
 use Rattle.laws.specs.Names.{each-of, of-each}
-use Rattle.laws.specs.Form.{FormD, Form, Forms, depth}
+use Rattle.laws.specs.Form.{FewRepeats, FormD, Form, Forms, depth}
+use Rattle.laws.specs.FormLaws.{few-countable, countable-form}
 use Rattle.laws.specs.Lengths.{length-encodeR}
 use Rattle.laws.specs.ReadBack.{back-R}
 use Rattle.laws.specs.ReadForm.{Named, OkSheet, ok-sheet}
@@ -38,11 +39,12 @@ use Rattle.staging.specs.Statement.{Call, handedOn, stepOf, ifWrote, Agr
 and-is : (a b : Bool) → a ≡ true → b ≡ true → (a && b) ≡ true
 and-is a b p q = rw (p, q)
 
--- ---- a tree of good form holds no fact list over 4,095
+-- ---- a tree of good form holds no list over what its count can say
 module _ {O : Type 0} (G : O → Type 0) where
-  short-D : (d : Decision O) → FormD G d → shortD d ≡ true
-  short-D (permits p) h = le-leb (length (p .facts)) 4095 (h .3 .0)
-  short-D (denies d) h = le-leb (length (d .facts)) 4095 (h .1 .0)
+  short-D : (d : Decision O) → FormD G FewRepeats d → shortD d ≡ true
+  short-D (permits p) h =
+      and-is (leb (length (p .facts)) mostListed) (leb (length (p .obligations)) mostHeld) (le-leb (length (p .facts)) mostListed (h .3 .0)) (le-leb (length (p .obligations)) mostHeld (few-countable (p .obligations) (h .1)))
+  short-D (denies d) h = le-leb (length (d .facts)) mostListed (h .1 .0)
 
   mutual
     short-T : (t : Policy O) → Form G t → short t ≡ true
@@ -110,13 +112,23 @@ module _ (L : Outcomes) (G : L .O → Type 0) (codec : Written L G) where
         (and-is (leb (length (encodeR (L .number) r)) room) (recordLength (encodeR (L .number) r)) (le-leb (length (encodeR (L .number) r)) room (omega (arith, within-words r h))) (few r h))
         (short-T G (tree r) (h .form))
 
+    -- Request 3: neither a call on the sheet nor a chain of calls that the reduction begins comes to a list over what its count can say.
+    pub sheet-countable : (K : Table) → short (tree (evaluated L K t)) ≡ true
+    sheet-countable K = short-T G (tree (evaluated L K t)) (fit-evaluate L G (codec .meets) (codec .joins) K t (good .0) .form)
+
+    pub chain-countable : (o : Order) (P : Table) (ss : List Step) (K : Table) → (short (tree (run L (reduced L o P t) ss)) ≡ true) × (short (tree (completed L K (run L (reduced L o P t) ss))) ≡ true)
+    chain-countable o P ss K =
+        let r = run L (reduced L o P t) ss in
+        let h : Within r = fit-run L G (codec .meets) (codec .joins) (most t) (depth t) (reduced L o P t) ss (fit-reduce L G (codec .meets) (codec .joins) o P t (good .0)) in
+        (short-T G (tree r) (h .form), short-T G (tree (completed L K r)) (fit-completeBody L G (codec .meets) (codec .joins) (most t) (depth t) K (r .body) (r .log) h .form))
+
     back : (r : Record (L .O)) → Within r → readRecord (L .value) (encodeR (L .number) r) ≡ got r []
     back r h =
         let y = roomy L G (codec .meets) (codec .joins) t r (good .1) h in
         let n = within-words r h in
         let m = good .4 in
         let e = good .2 in
-        back-R G (L .number) (L .value) (codec .small) (codec .again) r (omega (arith, log-length (r .log) (h .consulted))) (facts-of (r .log) (h .consulted .1)) (h .form) (y .nested) (omega arith)
+        back-R G (L .number) (L .value) (codec .small) (codec .again) r (omega (arith, log-length (r .log) (h .consulted))) (facts-of (r .log) (h .consulted .1)) (countable-form G (tree r) (h .form)) (y .nested) (omega arith)
 
     -- ---- calls on such a record
     narrow-is : (o : Order) (room : ℕ) (bs : List ℕ) (r : Record (L .O)) → Within r

@@ -14,10 +14,10 @@ use Rattle.model.specs.Policy.{Grant, Policy, permit, deny, grant, all, any, or
 use Rattle.model.specs.Evaluate.{evalGrant, firstOf, firstDeny, allEnd, allFrom, anyEnd, anyFrom, evalPolicy, evalPolicies}
 use Rattle.model.specs.Partial.{ReducedCondition, known, pendingC, reduceHas, flipR, ConditionWalk, stopped, through, stepAllC, stepAnyC, endAllC, endAnyC, reduceCondition, reduceConditionAll, reduceConditionAny, ReducedPolicy, resolved, pending, asResidual, arms, kept, AllWalk, stop, go, stepAll, walkedAll, AnyWalk, parts, stepAny, walkedAny, upToDeny, inOrder, reduceGrant, reduceOrElse, endAll, endAny, Order, permitsFirst, sheetOrder, allOf, anyOf, reducePolicy, reduceArms}
 use Rattle.model.specs.Writing.{countC, count}
-use Rattle.model.specs.Reading.{obligationCount}
-use Rattle.laws.specs.Lists.{Below, every-append, unite-distinct, unite-every}
+use Rattle.model.specs.Reading.{obligationCount, mostObligations}
+use Rattle.laws.specs.Lists.{Below, every-append, unite-every, unite-repeats, repeats-few}
 use Rattle.laws.specs.Size.{wordsC}
-use Rattle.laws.specs.Form.{FormC, FormCs, IfThere, FormF, FormO, FormP, FormN, FormD, FormG, Form, Forms, depthC, depthCs, depth, depths}
+use Rattle.laws.specs.Form.{FormC, FormCs, IfThere, FormF, FormO, FewRepeats, FormP, FormN, FormD, FormG, Form, Forms, depthC, depthCs, depth, depths}
 use Rattle.staging.specs.Arms.{up-to-deny, ends-in-order}
 use Rattle.staging.specs.SizeLaws.{factsV, facts-le, wordsRC, size-redC}
 
@@ -225,51 +225,55 @@ module _ (L : Outcomes) (G : L .O → Type 0) (meets : (a b : L .O) → G a → 
   few : FormF []
   few = (omega arith, tt)
 
-  form-meetP : (p q : Permit (L .O)) → FormP G p → FormP G q → FormP G (meetPermit L p q)
+  -- Joining adds no repeat.
+  form-unite : (os ps : List ℕ) → FormO FewRepeats os → FormO FewRepeats ps → FormO FewRepeats (unionObligations os ps)
+  form-unite os ps h k = (omega (arith, unite-repeats os ps, h .0), unite-every (λ o. o < obligationCount) os ps (h .1) (k .1))
+
+  no-obligations : FormO FewRepeats []
+  no-obligations = (omega arith, tt)
+
+  form-meetP : (p q : Permit (L .O)) → FormP G FewRepeats p → FormP G FewRepeats q → FormP G FewRepeats (meetPermit L p q)
   form-meetP p q h k =
       let o = L .meet (p .outcome) (q .outcome) in
-      pick-has (FormP G) (L .same o (p .outcome)) p (cond (L .same o (q .outcome)) q (combined o [])) h
-      (pick-has (FormP G) (L .same o (q .outcome)) q (combined o []) k (meets (p .outcome) (q .outcome) (h .0) (k .0), (tt, tt), tt, few))
+      pick-has (FormP G FewRepeats) (L .same o (p .outcome)) p (cond (L .same o (q .outcome)) q (combined o [])) h
+      (pick-has (FormP G FewRepeats) (L .same o (q .outcome)) q (combined o []) k (meets (p .outcome) (q .outcome) (h .0) (k .0), no-obligations, tt, few))
 
-  form-unite : (os ps : List ℕ) → FormO os → FormO ps → FormO (unionObligations os ps)
-  form-unite os ps h k = (unite-distinct os ps (h .0), unite-every (λ o. o < obligationCount) os ps (h .1) (k .1))
-
-  form-joinP : (p q : Permit (L .O)) → FormP G p → FormP G q → FormP G (joinPermit L p q)
+  form-joinP : (p q : Permit (L .O)) → FormP G FewRepeats p → FormP G FewRepeats q → FormP G FewRepeats (joinPermit L p q)
   form-joinP p q h k =
       let o = L .join (p .outcome) (q .outcome) in
       let os = unionObligations (p .obligations) (q .obligations) in
       let u = form-unite (p .obligations) (q .obligations) (h .1) (k .1) in
       let pw : Permit (L .O) = record { outcome = p .outcome; obligations = os; label = p .label; facts = p .facts } in
-      pick-has (FormP G) (L .same o (p .outcome)) (cond (L .same o (q .outcome)) pw p) (cond (L .same o (q .outcome)) q (combined o os))
-      (pick-has (FormP G) (L .same o (q .outcome)) pw p (h .0, u, h .2, h .3) h)
-      (pick-has (FormP G) (L .same o (q .outcome)) q (combined o os) k (joins (p .outcome) (q .outcome) (h .0) (k .0), u, tt, few))
+      pick-has (FormP G FewRepeats) (L .same o (p .outcome)) (cond (L .same o (q .outcome)) pw p) (cond (L .same o (q .outcome)) q (combined o os))
+      (pick-has (FormP G FewRepeats) (L .same o (q .outcome)) pw p (h .0, u, h .2, h .3) h)
+      (pick-has (FormP G FewRepeats) (L .same o (q .outcome)) q (combined o os) k (joins (p .outcome) (q .outcome) (h .0) (k .0), u, tt, few))
 
   abbrev FormPO : Option (Permit (L .O)) → Type 0
-  FormPO p = IfThere (FormP G) p
+  FormPO p = IfThere (FormP G FewRepeats) p
 
   abbrev FormNO : Option (Denial (L .O)) → Type 0
   FormNO d = IfThere (FormN G) d
 
   abbrev FormDs : List (Decision (L .O)) → Type 0
   FormDs [] = Unit {0}
-  FormDs (d ∷ ds) = FormD G d × FormDs ds
+  FormDs (d ∷ ds) = FormD G FewRepeats d × FormDs ds
 
   form-plain : FormN G genericDeny
   form-plain = (tt, few, tt, tt)
 
-  form-meetIn : (sofar : Option (Permit (L .O))) (q : Permit (L .O)) → FormPO sofar → FormP G q → FormP G (meetIn L sofar q)
+  form-meetIn : (sofar : Option (Permit (L .O))) (q : Permit (L .O)) → FormPO sofar → FormP G FewRepeats q → FormP G FewRepeats (meetIn L sofar q)
   form-meetIn none q h k = k
   form-meetIn (some p) q h k = form-meetP p q h k
 
-  form-joinIn : (sofar : Option (Permit (L .O))) (q : Permit (L .O)) → FormPO sofar → FormP G q → FormP G (joinIn L sofar q)
+  form-joinIn : (sofar : Option (Permit (L .O))) (q : Permit (L .O)) → FormPO sofar → FormP G FewRepeats q → FormP G FewRepeats (joinIn L sofar q)
   form-joinIn none q h k = k
   form-joinIn (some p) q h k = form-joinP p q h k
 
-  form-allEnd : (sofar : Option (Permit (L .O))) → FormPO sofar → FormD G (allEnd L sofar)
+  form-allEnd : (sofar : Option (Permit (L .O))) → FormPO sofar → FormD G FewRepeats (allEnd L sofar)
   form-allEnd none h = form-plain
   form-allEnd (some p) h = h
 
-  form-allFrom : (sofar : Option (Permit (L .O))) (ds : List (Decision (L .O))) → FormPO sofar → FormDs ds → FormD G (allFrom L sofar ds)
+  form-allFrom : (sofar : Option (Permit (L .O))) (ds : List (Decision (L .O))) → FormPO sofar → FormDs ds → FormD G FewRepeats (allFrom L sofar ds)
   form-allFrom sofar [] h k = form-allEnd sofar h
   form-allFrom sofar (permits q ∷ ds) h k = form-allFrom (some (meetIn L sofar q)) ds (form-meetIn sofar q h (k .0)) (k .1)
   form-allFrom sofar (denies d ∷ ds) h k = k .0
@@ -278,21 +282,21 @@ module _ (L : Outcomes) (G : L .O → Type 0) (meets : (a b : L .O) → G a → 
   form-firstDeny none d h k = k
   form-firstDeny (some c) d h k = h
 
-  form-anyEnd : (sofar : Option (Permit (L .O))) (first : Option (Denial (L .O))) → FormPO sofar → FormNO first → FormD G (anyEnd L sofar first)
+  form-anyEnd : (sofar : Option (Permit (L .O))) (first : Option (Denial (L .O))) → FormPO sofar → FormNO first → FormD G FewRepeats (anyEnd L sofar first)
   form-anyEnd (some p) first h k = h
   form-anyEnd none (some d) h k = k
   form-anyEnd none none h k = form-plain
 
-  form-anyFrom : (sofar : Option (Permit (L .O))) (first : Option (Denial (L .O))) (ds : List (Decision (L .O))) → FormPO sofar → FormNO first → FormDs ds → FormD G (anyFrom L sofar first ds)
+  form-anyFrom : (sofar : Option (Permit (L .O))) (first : Option (Denial (L .O))) (ds : List (Decision (L .O))) → FormPO sofar → FormNO first → FormDs ds → FormD G FewRepeats (anyFrom L sofar first ds)
   form-anyFrom sofar first [] h n k = form-anyEnd sofar first h n
   form-anyFrom sofar first (permits q ∷ ds) h n k = form-anyFrom (some (joinIn L sofar q)) first ds (form-joinIn sofar q h (k .0)) n (k .1)
   form-anyFrom sofar first (denies d ∷ ds) h n k = form-anyFrom sofar (some (firstDeny first d)) ds h (form-firstDeny first d n (k .0)) (k .1)
 
-  form-decide : (g : Grant (L .O)) (v : ConditionEval) → FormG G g → FormF (factsV v) → FormD G (evalGrant g v)
-  form-decide g (satisfied fs) h k = (h .0, h .1, h .2, k)
+  form-decide : (g : Grant (L .O)) (v : ConditionEval) → FormG G g → FormF (factsV v) → FormD G FewRepeats (evalGrant g v)
+  form-decide g (satisfied fs) h k = (h .0, (repeats-few mostObligations (g .obligations) (h .1 .0) (omega arith), h .1 .1), h .2, k)
   form-decide g (unsatisfied fs) h k = (h .0, k, h .2, h .3)
 
-  form-firstOf : (d e : Decision (L .O)) → FormD G d → FormD G e → FormD G (firstOf d e)
+  form-firstOf : (d e : Decision (L .O)) → FormD G FewRepeats d → FormD G FewRepeats e → FormD G FewRepeats (firstOf d e)
   form-firstOf (permits p) e h k = h
   form-firstOf (denies d) e h k = k
 
@@ -300,8 +304,8 @@ module _ (L : Outcomes) (G : L .O → Type 0) (meets : (a b : L .O) → G a → 
   form-facts T c h n = (omega (arith, facts-le T c), small-facts T c h)
 
   mutual
-    pub form-eval : (T : Table) (t : Policy (L .O)) → Form G t → FormD G (evalPolicy L T t)
-    form-eval T (permit o) h = (h, (tt, tt), tt, few)
+    pub form-eval : (T : Table) (t : Policy (L .O)) → Form G t → FormD G FewRepeats (evalPolicy L T t)
+    form-eval T (permit o) h = (h, no-obligations, tt, few)
     form-eval T deny h = form-plain
     form-eval T (grant g c) h = form-decide g (evalCondition T c) (h .0) (form-facts T c (h .1) (h .2))
     form-eval T (all ts) h = form-allFrom none (evalPolicies L T ts) tt (form-evals T ts (h .1))
@@ -316,7 +320,7 @@ module _ (L : Outcomes) (G : L .O → Type 0) (meets : (a b : L .O) → G a → 
   -- ---- what is left of a policy
   abbrev FormPs : List (Permit (L .O)) → Type 0
   FormPs [] = Unit {0}
-  FormPs (p ∷ ps) = FormP G p × FormPs ps
+  FormPs (p ∷ ps) = FormP G FewRepeats p × FormPs ps
 
   abbrev FormAll : AllWalk (L .O) → Type 0
   FormAll (stop d) = FormN G d
@@ -434,7 +438,7 @@ module _ (L : Outcomes) (G : L .O → Type 0) (meets : (a b : L .O) → G a → 
 
     mutual
       pub form-red : (t : Policy (L .O)) → Form G t → Form G (asResidual (reducePolicy L o P t))
-      form-red (permit x) h = (h, (tt, tt), tt, few)
+      form-red (permit x) h = (h, no-obligations, tt, few)
       form-red deny h = form-plain
       form-red (grant g c) h =
           form-redGrant g (evalCondition P c) (reduceCondition P c) (h .0) (form-facts P c (h .1) (h .2)) (form-redC P c (h .1)) (omega (arith, size-redC P c, h .2))

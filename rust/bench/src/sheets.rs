@@ -50,6 +50,8 @@ pub fn cases() -> Vec<Sheet> {
         Sheet::new(&"4,096 words", mixed(SHEET_WORDS)),
         Sheet::new(&"32 levels", levels(LEVELS)),
         Sheet::new(&"All of 4,095", permits(LIST)),
+        Sheet::new(&"4 obligations", obliging(1_023, 4)),
+        Sheet::new(&"64 obligations", obliging(215, 64)),
     ];
     cases.extend(tables());
     cases
@@ -97,6 +99,21 @@ fn grants(count: usize) -> Vec<u32> {
     let mut words = vec![list(0xA000_0000, count)];
     for fact in (0..1_024).cycle().take(count) {
         words.extend([0x8000_0000 | 1 << (fact % 16), 0, 0x2000_0000 | fact]);
+    }
+    words
+}
+
+/// An Any of grants of the same products, each with this many obligations: all of them are joined.
+fn obliging(count: usize, obligations: usize) -> Vec<u32> {
+    let mut words = vec![list(0xA000_0000, count)];
+    let lead = list(0x0000_0800, obligations) << 20 | 1;
+    for first in (0_u8..64).cycle().step_by(3).take(count) {
+        words.extend([lead, 0]);
+        let numbers = (0_u8..64).cycle().skip(first.into()).take(obligations);
+        let numbers: Vec<u8> = numbers.collect();
+        let (fours, _) = numbers.as_chunks();
+        words.extend(fours.iter().copied().map(u32::from_be_bytes));
+        words.push(0);
     }
     words
 }

@@ -109,10 +109,9 @@ impl Given {
                 self.other(due)
                     .map_or_else(|| self.word(self.stops(refusal, due)), ToOwned::to_owned),
             ),
-            Refusal::Level
-            | Refusal::Field
-            | Refusal::RepeatedObligation
-            | Refusal::WordsAfterTree => Some(self.word(self.stops(refusal, due))),
+            Refusal::Level | Refusal::Field | Refusal::WordsAfterTree => {
+                Some(self.word(self.stops(refusal, due)))
+            }
             _ => None,
         }
     }

@@ -72,6 +72,8 @@ The text form
   Then comes its tree, in which what is decided stands as
     permit-with-trace 0003 label 4 obligations 7 facts 5,6
     deny-with-trace hidden denied 0003 label 1 reason 2 facts 5
+  An obligation may stand twice in a list. A grant has at most 64 of them, a
+  permit-with-trace 127, all other lists 4095 items.
 
 Windows
   A list of retention windows says what facts are while a reading has an age,

@@ -1,5 +1,6 @@
 //! A call with its input, and its answer.
 
+use crate::narrow::Order;
 use crate::reference::{self, FactSet};
 use crate::refusal::Refusal;
 
@@ -90,12 +91,12 @@ impl Call {
         )
     }
 
-    /// Whether the call leaves arms in sheet order.
-    pub const fn in_order(self) -> bool {
-        matches!(
-            self,
-            Self::PartialEvaluateInOrder | Self::NarrowResidualInOrder
-        )
+    /// The order in which the call leaves arms.
+    pub const fn order(self) -> Order {
+        match self {
+            Self::PartialEvaluateInOrder | Self::NarrowResidualInOrder => Order::SheetOrder,
+            _ => Order::PermitsFirst,
+        }
     }
 }
 

@@ -23,7 +23,8 @@ enum Command {
         #[command(flatten)]
         sample: Sample,
     },
-    /// Stored answers of all calls on sheets and records, cases at the limits and then drawn ones; and as many registers as a tenth of these.
+    /// Stored answers of all calls on sheets and records, cases at the limits and then drawn ones, a tenth of them with obligations that repeat; and as many
+    /// registers as a tenth of these.
     Calls {
         #[command(flatten)]
         sample: Sample,
@@ -167,7 +168,9 @@ fn main() -> io::Result<()> {
         }
         Command::Calls { sample } => {
             let limits = limits::cases(&mut Rng::new(sample.seed));
-            let cases = [limits, sample.cases(&Call::ALL)].concat();
+            let repeating = cases::draw_repeating(sample.seed, sample.count / 10, &Call::ALL);
+            let others = cases::draw(sample.seed, sample.count - repeating.len(), &Call::ALL);
+            let cases = [limits, repeating, others].concat();
             let mut bytes = answers::file(&sample.command("calls"), &cases);
             let questions = registers::draw(sample.seed, sample.count / 10);
             questions.for_each(|question| bytes.extend(answers::asked(&question)));
@@ -191,22 +194,26 @@ fn main() -> io::Result<()> {
 }
 
 /// As many calls on words, and as many joins. Cases are drawn in batches, so that a long run holds few of them at a time. One in ten has a list of many arms,
-/// one in ten is a reduction or a narrowing of grants on several facts, one in ten has lists in lists, and records of either pair.
+/// one in ten is a reduction or a narrowing of grants on several facts, one in ten has lists in lists, and records of either pair, and two in ten have obligations that repeat.
 #[cfg(feature = "proved")]
 fn proved(sample: &Sample) -> io::Result<()> {
     use compare::proved;
+    use compare::repeats::Tally;
 
     const BATCH: usize = 20_000;
     let mut half_known = 0;
+    let mut met = Tally::default();
     for (batch, first) in (0..sample.count).step_by(BATCH).enumerate() {
         let count = BATCH.min(sample.count - first);
         let seed = sample.seed + batch as u64;
         let wide = cases::draw_wide(seed, count / 10, &Call::ALL);
         let several = cases::draw_half_known(seed, count / 10, &REDUCING);
         let layered = cases::draw_layered(seed, count / 10, &REDUCING);
-        let drawn = wide.len() + several.len() + layered.len();
+        let repeating = cases::draw_repeating(seed, count / 5, &Call::ALL);
+        let drawn = wide.len() + several.len() + layered.len() + repeating.len();
         let others = cases::draw(seed, count - drawn, &Call::ALL);
-        for case in [others, wide, several, layered].into_iter().flatten() {
+        let batch = [others, wide, several, layered, repeating];
+        for case in batch.into_iter().flatten() {
             if !proved::agrees(&case) {
                 let line = answers::line(&case, &case.answer());
                 return Err(io::Error::other(format!(
@@ -214,6 +221,7 @@ fn proved(sample: &Sample) -> io::Result<()> {
                 )));
             }
             half_known += usize::from(cases::is_half_known(&case));
+            met.add(&case);
         }
         if let Some(join) = joins::draw(seed, count)
             .iter()
@@ -224,7 +232,7 @@ fn proved(sample: &Sample) -> io::Result<()> {
         }
     }
     println!(
-        "{} cases and {0} joins, seed {}: no difference; {half_known} with a known grant whose condition names an Unknown fact",
+        "{} cases and {0} joins, seed {}: no difference; {half_known} with a known grant whose condition names an Unknown fact; {met}",
         sample.count, sample.seed
     );
     Ok(())

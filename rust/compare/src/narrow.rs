@@ -1,4 +1,4 @@
-//! Narrowing, and reduction in sheet order, from document 01's 'Reducing' and 'Narrowing' and from request 8 alone: the original has no such calls.
+//! Narrowing, and reduction in sheet order, from document 01's 'Reducing' and 'Narrowing' and from requests 3 and 8 alone: the original has no such calls.
 
 mod in_order;
 
@@ -30,19 +30,30 @@ pub fn narrow(record: &Record, table: &Table, order: Order) -> Record {
 
 /// Decides a tree as far as the table goes, after these consulted entries.
 pub fn reduce(consulted: &[Entry], tree: &Residual, table: &Table, order: Order) -> Record {
+    walked(consulted, tree, table, order).0
+}
+
+/// The same, and the joins on the way that unite obligations.
+pub fn walked(
+    consulted: &[Entry],
+    tree: &Residual,
+    table: &Table,
+    order: Order,
+) -> (Record, Vec<Union>) {
     let mut walk = Walk::new(table, order);
     for entry in consulted {
         walk.consult(*entry);
     }
     let reduced = walk.tree(tree);
     let consulted = walk.consulted;
-    match reduced {
+    let record = match reduced {
         Reduced::Resolved(decided) => Record::Resolved { consulted, decided },
         Reduced::Pending(residual) => Record::Pending {
             consulted,
             residual,
         },
-    }
+    };
+    (record, walk.unions)
 }
 
 /// Whether the table decides a grant of the tree whose condition names a fact that is Unknown.
@@ -69,6 +80,28 @@ fn names_unknown(condition: &Condition, table: &Table) -> bool {
         Condition::All(arms) | Condition::Any(arms) => {
             arms.iter().any(|arm| names_unknown(arm, table))
         }
+    }
+}
+
+/// The obligations that a join unites.
+#[derive(Clone, Debug)]
+pub struct Union {
+    /// Those of the permit so far.
+    pub held: Vec<u8>,
+    /// Those of the permit that is joined to it.
+    pub incoming: Vec<u8>,
+}
+
+impl Union {
+    /// Those held, and after them each incoming one that isn't held by then.
+    pub fn list(&self) -> Vec<u8> {
+        let mut list = self.held.clone();
+        for obligation in &self.incoming {
+            if !list.contains(obligation) {
+                list.push(*obligation);
+            }
+        }
+        list
     }
 }
 
@@ -104,6 +137,7 @@ struct Walk<'a> {
     table: &'a Table,
     order: Order,
     consulted: Vec<Entry>,
+    unions: Vec<Union>,
 }
 
 impl<'a> Walk<'a> {
@@ -112,6 +146,7 @@ impl<'a> Walk<'a> {
             table,
             order,
             consulted: Vec::new(),
+            unions: Vec::new(),
         }
     }
 
@@ -175,10 +210,41 @@ impl<'a> Walk<'a> {
             walked.add(self.tree(arm));
         }
         if walked.pending.is_empty() {
-            Reduced::Resolved(folded(walked, join))
+            Reduced::Resolved(self.joined(walked))
         } else {
             Reduced::Pending(Tree::Any(walked.kept()))
         }
+    }
+
+    /// An Any without pending arms.
+    fn joined(&mut self, arms: Arms) -> Decided {
+        folded(arms, |earlier, incoming| self.join(earlier, incoming))
+    }
+
+    fn join(&mut self, earlier: Permit, incoming: Permit) -> Permit {
+        let outcome = Products(earlier.outcome.0 | incoming.outcome.0);
+        match (outcome == earlier.outcome, outcome == incoming.outcome) {
+            (true, true) => Permit {
+                obligations: self.unite(&earlier, &incoming),
+                ..earlier
+            },
+            (false, true) => incoming,
+            (true, false) => earlier,
+            (false, false) => Permit {
+                obligations: self.unite(&earlier, &incoming),
+                ..Permit::plain(outcome)
+            },
+        }
+    }
+
+    fn unite(&mut self, earlier: &Permit, incoming: &Permit) -> Vec<u8> {
+        let union = Union {
+            held: earlier.obligations.clone(),
+            incoming: incoming.obligations.clone(),
+        };
+        let list = union.list();
+        self.unions.push(union);
+        list
     }
 
     fn or_else(&mut self, primary: &Residual, fallback: &Residual) -> Reduced {
@@ -269,7 +335,7 @@ impl Arms {
 }
 
 /// A list without pending arms: its permits folded, or else its first deny, or else a plain one.
-fn folded(arms: Arms, fold: fn(Permit, Permit) -> Permit) -> Decided {
+fn folded(arms: Arms, fold: impl FnMut(Permit, Permit) -> Permit) -> Decided {
     match arms.permits.into_iter().reduce(fold) {
         Some(permit) => Decided::Permit(permit),
         None => Decided::Deny(arms.denies.into_iter().next().unwrap_or_else(Deny::plain)),
@@ -285,28 +351,6 @@ fn meet(earlier: Permit, incoming: Permit) -> Permit {
     } else {
         Permit::plain(outcome)
     }
-}
-
-fn join(earlier: Permit, incoming: Permit) -> Permit {
-    let outcome = Products(earlier.outcome.0 | incoming.outcome.0);
-    match (outcome == earlier.outcome, outcome == incoming.outcome) {
-        (true, true) => Permit {
-            obligations: united(&earlier.obligations, &incoming.obligations),
-            ..earlier
-        },
-        (false, true) => incoming,
-        (true, false) => earlier,
-        (false, false) => Permit {
-            obligations: united(&earlier.obligations, &incoming.obligations),
-            ..Permit::plain(outcome)
-        },
-    }
-}
-
-/// The held obligations, then the incoming ones that aren't held.
-fn united(held: &[u8], incoming: &[u8]) -> Vec<u8> {
-    let fresh = incoming.iter().filter(|number| !held.contains(number));
-    held.iter().chain(fresh).copied().collect()
 }
 
 /// A grant whose condition is known, evaluated from the partial table itself.

@@ -12,7 +12,7 @@ use crate::products::Products;
 use crate::refusal::Refusal;
 use crate::words::table::Table;
 use crate::words::tree::Record;
-use crate::words::{FACTS, LIST, RECORD_WORDS, convert, read, write};
+use crate::words::{FACTS, RECORD_WORDS, convert, read, write};
 
 /// Sixteen 64-bit numbers, fact 0 the top bit of the first.
 #[derive(Clone, Copy, Debug, Default, PartialEq, Eq)]
@@ -157,7 +157,7 @@ fn top(words: &[u32]) -> Result<ResidualPolicy<Products>, Refusal> {
 /// The record's words, unless the output or the format has no room for them.
 fn fitted(record: &Record, room: usize) -> Result<Vec<u32>, Refusal> {
     // A list that its count can't hold has no words, so this comes before writing.
-    if record.longest_list() > LIST {
+    if !record.is_countable() {
         return Err(Refusal::Room);
     }
     let words = write::record(record);

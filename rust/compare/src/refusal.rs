@@ -1,6 +1,6 @@
 //! The numbered causes for which a call is turned back.
 
-/// A cause of document 01's table, or of a request after it; the discriminant is its number.
+/// A cause of document 01's table, or of a request after it; the discriminant is its number. 9 is free: obligations may repeat.
 #[derive(Clone, Copy, Debug, PartialEq, Eq)]
 #[repr(u8)]
 pub enum Refusal {
@@ -20,11 +20,9 @@ pub enum Refusal {
     Level = 7,
     /// A field that must be 0 isn't, or holds what its list or count doesn't allow.
     Field = 8,
-    /// Obligation repeated in one list.
-    Repeated = 9,
     /// Words after the tree.
     Trailing = 10,
-    /// Result longer than the output or 16,384 words, or a fact list in it over 4,095.
+    /// Result longer than the output or 16,384 words, or a list in it over 4,095 facts or 127 obligations.
     Room = 11,
     /// A date that doesn't exist or lies outside 1900 to 2199.
     Date = 12,

@@ -17,7 +17,11 @@ pub const TABLE_BYTES: usize = 256;
 pub const LEVELS: usize = 32;
 /// What a count of arms, facts or consulted entries can say.
 pub const LIST: usize = 4_095;
-/// Obligations of the longest list.
-pub const OBLIGATIONS: usize = 64;
+/// Obligations of the longest list in a Grant.
+pub const GRANT_OBLIGATIONS: usize = 64;
+/// What a node 12's count of obligations can say.
+pub const TRACE_OBLIGATIONS: usize = 127;
+/// Obligations that there are.
+pub const OBLIGATIONS: u8 = 64;
 /// Facts that there are.
 pub const FACTS: u16 = 1_024;

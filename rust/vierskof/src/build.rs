@@ -117,8 +117,8 @@ pub enum Unwritable {
     Arms,
     /// The sheet has more than 4,096 words.
     Words,
-    /// An obligation is repeated in one list.
-    RepeatedObligation,
+    /// A grant has more than 64 obligations.
+    Obligations,
     /// The output is shorter than the sheet.
     Room,
 }
@@ -158,7 +158,7 @@ impl<'t> Grant<'t> {
         self
     }
 
-    /// Its permit has these obligations, none twice.
+    /// Its permit has these obligations, at most 64. One that stands there twice is written twice.
     #[must_use]
     pub const fn obligations(mut self, obligations: &'t [Obligation]) -> Self {
         self.obligations = obligations;
@@ -203,7 +203,7 @@ impl fmt::Display for Unwritable {
             Self::Levels => "the policy has more than 32 levels",
             Self::Arms => "a list has more than 4095 arms",
             Self::Words => "the sheet has more than 4096 words",
-            Self::RepeatedObligation => "an obligation is repeated in one list",
+            Self::Obligations => "a grant has more than 64 obligations",
             Self::Room => "the output is shorter than the sheet",
         })
     }

@@ -146,6 +146,10 @@ pub const TABLE_BYTES: usize = 256;
 pub const LEVELS: usize = 32;
 /// The most arms, facts or consulted entries of one list.
 pub const LIST: usize = 4_095;
+/// The most obligations of a grant.
+pub const GRANT_OBLIGATIONS: usize = 64;
+/// The most obligations of a permit that a record stores.
+pub const TRACE_OBLIGATIONS: usize = 127;
 /// Words of the longest register, two an entry.
 pub const REGISTER_WORDS: usize = 512;
 /// The most windows of one list.

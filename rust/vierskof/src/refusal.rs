@@ -7,7 +7,7 @@ use crate::OutOfRange;
 
 /// Why a call was turned back.
 ///
-/// The discriminant is the cause's number. Where there are several causes, the call names the first
+/// The discriminant is the cause's number; 9 is free, and no call returns it. Where there are several causes, the call names the first
 /// that its reading meets: the length of the words, then the table, then the words from the first,
 /// then what follows them, then the room. A register has one cause alone. A join looks at both
 /// lengths, both tables' fields, whether they clash, then the room. For windows it is the dates,
@@ -40,13 +40,11 @@ pub enum Refusal {
     WordsEnd = 6,
     /// A node stands on a 33rd level.
     Level = 7,
-    /// A field that must be 0 isn't, an obligation is over 63 or their count over 64, or a consulted presence is 3.
+    /// A field that must be 0 isn't, an obligation is over 63, a grant has over 64 of them, or a consulted presence is 3.
     Field = 8,
-    /// An obligation is repeated in one list.
-    RepeatedObligation = 9,
     /// There are words after the tree.
     WordsAfterTree = 10,
-    /// The result is longer than the output; or it is a record over 16,384 words, or with a fact list of over 4,095 facts.
+    /// The result is longer than the output; or it is a record over 16,384 words, or with a list of over 4,095 facts or 127 obligations.
     Room = 11,
     /// A date doesn't exist, or isn't of the years 1900 to 2199.
     Date = 12,
@@ -70,7 +68,6 @@ impl Refusal {
         Self::WordsEnd,
         Self::Level,
         Self::Field,
-        Self::RepeatedObligation,
         Self::WordsAfterTree,
         Self::Room,
         Self::Date,
@@ -95,7 +92,6 @@ impl Refusal {
             Self::WordsEnd => "the words end before the record or tree is complete",
             Self::Level => "the tree has more than 32 levels",
             Self::Field => "a field holds a number that it may not hold",
-            Self::RepeatedObligation => "an obligation is repeated in one list",
             Self::WordsAfterTree => "there are words after the tree",
             Self::Room => "the result has no room in the output or exceeds its limits",
             Self::Date => "a date doesn't exist or lies outside the years 1900 to 2199",

@@ -2,6 +2,7 @@
 use mathlib.Core.Path.{ap}
 use native.Mathlib.Omega.{arith}
 use Rattle.clause.specs.Clauses.{decisionSize}
+use Rattle.clause.specs.AnswerLaws.{few-facts, few-obligations}
 use Rattle.clause.proofs.Writing.{permit-written, deny-written}
 use borrow.Author.Needs.{needs}
 use Rattle.clause.proofs.write_decision.Statement.{statement}
@@ -14,6 +15,8 @@ write-permit-with-trace-requires : tie.Need-write-permit-with-trace-requires
 write-permit-with-trace-requires c κs =
     let args = c .before .before .before .before .before .before .before .args in
     let size = ap (λ b. decisionSize b (args .held) (args .count)) (c .before .if1 .taken) in
+    let few = few-obligations (args .decision .permit) (args .held) (args .count) (c .before .if1 .taken) (c .before .before .before .before .before .before .before .pre .0) in
+    let listed = few-facts (args .decision .permit) (args .held) (args .count) (c .before .before .before .before .before .before .before .pre .0) in
     (omega arith, omega arith, omega arith, omega arith, omega arith)
 
 same-length : tie.Need-same-length
@@ -29,6 +32,7 @@ write-deny-with-trace-requires : tie.Need-write-deny-with-trace-requires
 write-deny-with-trace-requires c κs =
     let args = c .before .before .before .before .before .before .before .args in
     let size = ap (λ b. decisionSize b (args .held) (args .count)) (c .before .if1 .left) in
+    let listed = few-facts (args .decision .permit) (args .held) (args .count) (c .before .before .before .before .before .before .before .pre .0) in
     (omega arith, omega arith, omega arith)
 
 same-length-2 : tie.Need-same-length-2

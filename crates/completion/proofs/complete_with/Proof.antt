@@ -41,7 +41,7 @@ same-length-4 c = search needs
 
 returns : tie.Need-returns
 returns c =
-    let put = c .before .before .before .before .before .before in
+    let put = c .before .before .before .before in
     let eval = put .before .before .before .before .before .before .before .before .before .before in
     let load = eval .before .before .before .before .before .before .before in
     let start = load .before .before .before .before .before .before .before .before .before in

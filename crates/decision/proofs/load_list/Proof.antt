@@ -1,16 +1,16 @@
 -- `decision::load_list` meets its contract. The loop's invariant: the first i fields are written. Assumes nothing.
 use Prim.Native.Nat.{_-_}
 use native.Mathlib.Omega.{arith}
-use borrow.Author.Needs.{needs}
 use Rattle.decision.proofs.Lists.{Loading, load-none, load-more, load-all}
+use borrow.Author.Needs.{needs}
 use Rattle.decision.proofs.load_list.Statement.{statement}
 use Rattle.decision.proofs.load_list.Tie as tie
 
 abbrev Inv-loop : tie.InvT-loop
-Inv-loop node count buf₀ i₀ buf i = Loading node count buf₀ buf i
+Inv-loop node count out₀ i₀ out i = Loading node count out₀ out i
 
 abbrev μ-loop : tie.MeasureT-loop
-μ-loop node count buf₀ i₀ buf i = count - i
+μ-loop node count out₀ i₀ out i = count - i
 
 loop-holds : tie.Need-loop-holds Inv-loop μ-loop
 loop-holds c = load-none _ _ _
@@ -18,8 +18,8 @@ loop-holds c = load-none _ _ _
 obligation-at-requires : tie.Need-obligation-at-requires Inv-loop μ-loop
 obligation-at-requires c κs = search needs
 
-slice-write-buf : tie.Need-slice-write-buf Inv-loop μ-loop
-slice-write-buf c = search needs
+slice-write-out : tie.Need-slice-write-out Inv-loop μ-loop
+slice-write-out c = search needs
 
 add-i : tie.Need-add-i Inv-loop μ-loop
 add-i c = search needs
@@ -28,7 +28,7 @@ loop-less : tie.Need-loop-less Inv-loop μ-loop
 loop-less c = search needs
 
 loop-again : tie.Need-loop-again Inv-loop μ-loop
-loop-again c = load-more _ _ _ _ _ _ (omega arith) (omega arith) (c .before .before .loop .inv) (c .before .loop-test .taken) (c .obligation-at .ensures)
+loop-again c = load-more _ _ _ _ _ _ (omega arith) (c .before .before .loop .inv) (c .before .loop-test .taken) (c .obligation-at .ensures)
 
 same-length : tie.Need-same-length Inv-loop μ-loop
 same-length c = c .before .loop .inv .long
@@ -37,16 +37,4 @@ returns : tie.Need-returns Inv-loop μ-loop
 returns c = load-all _ _ _ _ _ (c .before .loop .inv) (c .loop-test .left)
 
 pub load-list-spec : {M : Type 1} → statement M
-load-list-spec =
-    tie.close
-    (tie.spec
-    Inv-loop
-    μ-loop
-    loop-holds
-    obligation-at-requires
-    slice-write-buf
-    add-i
-    loop-less
-    loop-again
-    same-length
-    returns)
+load-list-spec = tie.close (tie.spec Inv-loop μ-loop loop-holds obligation-at-requires slice-write-out add-i loop-less loop-again same-length returns)

@@ -37,7 +37,7 @@ same-length c = search needs
 returns-2 : tie.Need-returns-2
 returns-2 c =
     let count = c .before .before .before .before .before in
-    loaded _ _ _ _ _ (count .before .before .if1 .left) (count .obligation-count .ensures .0) (count .obligation-count .ensures .1) (c .before .before .load-list .ensures)
+    loaded _ _ _ _ (count .before .before .if1 .left) (count .obligation-count .ensures .0) (count .obligation-count .ensures .1) (c .before .before .load-list .ensures)
 
 pub load-obligations-spec : {M : Type 1} → statement M
 load-obligations-spec =

@@ -66,7 +66,7 @@ put-record-requires c κs =
 
 same-length-7 : tie.Need-same-length-7
 same-length-7 c =
-    let entries2 = c .before .before .before .before .before .before .before .before .before .before .before .before .before .before .before .before .before .before .before .before .before .before in
+    let entries2 = c .before .before .before .before .before .before .before .before .before .before .before .before .before .before .before .before .before .before .before .before in
     omega (arith, entries2 .entries2 .given, entries2 .before .before .before .before .before .before .before .before .before .before .entries .given)
 
 same-length-8 : tie.Need-same-length-8
@@ -86,7 +86,7 @@ same-length-12 c = search needs
 
 returns-2 : tie.Need-returns-2
 returns-2 c =
-    let put = c .before .before .before .before .before .before in
+    let put = c .before .before .before .before in
     let reduced = put .before .before .before .before .before .before .before .before .before .before .before .before .before .before .before .before .before in
     let load = reduced .before .before .before .before .before .before .before .before .before .before in
     let start = load .before .before .before .before .before .before .before .before .before .before .before in

@@ -1,12 +1,7 @@
 -- `policy_model::with_field` meets its contract: by the tests of the field. Assumes nothing.
-use mathlib.Core.Path.{ap}
-use Prim.Native.Nat.{_-_, _<_}
 use borrow.Author.Needs.{needs}
 use borrow.Author.Tests.{eq-eqb, ne-eqb, lt-ltb, le-ltb}
-use lib.Bits.{bitOr}
-use Rattle.policy_model.specs.declared.Obligations.the-variants.{Seen}
 use Rattle.policy_model.specs.Lists.{seenOne}
-use Rattle.policy_model.proofs.Masks.{one-shifted}
 use Rattle.policy_model.proofs.with_field.Statement.{statement}
 use Rattle.policy_model.proofs.with_field.Tie as tie
 
@@ -28,31 +23,16 @@ returns-3 : tie.Need-returns-3
 unfolding seenOne
 returns-3 c = rw (c .before .before .before .seen2 .given .1, ne-eqb _ _ (c .before .if1 .left), le-ltb _ _ (c .if3 .taken))
 
-shr-if4 : tie.Need-shr-if4
-shr-if4 c = search needs
+sub-more : tie.Need-sub-more
+sub-more c = search needs
 
 returns-4 : tie.Need-returns-4
 unfolding seenOne
-returns-4 c = rw (c .before .before .before .before .seen2 .given .1, ne-eqb _ _ (c .before .before .if1 .left), lt-ltb _ _ (c .before .if3 .left), eq-eqb _ _ (c .if4 .taken))
-
-shl-t11 : tie.Need-shl-t11
-shl-t11 c = search needs
-
-sub-t13 : tie.Need-sub-t13
-sub-t13 c = search needs
+returns-4 c = rw (c .before .seen .given .1)
 
 returns-5 : tie.Need-returns-5
 unfolding seenOne
-returns-5 c = rw (c .before .seen .given .1)
-
-returns-6 : tie.Need-returns-6
-unfolding seenOne
-returns-6 c =
-    let known = c .before .before .before .before .seen2 .given .0 in
-    let small : c .before .before .before .before .before .before .args .field < 64 = c .before .if3 .left in
-    rw (c .before .before .before .before .seen2 .given .1, ne-eqb _ _ (c .before .before .if1 .left), lt-ltb _ _ (c .before .if3 .left), ne-eqb _ _ (c .if4 .left))
-    (ap (λ m. Seen (bitOr (known .0) m) (known .1 .0 - 1)) (one-shifted _ small))
+returns-5 c = rw (c .before .before .before .seen2 .given .1, ne-eqb _ _ (c .before .if1 .left), lt-ltb _ _ (c .if3 .left))
 
 pub with-field-spec : {M : Type 1} → statement M
-with-field-spec =
-    tie.close (tie.spec enum-known-seen enum-known-seen-2 returns returns-2 returns-3 shr-if4 returns-4 shl-t11 sub-t13 returns-5 returns-6)
+with-field-spec = tie.close (tie.spec enum-known-seen enum-known-seen-2 returns returns-2 returns-3 sub-more returns-4 returns-5)

@@ -1,6 +1,6 @@
 -- `policy_model::with_word` meets its contract: field after field. Assumes nothing.
 use borrow.Author.Needs.{needs}
-use Rattle.policy_model.proofs.Masks.{four-seen}
+use Rattle.policy_model.proofs.Quads.{four-seen}
 use Rattle.policy_model.proofs.with_word.Statement.{statement}
 use Rattle.policy_model.proofs.with_word.Tie as tie
 

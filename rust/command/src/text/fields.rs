@@ -7,9 +7,6 @@ use vierskof::{Fact, Label, Obligation, Products, Reason};
 use super::line::{Fault, Line, quoted};
 use crate::numbers::{self, Read};
 
-/// Obligations of the longest list.
-const OBLIGATIONS: usize = 64;
-
 /// What a clause may say after its outcome.
 #[derive(Debug, Default)]
 pub struct Clause {
@@ -63,8 +60,8 @@ impl<'t> Fields<'t> {
         Ok(items)
     }
 
-    /// The rest of the line as parts of a clause, each of these at most once and in any order.
-    pub fn clause(&mut self, parts: &[&str]) -> Result<Clause, Fault> {
+    /// The rest of the line as parts of a clause, each of these at most once and in any order, with so many obligations at most.
+    pub fn clause(&mut self, parts: &[&str], obligations: usize) -> Result<Clause, Fault> {
         let mut parts = parts.to_vec();
         let mut clause = Clause::default();
         while let Some(word) = self.left.next() {
@@ -72,23 +69,23 @@ impl<'t> Fields<'t> {
                 let due = [&["the end of the line"], parts.as_slice()].concat();
                 return Err(self.line.fault(&quoted(word), &due.join(" or ")));
             };
-            self.part(parts.remove(at), &mut clause)?;
+            self.part(parts.remove(at), obligations, &mut clause)?;
         }
         Ok(clause)
     }
 
     /// Nothing may be left.
     pub fn end(&mut self) -> Result<(), Fault> {
-        self.clause(&[]).map(|_| ())
+        self.clause(&[], 0).map(|_| ())
     }
 
-    fn part(&mut self, name: &str, clause: &mut Clause) -> Result<(), Fault> {
+    fn part(&mut self, name: &str, most: usize, clause: &mut Clause) -> Result<(), Fault> {
         match name {
             "hidden" => clause.hidden = true,
             "denied" => clause.denied = Some(self.item(numbers::products)?),
             "label" => clause.label = Some(self.item(numbers::label)?),
             "reason" => clause.reason = Some(self.item(numbers::reason)?),
-            "obligations" => clause.obligations = self.list(numbers::obligation, OBLIGATIONS)?,
+            "obligations" => clause.obligations = self.list(numbers::obligation, most)?,
             "facts" => clause.facts = self.list(numbers::fact, vierskof::LIST)?,
             _ => unreachable!("no clause has a part {name}"),
         }

@@ -120,7 +120,8 @@ fn policy(name: &str, place: Place, fields: &mut Fields<'_>) -> Result<Node, Fau
         "deny" => one_word(7, 0, Below::NOTHING),
         "grant" => {
             let outcome = fields.item(numbers::products)?;
-            let clause = fields.clause(&["hidden", "label", "reason", "obligations"])?;
+            let parts = ["hidden", "label", "reason", "obligations"];
+            let clause = fields.clause(&parts, vierskof::GRANT_OBLIGATIONS)?;
             let below = Below::Exactly(1, Place::Condition);
             (pack::grant(outcome, &clause), below)
         }
@@ -129,11 +130,13 @@ fn policy(name: &str, place: Place, fields: &mut Fields<'_>) -> Result<Node, Fau
         "or-else" => one_word(11, 0, Below::Exactly(2, place)),
         "permit-with-trace" => {
             let outcome = fields.item(numbers::products)?;
-            let clause = fields.clause(&["label", "obligations", "facts"])?;
+            let parts = ["label", "obligations", "facts"];
+            let clause = fields.clause(&parts, vierskof::TRACE_OBLIGATIONS)?;
             (pack::permit_with_trace(outcome, &clause), Below::NOTHING)
         }
         "deny-with-trace" => {
-            let clause = fields.clause(&["hidden", "denied", "label", "reason", "facts"])?;
+            let parts = ["hidden", "denied", "label", "reason", "facts"];
+            let clause = fields.clause(&parts, 0)?;
             (pack::deny_with_trace(&clause), Below::NOTHING)
         }
         _ => unreachable!("{name} is no policy's name"),

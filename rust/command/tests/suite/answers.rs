@@ -40,6 +40,28 @@ fn facts_that_are_not_named() {
 }
 
 #[test]
+fn obligations_may_repeat() {
+    let grant = "grant 0001 obligations 7,9,7\n  always\n";
+    let held = "E0000000 C0300001 00000000 07090700\n";
+    assert_eq!(answer("evaluate --to hex", grant), held);
+    let shown = answer("show", held);
+    assert!(shown.contains("\n# Obligations: 7, 9, 7.\n"), "{shown}");
+    assert!(shown.ends_with("\npermit-with-trace 0001 obligations 7,9,7\n"));
+    assert_eq!(answer("assemble", &shown), held);
+    // A join appends what isn't held by then.
+    let any =
+        "any\n  grant 0001 obligations 5\n    always\n  grant 0001 obligations 6,6,5\n    always\n";
+    let joined = "E0000000 C0200001 00000000 05060000\n";
+    assert_eq!(answer("evaluate --to hex", any), joined);
+    // A stored permit may have more than a grant.
+    let full = format!(
+        "pending\npermit-with-trace 0001 obligations {}\n",
+        ["5"; 127].join(",")
+    );
+    assert!(answer("complete", &full).ends_with(full.trim_start_matches("pending")));
+}
+
+#[test]
 fn policies_may_stay_in_sheet_order() {
     let sheet = "all\n  grant 0001 obligations 7\n    has 5\n  permit 0001\n";
     let record = answer("reduce --in-order --to hex", sheet);

@@ -212,14 +212,23 @@ fn list(item: &str, length: usize) -> String {
 fn lengths_of_lists() {
     let long =
         |most: usize| format!("line 2: found a longer list, but a list of at most {most} is due");
-    let obligations = |length| {
+    let granted = |length| {
         format!(
             "any\n  grant 0001 obligations {}\n    always",
             list("7", length)
         )
     };
-    assert_eq!(assembled(&obligations(64)).len(), 20);
-    fault(&obligations(65), &long(64));
+    assert_eq!(assembled(&granted(64)).len(), 20);
+    fault(&granted(65), &long(64));
+
+    let stored = |length| {
+        format!(
+            "resolved\npermit-with-trace 0001 obligations {}",
+            list("7", length)
+        )
+    };
+    assert_eq!(assembled(&stored(127)).len(), 3 + 32);
+    fault(&stored(128), &long(127));
 
     let facts = |length| {
         format!(

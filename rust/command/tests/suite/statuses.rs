@@ -28,7 +28,6 @@ fn refusals_say_their_number() {
         ("required", "C0000001 00000000", 5),
         ("required", "88000003", 6),
         ("reduce", "70000001", 8),
-        ("assemble", "grant 0001 obligations 7,7\n  always", 9),
         ("show", "70000000 70000000", 10),
     ] {
         let message = failure(1, arguments, input);
@@ -63,7 +62,6 @@ fn words_of_the_other_kind() {
 fn refusals_say_where() {
     let arms = |arm: &str, count: usize| format!("any\n{}", arm.repeat(count));
     let long = arms("  permit 0001\n  deny\n", 2_047) + "  any\n    deny\n    deny\n";
-    let repeated = "# Twice.\nany\n  deny\n  grant 0001 obligations 7,9,8,12,9\n    always\n";
     let levels: Vec<String> = (0..33)
         .map(|depth| format!("{:1$}any", "", 2 * depth))
         .collect();
@@ -94,11 +92,10 @@ fn refusals_say_where() {
         ("show", "A0000002 70000000 00000000", "word 3, 00000000"),
         ("evaluate", "A0000002\n70000000\n", "after word 2, the last"),
         ("show", &deep, "line 33"),
-        ("assemble", repeated, "line 4"),
         (
             "show",
-            "80200001 00000000 07070000 00000000",
-            "word 3, 07070000",
+            "80200001 00000000 07400000 00000000",
+            "word 3, 07400000",
         ),
         ("show", "A0000001 70000100 70000000", "word 2, 70000100"),
         ("show", "70000000 70000000 60000001", "word 2, 70000000"),

@@ -6,8 +6,9 @@ use super::rng::Rng;
 use super::{damage, tables};
 use crate::case::{Answer, Call, Case};
 use crate::narrow::{Order, known_by_part};
+use crate::repeats::repeats;
 use crate::words::table::Table;
-use crate::words::tree::Record;
+use crate::words::tree::{Record, Residual};
 use crate::words::{read, write};
 
 /// The lead of a Pending record without consulted entries.
@@ -72,6 +73,30 @@ pub fn draw_layered(seed: u64, count: usize, calls: &[Call]) -> Vec<Case> {
     })
 }
 
+/// The same with obligations that repeat, and with joins of such that come to about as many as a node 12 can hold.
+pub fn draw_repeating(seed: u64, count: usize, calls: &[Call]) -> Vec<Case> {
+    let mut cases = draw_of(seed, count, calls, |rng, alphabet, call| {
+        let alphabet = alphabet.repeating();
+        if call.reads_sheet() {
+            return write::tree(&repeating(rng, |rng| Grower::of_sheets(rng, &alphabet)));
+        }
+        if rng.percent(30) {
+            return staged(rng, &alphabet, call.order());
+        }
+        let tree = write::tree(&repeating(rng, |rng| Grower::of_records(rng, &alphabet)));
+        [&[PENDING], tree.as_slice()].concat()
+    });
+    let mut rng = Rng::new(seed);
+    for case in &mut cases {
+        if let Ok(Answer::Record(record)) = case.answer()
+            && rng.percent(20)
+        {
+            case.room = around(&mut rng, record.len());
+        }
+    }
+    cases
+}
+
 /// Whether an accepted reduction or narrowing has a grant that is known, though its condition names an Unknown fact.
 pub fn is_half_known(case: &Case) -> bool {
     let words = match case.call {
@@ -124,13 +149,8 @@ fn case(rng: &mut Rng, call: Call, words: Words) -> Case {
 /// A record that a chain of reductions and narrowings in the call's order wrote, or one written by hand.
 fn record(rng: &mut Rng, alphabet: &Alphabet, call: Call) -> Vec<u32> {
     let words = size(rng);
-    let order = if call.in_order() {
-        Order::SheetOrder
-    } else {
-        Order::PermitsFirst
-    };
     match rng.below(100) {
-        0..=29 => staged(rng, alphabet, order),
+        0..=29 => staged(rng, alphabet, call.order()),
         30..=69 => {
             let tree = grown(rng, |rng| Grower::of_records(rng, alphabet));
             [&[PENDING], tree.as_slice()].concat()
@@ -171,6 +191,21 @@ fn grown<'a>(rng: &'a mut Rng, grower: impl FnOnce(&'a mut Rng) -> Grower<'a>) -
     })
 }
 
+/// A tree over an alphabet of obligations that repeat.
+fn repeating<'a>(rng: &'a mut Rng, grower: impl FnOnce(&'a mut Rng) -> Grower<'a>) -> Residual {
+    let kind = rng.below(10);
+    let words = size(rng);
+    let mut grower = grower(rng);
+    match kind {
+        0..=3 => grower.uniting(),
+        4 => grower.repeating(),
+        5 => grower.layered(),
+        6 => grower.wide(),
+        7 | 8 => grower.mixed(),
+        _ => grower.tree(words, 1),
+    }
+}
+
 /// How many words a tree may have.
 fn size(rng: &mut Rng) -> usize {
     match rng.below(20) {
@@ -192,11 +227,15 @@ fn table(rng: &mut Rng, alphabet: &Alphabet, call: Call) -> Vec<u8> {
 /// An output that the record just fits, just doesn't, or doesn't by far.
 fn tight(rng: &mut Rng, case: &Case) -> usize {
     match case.answer() {
-        Ok(Answer::Record(record)) => {
-            let words = record.len();
-            let less = rng.below(words);
-            rng.pick(&[words, words, words - 1, words - 1, less, 0])
-        }
+        Ok(Answer::Record(record)) if !repeats(case) => around(rng, record.len()),
+        // Words with an obligation twice were refused when answers were first stored. One draw for them, as for all that is refused, leaves the cases
+        // after them as they were.
         _ => rng.below(4),
     }
+}
+
+/// Room around so many words, or far less.
+fn around(rng: &mut Rng, words: usize) -> usize {
+    let less = rng.below(words);
+    rng.pick(&[words, words, words - 1, words - 1, less, 0])
 }

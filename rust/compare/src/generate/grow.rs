@@ -5,7 +5,7 @@ use gatekeep::{DenyShape, Presence};
 use super::rng::Rng;
 use crate::products::Products;
 use crate::words::tree::{Condition, Decided, Deny, Entry, Grant, Permit, Record, Residual, Tree};
-use crate::words::{FACTS, LEVELS, LIST, write};
+use crate::words::{FACTS, GRANT_OBLIGATIONS, LEVELS, LIST, OBLIGATIONS, TRACE_OBLIGATIONS, write};
 
 /// The few numbers that one case draws from, so that they meet each other often.
 #[derive(Clone, Debug)]
@@ -14,7 +14,7 @@ pub struct Alphabet {
     pub facts: Vec<u16>,
     /// Outcomes.
     pub outcomes: Vec<Products>,
-    /// Obligations, none repeated.
+    /// Obligations. A list has each as often as it stands here at most.
     pub obligations: Vec<u8>,
     /// Labels and reasons.
     pub names: Vec<u16>,
@@ -31,12 +31,21 @@ impl Alphabet {
         } else {
             rng.pick(&[2, 4, 8, 14])
         };
-        let obligations: Vec<u8> = (0..64).collect();
+        let obligations: Vec<u8> = (0..OBLIGATIONS).collect();
         Self {
             facts: some(rng, 6, |rng| rng.small(facts)),
             outcomes: some(rng, 4, |rng| Products(rng.pick(&OUTCOMES))),
             obligations: rng.choose(&obligations, 5),
             names: some(rng, 4, |rng| rng.pick(&[0, 1, 2, 0x7FFE, 0x7FFF])),
+        }
+    }
+
+    /// The same with obligations that may repeat in a list.
+    #[must_use]
+    pub fn repeating(&self) -> Self {
+        Self {
+            obligations: self.obligations.repeat(3),
+            ..self.clone()
         }
     }
 
@@ -214,7 +223,7 @@ impl<'a> Grower<'a> {
     pub fn bulky(&mut self, obligations: usize) -> Residual {
         let condition = self.condition(3, 2);
         Tree::Grant(Grant {
-            obligations: (0..64).cycle().take(obligations).collect(),
+            obligations: (0..OBLIGATIONS).cycle().take(obligations).collect(),
             ..self.grant_of(condition, 0)
         })
     }
@@ -235,6 +244,70 @@ impl<'a> Grower<'a> {
             Tree::Permit(self.outcome())
         };
         self.list(vec![beside, Tree::Grant(grant)])
+    }
+
+    /// An Any that unites two lists of obligations, often to about as many as a node 12 can hold, and beside it what keeps the union, drops it or joins it.
+    pub fn uniting(&mut self) -> Residual {
+        let lists = if self.rng.percent(40) {
+            [self.repeats(), self.repeats()]
+        } else {
+            self.full()
+        };
+        // The same products, or such that neither has the other's.
+        let outcomes = self.rng.pick(&[[1, 1], [1, 1], [1, 2]]).map(Products);
+        let [first, second] = lists;
+        let arms = vec![
+            self.obliged(outcomes[0], first),
+            self.obliged(outcomes[1], second),
+        ];
+        let united = Tree::Any(arms);
+        let fact = self.fact();
+        match self.rng.below(6) {
+            0 => Tree::Any(vec![united, Tree::Permit(Products(7))]),
+            1 => Tree::All(vec![united, Tree::Permit(Products(0))]),
+            2 => Tree::Any(vec![united, Tree::Grant(self.grant_on(fact))]),
+            3 => Tree::All(vec![Tree::Grant(self.grant_on(fact)), united]),
+            _ => united,
+        }
+    }
+
+    /// Two lists that come to about as many obligations as a node 12 can hold, or to the most that two such nodes can come to. In a sheet the first has about
+    /// as many as a Grant can hold.
+    fn full(&mut self) -> [Vec<u8>; 2] {
+        let one = self.rng.pick(&self.alphabet.obligations);
+        let others = (0..OBLIGATIONS).filter(|obligation| *obligation != one);
+        let fresh = usize::from(OBLIGATIONS) - 1;
+        let (most, other) = if self.stored {
+            (TRACE_OBLIGATIONS, TRACE_OBLIGATIONS + fresh)
+        } else {
+            (GRANT_OBLIGATIONS + 1, TRACE_OBLIGATIONS - 2)
+        };
+        let around = [
+            TRACE_OBLIGATIONS - 1,
+            TRACE_OBLIGATIONS,
+            TRACE_OBLIGATIONS + 1,
+            other,
+        ];
+        let all = self.rng.pick(&around);
+        let (least, most) = (all - fresh, all.min(most));
+        let between = self.rng.between(least, most);
+        let held = self.rng.pick(&[between, most, least.max(most - 1)]);
+        [vec![one; held], others.take(all - held).collect()]
+    }
+
+    /// A permit with these obligations: a grant, or in a record most often a node 12.
+    fn obliged(&mut self, outcome: Products, obligations: Vec<u8>) -> Residual {
+        if self.stored && (obligations.len() > GRANT_OBLIGATIONS || self.rng.percent(60)) {
+            return Tree::Stored(Decided::Permit(Permit {
+                obligations,
+                ..Permit::plain(outcome)
+            }));
+        }
+        Tree::Grant(Grant {
+            outcome,
+            obligations,
+            ..self.grant_of(Condition::Always, 0)
+        })
     }
 
     /// A record of at most this many words, or a few more for its consulted entries.

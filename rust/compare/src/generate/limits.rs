@@ -9,7 +9,10 @@ use crate::products::Products;
 use crate::words::table::pack;
 use crate::words::tree::{Condition, Decided, Deny, Entry, Grant, Permit, Record, Residual, Tree};
 use crate::words::write;
-use crate::words::{FACTS, LEVELS, LIST, OBLIGATIONS, RECORD_WORDS, SHEET_WORDS, TABLE_BYTES};
+use crate::words::{
+    FACTS, GRANT_OBLIGATIONS, LEVELS, LIST, OBLIGATIONS, RECORD_WORDS, SHEET_WORDS, TABLE_BYTES,
+    TRACE_OBLIGATIONS,
+};
 
 /// Each call on inputs at the limits, with outputs that fit their record and outputs that don't.
 pub fn cases(rng: &mut Rng) -> Vec<Case> {
@@ -44,9 +47,11 @@ pub fn sheets(rng: &mut Rng) -> Vec<Vec<u32>> {
     for nodes in LEVELS - 1..=LEVELS + 2 {
         trees.extend((0..4).map(|_| Grower::of_sheets(rng, &alphabet).tall(nodes)));
     }
-    for obligations in OBLIGATIONS - 1..=OBLIGATIONS + 1 {
+    for obligations in GRANT_OBLIGATIONS - 1..=GRANT_OBLIGATIONS + 1 {
         trees.push(Grower::of_sheets(rng, &alphabet).bulky(obligations));
+        trees.push(grant(Condition::Always, vec![ONE; obligations]));
     }
+    trees.push(most_obliging());
     trees.extend([deep(4_000, &[]), deep(3_900, &[waiting()])]);
     let mut found: Vec<Vec<u32>> = trees.iter().map(write::tree).collect();
     found.extend([denying(SHEET_WORDS), Vec::new()]);
@@ -67,11 +72,17 @@ pub fn records(rng: &mut Rng) -> Vec<Vec<u32>> {
     for nodes in LEVELS - 1..=LEVELS + 2 {
         records.push(pending(Grower::of_records(rng, &alphabet).tall(nodes)));
     }
-    for obligations in OBLIGATIONS - 1..=OBLIGATIONS + 1 {
+    for obligations in GRANT_OBLIGATIONS - 1..=GRANT_OBLIGATIONS + 1 {
         let tree = Grower::of_records(rng, &alphabet).bulky(obligations);
         records.push(pending(tree));
-        records.push(obliging(obligations));
     }
+    for obligations in TRACE_OBLIGATIONS - 1..=TRACE_OBLIGATIONS + 1 {
+        records.push(Record::Resolved {
+            consulted: Vec::new(),
+            decided: obliging((0..OBLIGATIONS).cycle().take(obligations).collect()),
+        });
+    }
+    records.extend(unions().into_iter().map(pending));
     for facts in LIST - 1..=LIST + 2 {
         records.push(pending(naming(rng, facts)));
     }
@@ -204,15 +215,45 @@ pub fn naming(rng: &mut Rng, facts: usize) -> Residual {
     grant(condition, Vec::new())
 }
 
-/// A Resolved record whose permit has this many obligations.
-fn obliging(obligations: usize) -> Record {
-    Record::Resolved {
-        consulted: Vec::new(),
-        decided: Decided::Permit(Permit {
-            obligations: (0..=u8::MAX).take(obligations).collect(),
-            ..Permit::plain(Products(1))
-        }),
+/// An obligation that stands many times in a list.
+const ONE: u8 = 5;
+
+/// All the others.
+fn others() -> impl Iterator<Item = u8> {
+    (0..OBLIGATIONS).filter(|obligation| *obligation != ONE)
+}
+
+fn obliging(obligations: Vec<u8>) -> Decided {
+    Decided::Permit(Permit {
+        obligations,
+        ..Permit::plain(Products(1))
+    })
+}
+
+/// The tree of a sheet whose evaluation has the most obligations.
+fn most_obliging() -> Residual {
+    Tree::Any(vec![
+        grant(Condition::Always, vec![ONE; GRANT_OBLIGATIONS]),
+        grant(Condition::Always, (0..OBLIGATIONS).collect()),
+    ])
+}
+
+/// Unions of the most obligations that a node 12 can hold, of one more, and of the most that come of two nodes. Each stands alone, beside a permit that drops
+/// it, and beside a grant that keeps it while fact 0 is Unknown.
+fn unions() -> Vec<Residual> {
+    let most = TRACE_OBLIGATIONS + others().count();
+    let mut found = Vec::new();
+    for all in [TRACE_OBLIGATIONS, TRACE_OBLIGATIONS + 1, most] {
+        let held = TRACE_OBLIGATIONS.min(all - 1);
+        let lists = [vec![ONE; held], others().take(all - held).collect()];
+        let union = Tree::Any(lists.map(|list| Tree::Stored(obliging(list))).into());
+        found.extend([
+            union.clone(),
+            Tree::Any(vec![union.clone(), Tree::Permit(Products(3))]),
+            Tree::Any(vec![union, waiting()]),
+        ]);
     }
+    found
 }
 
 fn consulted(rng: &mut Rng, length: usize) -> Vec<Entry> {

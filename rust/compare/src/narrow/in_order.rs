@@ -1,6 +1,6 @@
 //! Policy lists in sheet order, from request 8 alone.
 
-use super::{Arms, Reduced, Walk, folded, join, meet};
+use super::{Arms, Reduced, Walk, folded, meet};
 use crate::words::tree::{Decided, Residual, Tree};
 
 impl Walk<'_> {
@@ -24,7 +24,7 @@ impl Walk<'_> {
     /// Every arm.
     pub(super) fn any_in_order(&mut self, arms: &[Residual]) -> Reduced {
         let walked = arms.iter().map(|arm| self.tree(arm)).collect();
-        ended(walked, Tree::Any, |arms| folded(arms, join))
+        ended(walked, Tree::Any, |arms| self.joined(arms))
     }
 }
 
@@ -32,7 +32,7 @@ impl Walk<'_> {
 fn ended(
     walked: Vec<Reduced>,
     list: fn(Vec<Residual>) -> Residual,
-    resolve: fn(Arms) -> Decided,
+    resolve: impl FnOnce(Arms) -> Decided,
 ) -> Reduced {
     if walked.iter().any(|arm| matches!(arm, Reduced::Pending(_))) {
         let held = walked.into_iter().map(Reduced::kept).collect();

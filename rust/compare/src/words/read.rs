@@ -6,7 +6,7 @@ use gatekeep::{DenyShape, Presence};
 
 use super::field::{field, halves, zero};
 use super::tree::{Condition, Decided, Deny, Entry, Grant, Permit, Record, Residual, Sheet, Tree};
-use super::{LEVELS, OBLIGATIONS, RECORD_WORDS, SHEET_WORDS};
+use super::{GRANT_OBLIGATIONS, LEVELS, OBLIGATIONS, RECORD_WORDS, SHEET_WORDS};
 use crate::products::Products;
 use crate::refusal::Refusal;
 
@@ -186,7 +186,10 @@ impl Reader<'_> {
 
     fn grant(&mut self, word: u32, level: usize) -> Result<Grant, Refusal> {
         let shape = shape(word);
-        let obligations = obligation_count(word)?;
+        let obligations = obligation_count(word);
+        if obligations > GRANT_OBLIGATIONS {
+            return Err(Refusal::Field);
+        }
         zero(word, 12, 4)?;
         let (label, reason) = names(self.word()?)?;
         Ok(Grant {
@@ -201,7 +204,7 @@ impl Reader<'_> {
 
     fn permit(&mut self, word: u32) -> Result<Permit, Refusal> {
         zero(word, 4, 1)?;
-        let obligations = obligation_count(word)?;
+        let obligations = obligation_count(word);
         zero(word, 12, 4)?;
         let second = self.word()?;
         let label = name(halves(second)[0])?;
@@ -241,7 +244,7 @@ impl Reader<'_> {
                 if found.len() == count {
                     zero(u32::from(byte), 0, 32)?;
                 } else {
-                    found.push(obligation(byte, &found)?);
+                    found.push(obligation(byte)?);
                 }
             }
         }
@@ -303,13 +306,9 @@ const fn shape(word: u32) -> DenyShape {
     }
 }
 
-const fn obligation_count(word: u32) -> Result<usize, Refusal> {
-    let count = field(word, 5, 7) as usize;
-    if count <= OBLIGATIONS {
-        Ok(count)
-    } else {
-        Err(Refusal::Field)
-    }
+/// The count of obligations of a node 8 or 12.
+const fn obligation_count(word: u32) -> usize {
+    field(word, 5, 7) as usize
 }
 
 /// A label or reason: a present bit, then a number that is 0 when absent.
@@ -327,13 +326,12 @@ fn names(word: u32) -> Result<(Option<u16>, Option<u16>), Refusal> {
     Ok((name(label)?, name(reason)?))
 }
 
-fn obligation(byte: u8, before: &[u8]) -> Result<u8, Refusal> {
-    if usize::from(byte) >= OBLIGATIONS {
-        Err(Refusal::Field)
-    } else if before.contains(&byte) {
-        Err(Refusal::Repeated)
-    } else {
+/// An obligation; it may stand in its list before.
+const fn obligation(byte: u8) -> Result<u8, Refusal> {
+    if byte < OBLIGATIONS {
         Ok(byte)
+    } else {
+        Err(Refusal::Field)
     }
 }
 

@@ -4,6 +4,7 @@ use std::convert::Infallible;
 
 use gatekeep::{DenyShape, Presence};
 
+use super::{LIST, TRACE_OBLIGATIONS};
 use crate::products::Products;
 
 /// Kinds 0 to 5.
@@ -158,6 +159,19 @@ impl Decided {
         }
     }
 
+    /// The permit's obligations; a deny has none.
+    pub fn obligations(&self) -> &[u8] {
+        match self {
+            Self::Permit(permit) => &permit.obligations,
+            Self::Deny(_) => &[],
+        }
+    }
+
+    /// Whether its counts can say how many facts and obligations it has.
+    pub fn is_countable(&self) -> bool {
+        self.facts().len() <= LIST && self.obligations().len() <= TRACE_OBLIGATIONS
+    }
+
     /// The same without its facts: effect, outcome, denied outcome, obligations, label, reason and shape.
     #[must_use]
     pub fn without_facts(mut self) -> Self {
@@ -195,25 +209,38 @@ impl From<Sheet> for Residual {
 }
 
 impl Residual {
-    /// The longest fact list that the tree stores.
-    pub fn longest_list(&self) -> usize {
+    /// The nodes 12 and 13 of the tree, from the left.
+    pub fn stored(&self) -> Vec<&Decided> {
         match self {
-            Self::Permit(_) | Self::Deny | Self::Grant(_) => 0,
-            Self::All(arms) | Self::Any(arms) => {
-                arms.iter().map(Self::longest_list).max().unwrap_or(0)
-            }
-            Self::OrElse(primary, fallback) => primary.longest_list().max(fallback.longest_list()),
-            Self::Stored(decided) => decided.facts().len(),
+            Self::Permit(_) | Self::Deny | Self::Grant(_) => Vec::new(),
+            Self::All(arms) | Self::Any(arms) => arms.iter().flat_map(Self::stored).collect(),
+            Self::OrElse(primary, fallback) => [primary.stored(), fallback.stored()].concat(),
+            Self::Stored(decided) => vec![decided],
+        }
+    }
+
+    /// The obligations of each Grant of the tree, from the left.
+    pub fn granted(&self) -> Vec<&[u8]> {
+        match self {
+            Self::Permit(_) | Self::Deny | Self::Stored(_) => Vec::new(),
+            Self::Grant(grant) => vec![&grant.obligations],
+            Self::All(arms) | Self::Any(arms) => arms.iter().flat_map(Self::granted).collect(),
+            Self::OrElse(primary, fallback) => [primary.granted(), fallback.granted()].concat(),
         }
     }
 }
 
 impl Record {
-    /// The longest fact list that the record stores.
-    pub fn longest_list(&self) -> usize {
+    /// The record's nodes 12 and 13, from the left.
+    pub fn stored(&self) -> Vec<&Decided> {
         match self {
-            Self::Resolved { decided, .. } => decided.facts().len(),
-            Self::Pending { residual, .. } => residual.longest_list(),
+            Self::Resolved { decided, .. } => vec![decided],
+            Self::Pending { residual, .. } => residual.stored(),
         }
+    }
+
+    /// Whether the counts of its nodes 12 and 13 can say how long their lists are.
+    pub fn is_countable(&self) -> bool {
+        self.stored().into_iter().all(Decided::is_countable)
     }
 }

@@ -153,7 +153,7 @@ fn chains_of_stages() {
 fn refusals_name_the_word() {
     let mut named = 0;
     for case in cases::draw(6, 2_000, &[Call::RequiredFacts]) {
-        let Err(refusal @ (Refusal::Kind | Refusal::Level | Refusal::Field | Refusal::Repeated)) =
+        let Err(refusal @ (Refusal::Kind | Refusal::Level | Refusal::Field)) =
             compare::words::read::sheet(&case.words)
         else {
             continue;

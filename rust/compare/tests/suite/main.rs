@@ -15,6 +15,7 @@ mod proved;
 mod readings;
 #[cfg(feature = "proved")]
 mod registers;
+mod repeats;
 #[cfg(feature = "proved")]
 mod round_trip;
 #[cfg(feature = "proved")]

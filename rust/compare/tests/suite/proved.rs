@@ -4,7 +4,9 @@ use std::thread;
 
 use compare::answers;
 use compare::case::{Call, Case};
-use compare::generate::cases::{draw, draw_half_known, draw_layered, draw_wide, is_half_known};
+use compare::generate::cases::{
+    draw, draw_half_known, draw_layered, draw_repeating, draw_wide, is_half_known,
+};
 use compare::generate::chains::{Chain, room};
 use compare::generate::grow::{Alphabet, Grower};
 use compare::generate::rng::Rng;
@@ -12,6 +14,7 @@ use compare::generate::{limits, tables};
 use compare::narrow::Order;
 use compare::proved::{Writer, agrees, pair};
 use compare::reference;
+use compare::repeats::Tally;
 use compare::words::write;
 
 use super::in_order::{clause, layered};
@@ -123,7 +126,7 @@ fn each_chain(mut check: impl FnMut(&mut Rng, &Chain)) {
         check(&mut rng, &chain);
     }
     for _ in 0..1_000 {
-        let alphabet = Alphabet::draw(&mut rng);
+        let alphabet = Alphabet::draw(&mut rng).repeating();
         let tree = Grower::of_sheets(&mut rng, &alphabet).wide();
         let chain = Chain::over(&mut rng, write::tree(&tree));
         check(&mut rng, &chain);
@@ -176,6 +179,20 @@ fn lists_of_many_arms_agree() {
 fn known_grants_that_name_an_unknown_fact_agree() {
     let cases = draw_half_known(SEED, 8_000, &REDUCING);
     assert!(cases.iter().filter(|case| is_half_known(case)).count() > 2_000);
+    all_agree(cases);
+}
+
+/// Obligations that repeat, long lists of them, and joins around the most that a node 12 can hold, kept and dropped.
+#[test]
+fn repeated_obligations_agree() {
+    let cases = draw_repeating(SEED, 40_000, &Call::ALL);
+    let met = Tally::of(&cases);
+    assert!(met.repeated > 16_000, "{met}");
+    assert!(met.granted.into_iter().all(|count| count > 300), "{met}");
+    assert!(met.stored.into_iter().all(|count| count > 100), "{met}");
+    assert!(met.appended_before > 1_000 && met.onto_repeats > 2_000);
+    let unions = [met.kept, met.dropped].concat();
+    assert!(unions.into_iter().all(|count| count > 50), "{met}");
     all_agree(cases);
 }
 

@@ -8,7 +8,6 @@ use compare::case::{Answer, Case};
 use compare::generate::rng::Rng;
 use compare::products::Products;
 use compare::refusal::Refusal;
-use compare::words::read;
 use gatekeep::{Condition, DenyShape, KnownFacts, ObligationId, Policy};
 
 use super::{refuses, words, writes, written};
@@ -55,13 +54,13 @@ fn answer(call: Call, given: &str) -> Result<Answer, u8> {
 
 #[test]
 fn r1_the_leftmost_faulty_field_decides() {
-    sheet("80300001 00000000 07074000 00000000", 9);
+    sheet("80300001 00000000 07074000 00000000", 8);
     sheet("80300001 00000000 07400700 00000000", 8);
 }
 
 #[test]
 fn r2_unused_tails_are_fields() {
-    sheet("80200001 00000000 07070001 00000000", 9);
+    sheet("80200001 00000000 07070001 00000000", 8);
     sheet("80200001 00000000 07080001 00000000", 8);
     record("F0000001 40050001 60000001", 8);
     record("E0000000 C0000001 00000001 00050001", 8);
@@ -72,17 +71,20 @@ fn r2_unused_tails_are_fields() {
 fn r3_a_count_says_nothing_about_presence() {
     record("F0000FFF C0000000", 8);
     record("F0000FFF 00000000", 6);
-    sheet("80500001 00000000 07074000", 9);
+    sheet("80500001 00000000 07074000", 8);
     sheet("80500001 00000000 07080900", 6);
     sheet("90000FFF 50000000", 5);
     sheet("90000FFF 70000000", 6);
 }
 
 #[test]
-fn r4_an_obligation_count_over_64_is_a_field() {
+fn r4_a_grants_obligation_count_over_64_is_a_field() {
     sheet("84100001", 8);
     sheet("84000001", 6);
-    record("E0000000 C4100001", 8);
+    record("F0000000 84100001", 8);
+    // Every count of a node 12's seven bits is allowed.
+    record("E0000000 C4100001", 6);
+    record("E0000000 C7F00001", 6);
 }
 
 #[test]
@@ -119,7 +121,7 @@ fn r7_questions_have_no_table_and_no_output() {
                 room: 0,
             };
             if let Err(refusal) = case.answer() {
-                assert!(matches!(refusal.number(), 1 | 5..=10), "{case:?}");
+                assert!(matches!(refusal.number(), 1 | 5..=8 | 10), "{case:?}");
             }
         }
     }
@@ -168,7 +170,7 @@ fn r10_fields_that_must_be_0() {
     record("E0000000 D0000001 00000000 00000000", 8);
     record("E0000000 D0000000 00010000 00000000", 8);
     record("E0000000 D0000000 00000001 00000000", 8);
-    record("E0000000 C0200001 00000000 07070000", 9);
+    record("E0000000 C0200001 00000000 07070001", 8);
     sheet("80000001 00010000 00000000", 8);
     sheet("80000001 00000001 00000000", 8);
 }
@@ -309,7 +311,7 @@ fn r26_questions_to_a_resolved_record() {
 }
 
 #[test]
-fn r27_the_original_accepts_repeated_obligations() {
+fn r27_the_original_keeps_repeated_obligations() {
     let obligation = ObligationId::new("cite").expect("a name");
     let policy = Policy::Grant {
         outcome: Products(1),
@@ -321,7 +323,10 @@ fn r27_the_original_accepts_repeated_obligations() {
     };
     let decision = gatekeep::evaluate(&policy, &KnownFacts::new());
     assert_eq!(decision.obligations.len(), 2);
-    let repeated = words("80200001 00000000 07070000 00000000");
-    let refusal = read::sheet(&repeated).expect_err("document 01 refuses it");
-    assert_eq!(refusal.number(), 9);
+    writes(
+        Evaluate,
+        "80200001 00000000 07070000 00000000",
+        "",
+        "E0000000 C0200001 00000000 07070000",
+    );
 }

@@ -58,6 +58,14 @@ fn drawn_documents() {
 }
 
 #[test]
+fn documents_with_repeats() {
+    let drawn = cases::draw_repeating(1, 5_000, &Call::ALL);
+    let [accepted, refused] = tally(drawn.into_iter().map(|case| case.words));
+    assert!(accepted > 3_000, "{accepted}");
+    assert!(refused > 500, "{refused}");
+}
+
+#[test]
 fn records_of_drawn_calls() {
     let calls = [
         Call::PartialEvaluate,
@@ -91,8 +99,8 @@ fn worked_sheets() {
 #[test]
 fn documents_at_the_limits() {
     // The tallies that the comparison's own test of these has.
-    assert_eq!(tally(limits::sheets(&mut Rng::new(1))), [19, 13]);
-    assert_eq!(tally(limits::records(&mut Rng::new(1))), [26, 8]);
+    assert_eq!(tally(limits::sheets(&mut Rng::new(1))), [22, 14]);
+    assert_eq!(tally(limits::records(&mut Rng::new(1))), [35, 8]);
 }
 
 /// A text with one or two edits, each in one place.
@@ -132,9 +140,9 @@ fn edited_texts_are_faulty_or_say_words() {
             }
             Ok(words) if returns(&words) => accepted += 1,
             Ok(words) => {
-                // Length, level and repeats are all that a text without a fault leaves to refuse.
+                // Length and level are all that a text without a fault leaves to refuse.
                 let number = judged(&words).map_err(Refusal::number);
-                assert!(matches!(number, Err(1 | 7 | 9)), "{text}");
+                assert!(matches!(number, Err(1 | 7)), "{text}");
                 refused += 1;
             }
         }

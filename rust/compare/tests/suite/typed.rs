@@ -3,12 +3,13 @@
 use std::convert::Infallible;
 
 use compare::case::Call;
-use compare::generate::cases::draw;
+use compare::generate::cases::{draw, draw_repeating};
 use compare::generate::grow::{Alphabet, Grower};
 use compare::generate::limits;
 use compare::generate::rng::Rng;
 use compare::products::Products;
 use compare::refusal::Refusal;
+use compare::repeats::has_repeat;
 use compare::words::tree::{
     Condition, Decided, Deny, Entry, Grant, Permit, Record, Residual, Sheet, Tree,
 };
@@ -145,9 +146,12 @@ fn read_alike(words: &[u32]) -> usize {
 
 #[test]
 fn generated_and_damaged_words_read_alike() {
-    let cases = draw(SEED, 40_000, &Call::ALL);
-    let accepted: usize = cases.iter().map(|case| read_alike(&case.words)).sum();
-    assert!((10_000..40_000).contains(&accepted), "{accepted}");
+    let repeating = draw_repeating(SEED, 10_000, &Call::ALL);
+    for cases in [draw(SEED, 40_000, &Call::ALL), repeating] {
+        let accepted: usize = cases.iter().map(|case| read_alike(&case.words)).sum();
+        let some = cases.len() / 4..cases.len();
+        assert!(some.contains(&accepted), "{accepted}");
+    }
 }
 
 #[test]
@@ -219,7 +223,7 @@ fn built_alike(tree: &Residual) -> Result<(), Unwritable> {
         (Ok(_), Ok(found)) => assert!(found == words, "seed {SEED}: {tree:?}"),
         (Err(Refusal::Length), Err(Unwritable::Words | Unwritable::Arms))
         | (Err(Refusal::Level), Err(Unwritable::Levels))
-        | (Err(Refusal::Repeated | Refusal::Field), Err(Unwritable::RepeatedObligation)) => {}
+        | (Err(Refusal::Field), Err(Unwritable::Obligations)) => {}
         (expected, found) => panic!("seed {SEED}: {expected:?} but {found:?}: {tree:?}"),
     }
     built.map(|_| ())
@@ -229,23 +233,29 @@ fn built_alike(tree: &Residual) -> Result<(), Unwritable> {
 fn generated_trees_are_built_alike() {
     let mut rng = Rng::new(SEED);
     let mut found = Vec::new();
+    let mut repeated = 0;
     for _ in 0..5_000 {
-        let alphabet = Alphabet::draw(&mut rng);
+        let alphabet = Alphabet::draw(&mut rng).repeating();
         let (kind, words) = (rng.below(10), rng.between(1, 60));
         let (nodes, obligations) = (rng.between(31, 34), rng.between(63, 66));
         let mut grower = Grower::of_sheets(&mut rng, &alphabet);
-        found.push(built_alike(&match kind {
+        let tree = match kind {
             0 => grower.tall(nodes),
             1 => grower.bulky(obligations),
             2 => grower.repeating(),
             3 | 4 => grower.mixed(),
             _ => grower.tree(words, 1),
-        }));
+        };
+        let built = built_alike(&tree);
+        let again = tree.granted().into_iter().any(has_repeat);
+        repeated += usize::from(built.is_ok() && again);
+        found.push(built);
     }
     let times = |answer| found.iter().filter(|&&found| found == answer).count();
     assert!(times(Ok(())) > 3_000);
     assert!(times(Err(Unwritable::Levels)) > 100);
-    assert!(times(Err(Unwritable::RepeatedObligation)) > 100);
+    assert!(times(Err(Unwritable::Obligations)) > 100);
+    assert!(repeated > 300, "{repeated}");
 }
 
 #[test]

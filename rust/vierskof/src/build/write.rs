@@ -1,7 +1,7 @@
 //! Writing a policy's words, or only counting them: the walk is the same, so that what was counted is what is written.
 
 use super::{Condition, Grant, Policy, Unwritable};
-use crate::{LEVELS, LIST, Label, Obligation, Reason, SHEET_WORDS, Shape};
+use crate::{GRANT_OBLIGATIONS, LEVELS, LIST, Label, Reason, SHEET_WORDS, Shape};
 
 impl Policy<'_> {
     pub(super) fn put(&self, level: usize, out: &mut Output<'_>) -> Result<(), Unwritable> {
@@ -40,7 +40,7 @@ impl Condition<'_> {
 
 impl Grant<'_> {
     fn put(&self, level: usize, out: &mut Output<'_>) -> Result<(), Unwritable> {
-        let count = distinct(self.obligations)?;
+        let count = count(self.obligations, GRANT_OBLIGATIONS).ok_or(Unwritable::Obligations)?;
         let shape = u32::from(self.shape == Shape::Hidden);
         let outcome = u32::from(self.outcome.bits());
         out.node(8, shape << 27 | count << 20 | outcome)?;
@@ -65,9 +65,8 @@ fn put_arms<T>(
     out: &mut Output<'_>,
     put: fn(&T, usize, &mut Output<'_>) -> Result<(), Unwritable>,
 ) -> Result<(), Unwritable> {
-    let count = u32::try_from(arms.len()).ok();
-    let count = count.filter(|_| arms.len() <= LIST);
-    out.node(kind, count.ok_or(Unwritable::Arms)?)?;
+    let count = count(arms, LIST).ok_or(Unwritable::Arms)?;
+    out.node(kind, count)?;
     arms.iter().try_for_each(|arm| put(arm, level + 1, out))
 }
 
@@ -79,17 +78,10 @@ fn allowed(level: usize) -> Result<(), Unwritable> {
     }
 }
 
-/// How many obligations there are, if none is repeated.
-fn distinct(obligations: &[Obligation]) -> Result<u32, Unwritable> {
-    let mut seen = 0_u64;
-    for obligation in obligations {
-        let bit = 1 << obligation.number();
-        if seen & bit != 0 {
-            return Err(Unwritable::RepeatedObligation);
-        }
-        seen |= bit;
-    }
-    Ok(seen.count_ones())
+/// How many items a list has, if these aren't too many.
+fn count<T>(list: &[T], most: usize) -> Option<u32> {
+    let count = u32::try_from(list.len()).ok();
+    count.filter(|_| list.len() <= most)
 }
 
 /// A label or reason with the bit that says that it is there.

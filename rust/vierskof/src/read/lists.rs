@@ -104,7 +104,7 @@ macro_rules! list {
 }
 
 list! {
-    /// Obligations, none twice.
+    /// Obligations; one may come twice.
     Obligations<'w>(Fields<'w, 8>) -> Obligation = Obligation::of_field
 }
 list! {

@@ -2,7 +2,7 @@
 
 use vierskof::build::{Condition, Grant, Policy, Unwritable};
 use vierskof::read::Sheet;
-use vierskof::{LEVELS, LIST, Obligation, SHEET_WORDS};
+use vierskof::{GRANT_OBLIGATIONS, LEVELS, LIST, Obligation, SHEET_WORDS};
 
 use super::{fact, label, obligation, products, reason};
 
@@ -160,33 +160,37 @@ fn obliging(obligations: &[Obligation]) -> Policy<'_> {
 }
 
 #[test]
-fn obligations_stand_once() {
+fn obligations_stand_as_often_as_given() {
+    let twice = [7, 9, 7, 7, 9].map(obligation);
+    let words = written(&obliging(&twice));
+    assert_eq!(words, [0x8050_0001, 0, 0x0709_0707, 0x0900_0000, 0]);
+}
+
+#[test]
+fn obligations_are_64_at_most() {
     let mut all: Vec<Obligation> = (0..64).map(obligation).collect();
     all.reverse();
-    assert_eq!(written(&obliging(&all)).len(), 2 + 16 + 1);
-    for again in [0, 31, 63].map(obligation) {
-        let mut more = all.clone();
-        more.push(again);
-        unwritable(&obliging(&more), Unwritable::RepeatedObligation);
+    let same = vec![obligation(5); GRANT_OBLIGATIONS];
+    for full in [all, same] {
+        assert_eq!(written(&obliging(&full)).len(), 2 + 16 + 1);
+        for again in [0, 31, 63].map(obligation) {
+            let more = [full.as_slice(), &[again]].concat();
+            unwritable(&obliging(&more), Unwritable::Obligations);
+        }
     }
-    unwritable(
-        &obliging(&[all[5], all[9], all[5]]),
-        Unwritable::RepeatedObligation,
-    );
+    // Far more are not taken for fewer.
+    let many = vec![obligation(5); 128];
+    unwritable(&obliging(&many), Unwritable::Obligations);
 }
 
 #[test]
 fn the_first_cause_decides() {
     let denies = vec![Policy::Deny; LIST + 1];
-    let twice = [obligation(1); 2];
-    let repeated = Grant::new(products(1), &Condition::Always).obligations(&twice);
-    let (repeated, arms) = (Policy::Grant(repeated), Policy::All(&denies));
-    unwritable(
-        &Policy::OrElse(&repeated, &arms),
-        Unwritable::RepeatedObligation,
-    );
-    unwritable(&Policy::OrElse(&arms, &repeated), Unwritable::Arms);
-    assert_eq!(repeated.write(&mut []), Err(Unwritable::RepeatedObligation));
+    let many = [obligation(1); GRANT_OBLIGATIONS + 1];
+    let (obliging, arms) = (obliging(&many), Policy::All(&denies));
+    unwritable(&Policy::OrElse(&obliging, &arms), Unwritable::Obligations);
+    unwritable(&Policy::OrElse(&arms, &obliging), Unwritable::Arms);
+    assert_eq!(obliging.write(&mut []), Err(Unwritable::Obligations));
 }
 
 #[test]

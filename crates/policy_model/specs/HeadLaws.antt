@@ -263,6 +263,15 @@ any-word w res e =
     let same : w % 268435456 ≡ w % 4096 = omega arith in
     rw (k, same, lt-ltb (w % 4096) 4096 (omega arith))
 
+-- The other words of the kinds All and Any: a bit above the count is 1.
+pub all-field : (w : ℕ) (res : Bool) → w / 268435456 ≡ 9 → ¬ (w / 4096 ≡ 589824) → policy.BadField ≡ policyHead w res
+unfolding policyHead
+all-field w res k other = rw (k, le-ltb (w % 268435456) 4096 (omega arith))
+
+pub any-field : (w : ℕ) (res : Bool) → w / 268435456 ≡ 10 → ¬ (w / 4096 ≡ 655360) → policy.BadField ≡ policyHead w res
+unfolding policyHead
+any-field w res k other = rw (k, le-ltb (w % 268435456) 4096 (omega arith))
+
 -- A Grant without obligations.
 no-obligations : (r : ℕ) → r % 134217728 < 65536 → r / 1048576 % 128 ≡ 0
 no-obligations r h = omega arith

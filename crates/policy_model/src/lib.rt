@@ -328,7 +328,7 @@ fn deny_trace_head(rest: u32) -> PolicyHead
     }
 }
 
-// A policy's first word, by its kind. Kinds 12 and 13 stand in residuals only.
+// A policy's first word, by its kind. Kinds 12 and 13 stand in residuals only. Compiled, it stays a function of its own, so that the few tests of `policy_head` go into each walk.
 fn head_by_kind(word: u32, residual: bool) -> PolicyHead
     ensures { λ r. ⌜ r ≡ policyHead word residual ⌝ }
 {
@@ -341,13 +341,13 @@ fn head_by_kind(word: u32, residual: bool) -> PolicyHead
             PolicyHead::BadField
         },
         KIND_GRANT => grant_head(rest),
-        KIND_POLICY_ALL => if rest < COUNTS {
-            PolicyHead::All(rest)
+        KIND_POLICY_ALL => if word / COUNTS == ALL {
+            PolicyHead::All(word % COUNTS)
         } else {
             PolicyHead::BadField
         },
-        KIND_POLICY_ANY => if rest < COUNTS {
-            PolicyHead::Any(rest)
+        KIND_POLICY_ANY => if word / COUNTS == ANY {
+            PolicyHead::Any(word % COUNTS)
         } else {
             PolicyHead::BadField
         },

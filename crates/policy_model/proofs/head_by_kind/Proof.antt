@@ -1,6 +1,7 @@
 -- `policy_model::head_by_kind` meets its contract: by the kind, and by the test of its field. Assumes nothing.
 use borrow.Author.Needs.{needs}
-use borrow.Author.Tests.{eq-eqb, ne-eqb, lt-ltb, le-ltb}
+use borrow.Author.Tests.{eq-eqb, ne-eqb}
+use Rattle.policy_model.specs.HeadLaws.{all-word, all-field, any-word, any-field}
 use Rattle.policy_model.proofs.Words.{kind-P, no-kind-P, up}
 use Rattle.policy_model.proofs.head_by_kind.Statement.{statement}
 use Rattle.policy_model.proofs.head_by_kind.Tie as tie
@@ -30,16 +31,16 @@ returns-4 : tie.Need-returns-4
 returns-4 c = kind-P _ 8 _ _ (c .before .match .keys3) (c .grant-head .ensures)
 
 returns-5 : tie.Need-returns-5
-returns-5 c = kind-P _ 9 _ _ (c .before .match .keys4) (rw (lt-ltb _ _ (c .if2 .taken)))
+returns-5 c = all-word _ _ (c .if2 .taken)
 
 returns-6 : tie.Need-returns-6
-returns-6 c = kind-P _ 9 _ _ (c .before .match .keys4) (rw (le-ltb _ _ (c .if2 .left)))
+returns-6 c = all-field _ _ (c .before .match .keys4) (c .if2 .left)
 
 returns-7 : tie.Need-returns-7
-returns-7 c = kind-P _ 10 _ _ (c .before .match .keys5) (rw (lt-ltb _ _ (c .if3 .taken)))
+returns-7 c = any-word _ _ (c .if3 .taken)
 
 returns-8 : tie.Need-returns-8
-returns-8 c = kind-P _ 10 _ _ (c .before .match .keys5) (rw (le-ltb _ _ (c .if3 .left)))
+returns-8 c = any-field _ _ (c .before .match .keys5) (c .if3 .left)
 
 returns-9 : tie.Need-returns-9
 returns-9 c = kind-P _ 11 _ _ (c .before .match .keys6) (rw (eq-eqb _ _ (c .if4 .taken)))

@@ -40,6 +40,19 @@ static inline void set_right(const uint32_t *dates, const uint32_t *list, size_t
     }
 }
 
+// The order of the windows doesn't matter: the list from its last window to its first, which leaves a word without its pair in its place.
+static inline void holds_backwards(const uint32_t *dates, const uint32_t *list, size_t words, const uint8_t *table, size_t bytes, size_t room, uint64_t told,
+                                   const uint8_t *out) {
+    uint32_t *back = copy(list, words * sizeof *back);
+    uint8_t *also = block(room);
+    for (size_t i = 0; i + 1 < words; i += 2) memcpy(back + i, list + words / 2 * 2 - 2 - i, 2 * sizeof *back);
+    uint64_t again = set_by_age(dates, back, words, table, bytes, also, room);
+    SO(again == told);
+    SO(again >> 32 || memcmp(also, out, VIERSKOF_TABLE_BYTES) == 0);
+    free(back);
+    free(also);
+}
+
 // One call. `unset` is told of the output before it, and `left` of what it must not have written.
 static inline uint32_t windows_hold(const uint32_t *given, size_t count, const uint8_t *table, size_t bytes, size_t room, void (*unset)(uint8_t *, size_t),
                                     void (*left)(uint8_t *, size_t)) {
@@ -60,6 +73,7 @@ static inline uint32_t windows_hold(const uint32_t *given, size_t count, const u
     SO(words == 0 || memcmp(list, given + DATES, words * sizeof *list) == 0);
     SO(bytes == 0 || memcmp(own, table, bytes) == 0);
     if (number == 0) set_right(given, list, words, own, bytes, out);
+    holds_backwards(given, list, words, own, bytes, room, told, out);
     free(list);
     free(own);
     free(out);

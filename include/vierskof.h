@@ -127,8 +127,9 @@ uint64_t vierskof_join_tables(const uint8_t *one, size_t one_bytes, const uint8_
 /* Sets facts of a table by the age of a reading. Value: the bytes written, 256. A window is two words: verdict (1; 0 closed,
    1 open), unit (1; 0 days, 1 completed years), zero (20), fact (10); first and last age (16 each), both included. `windows`
    holds 0 to 32 of them, two words each, `facts` 256 bytes. A date is year, month and day, or unknown with all three 0. A fact
-   that some window names becomes what the first listed window of it says that holds the age, Absent if none does, Unknown if
-   a date is; other facts keep their field. `out` overlaps neither `windows` nor `facts`: a table is not set in place. */
+   that some window names becomes Present if an open window of it holds the age and no closed one does, else Absent, and Unknown
+   if a date is; the order of the windows doesn't matter. Other facts keep their field. `out` overlaps neither `windows` nor
+   `facts`: a table is not set in place. */
 uint64_t vierskof_apply_windows(const uint32_t *windows, size_t words, uint32_t year, uint32_t month, uint32_t day,
                                 uint32_t today_year, uint32_t today_month, uint32_t today_day, const uint8_t *facts,
                                 size_t bytes, uint8_t *VIERSKOF_RESTRICT out, size_t room);

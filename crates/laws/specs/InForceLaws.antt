@@ -207,7 +207,7 @@ tests-exchanged true true false true false f = refl
 tests-exchanged true true false false true f = refl
 tests-exchanged true true false false false f = refl
 
-either-exchanged : (a b c : Bool) → (a || (b || c)) ≡ (b || (a || c))
+pub either-exchanged : (a b c : Bool) → (a || (b || c)) ≡ (b || (a || c))
 either-exchanged true true c = refl
 either-exchanged true false c = refl
 either-exchanged false b c = refl

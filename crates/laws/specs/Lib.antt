@@ -25,5 +25,7 @@ pub mod JoinLaws
 pub mod JoinCalls
 pub mod CalendarLaws
 pub mod WindowLaws
+pub mod Overlap
+pub mod OverlapLaws
 pub mod FieldSetLaws
 pub mod Former

@@ -3,18 +3,19 @@ use mathlib.Core.Path.{_≡_, refl, sym, _∙_, ap, ap₂}
 use mathlib.Core.Bool.{Bool, true, false, cond, not, _&&_, _||_, and-false}
 use mathlib.Core.Option.{Option, none, some}
 use mathlib.Core.List.{List, [], _∷_}
-use Prim.Native.Nat.{ℕ, zero, suc, _+_, _*_, _≤_, _<_}
+use Prim.Native.Nat.{ℕ, zero, suc, _+_, _<_}
 use native.Mathlib.Omega.{arith}
 use borrow.Author.Tests.{eqb-true, le-leb, not-false}
 use lib.Dec.{eqb, leb}
 use lib.ListN.{length, getD}
 use lib.IntN.{ℤ, pos, negsuc}
 use lib.Signed.{leZ}
+use Rattle.model.specs.Fields.{packed}
 use Rattle.model.specs.Facts.{Presence, absent, unknown, factCount, tableBytes, partialFacts, tableFields, fieldFault, orFault, firstFault}
 use Rattle.model.specs.Writing.{presenceField}
 use Rattle.model.specs.Calls.{Answer, refusal, wrote, unlessFault}
 use Rattle.model.specs.Calendar.{Date, exists, unknownDate, before, ageInDays, ageInYears}
-use Rattle.model.specs.Windows.{Window, windowsOf, within, holdsAge, verdict, decided, becomes, named, setFields, faultIf, badDate, badList, windowsFault, windowedTable, applyWindows}
+use Rattle.model.specs.Windows.{Window, windowsOf, within, openHolds, closedHolds, someOf, verdict, decided, becomes, named, setFields, faultIf, badDate, badList, windowsFault, windowedTable, applyWindows}
 use Rattle.laws.specs.FieldAt.{Narrow}
 use Rattle.laws.specs.FieldLaws.{length-packed}
 use Rattle.laws.specs.FieldAtLaws.{presence-few}
@@ -128,6 +129,19 @@ module _ (isNamed : ℕ → Bool) (says : ℕ → Presence) where
   set-fields-at f (q ∷ qs) zero g e h = ap (λ n. cond (isNamed n) (presenceField (says n)) q) (let z : f ≡ g = omega arith in z)
   set-fields-at f (q ∷ qs) (suc k) g e h = set-fields-at (suc f) qs k g (omega arith) (omega arith)
 
+  -- In the table that is written each named fact has the field of what is said of it, every other fact the table's.
+  pub field-written : {list : List ℕ} {reading today : Date} {table : List ℕ} → Judged list reading today table → (f : ℕ) → f < factCount →
+      getD (tableFields (packed 2 4 tableBytes (setFields isNamed says 0 (tableFields table)))) f 0 ≡ cond (isNamed f) (presenceField (says f)) (getD (tableFields table) f 0)
+  field-written {list} {reading} {today} {table} judge f h =
+      let long = length-fields table in
+      let all = length-set-fields 0 (tableFields table) in
+      ap (λ l. getD l f 0) (fields-packed tableBytes (setFields isNamed says 0 (tableFields table)) (narrow-set-fields 0 (tableFields table) (judge .faultless)) (omega (arith, judge .long)))
+      ∙ set-fields-at 0 (tableFields table) f f (omega arith) (omega (arith, judge .long))
+
+pub set-fields-same : {oneNamed twoNamed : ℕ → Bool} {one two : ℕ → Presence} → ((f : ℕ) → oneNamed f ≡ twoNamed f) → ((f : ℕ) → one f ≡ two f) → (f : ℕ) (qs : List ℕ) → setFields oneNamed one f qs ≡ setFields twoNamed two f qs
+set-fields-same n s f [] = refl
+set-fields-same n s f (q ∷ qs) = ap₂ (λ x l. x ∷ l) (ap₂ (λ b p. cond b (presenceField p) q) (n f) (s f)) (set-fields-same n s (suc f) qs)
+
 module _ (list : List ℕ) (reading today : Date) (table : List ℕ) (room : ℕ) (bytes : List ℕ) (e : applyWindows list reading today table room ≡ wrote bytes) where
   abbrev ws : List Window
   ws = windowsOf list
@@ -136,12 +150,7 @@ module _ (list : List ℕ) (reading today : Date) (table : List ℕ) (room : ℕ
   pub field-afterwards : (f : ℕ) → f < factCount → getD (tableFields bytes) f 0 ≡ cond (named ws f) (presenceField (becomes reading today ws f)) (getD (tableFields table) f 0)
   field-afterwards f h =
       let a = accepted list reading today table room bytes e in
-      let judge = judged list reading today table (a .0) in
-      let long = length-fields table in
-      let all = length-set-fields (named ws) (becomes reading today ws) 0 (tableFields table) in
-      ap (λ l. getD (tableFields l) f 0) (a .1)
-      ∙ ap (λ l. getD l f 0) (fields-packed tableBytes (setFields (named ws) (becomes reading today ws) 0 (tableFields table)) (narrow-set-fields (named ws) (becomes reading today ws) 0 (tableFields table) (judge .faultless)) (omega (arith, judge .long)))
-      ∙ set-fields-at (named ws) (becomes reading today ws) 0 (tableFields table) f f (omega arith) (omega (arith, judge .long))
+      ap (λ l. getD (tableFields l) f 0) (a .1) ∙ field-written (named ws) (becomes reading today ws) (judged list reading today table (a .0)) f h
 
   pub keeps : (f : ℕ) → f < factCount → named ws f ≡ false → getD (tableFields bytes) f 0 ≡ getD (tableFields table) f 0
   keeps f h n = field-afterwards f h ∙ ap (λ b. cond b (presenceField (becomes reading today ws f)) (getD (tableFields table) f 0)) n
@@ -164,12 +173,14 @@ module _ (reading today : Date) (r : exists reading ≡ true) (t : exists today 
   none-holds w true = negative-in-none (w .first) (w .last) (ageInYears reading today) (ahead reading today (real reading r) (real today t) later .1)
   none-holds w false = negative-in-none (w .first) (w .last) (ageInDays reading today) (ahead reading today (real reading r) (real today t) later .0)
 
+  none-of : (such : Window → Bool) → ((w : Window) → such w ≡ false) → (ws : List Window) (f : ℕ) → someOf such ws f ≡ false
+  none-of such h [] f = refl
+  none-of such h (w ∷ ws) f = ap₂ (λ a b. a || b) (ap (λ b. eqb f (w .fact) && b) (h w) ∙ and-false (eqb f (w .fact))) (none-of such h ws f)
+
   pub ahead-is-absent : (ws : List Window) (f : ℕ) → decided reading today ws f ≡ absent
-  ahead-is-absent [] f = refl
-  ahead-is-absent (w ∷ ws) f =
-      ap (λ b. cond (eqb f (w .fact) && b) (verdict (w .opens)) (decided reading today ws f)) (none-holds w (w .inYears))
-      ∙ ap (λ b. cond b (verdict (w .opens)) (decided reading today ws f)) (and-false (eqb f (w .fact)))
-      ∙ ahead-is-absent ws f
+  ahead-is-absent ws f =
+      ap (λ b. verdict (b && not (someOf (closedHolds reading today) ws f)))
+      (none-of (openHolds reading today) (λ w. ap (λ b. w .opens && b) (none-holds w (w .inYears)) ∙ and-false (w .opens)) ws f)
 
   -- Neither date is unknown, so this is what each of them becomes ..
   becomes-absent : (ws : List Window) (f : ℕ) → becomes reading today ws f ≡ absent

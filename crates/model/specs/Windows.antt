@@ -1,4 +1,4 @@
--- Retention windows: facts set by age. Request 1.
+-- Retention windows: facts set by age. Request 1; the rule between windows of one fact is request 12's.
 use mathlib.Core.Bool.{Bool, true, false, cond, not, _&&_, _||_}
 use mathlib.Core.Option.{Option, none, some}
 use mathlib.Core.List.{List, [], _∷_}
@@ -49,9 +49,13 @@ abbrev pub mostWindows : ℕ
 mostWindows = 32
 
 -- ---- what a fact becomes
+-- Some window of a fact is such a one.
+abbrev pub someOf : (Window → Bool) → List Window → ℕ → Bool
+someOf such [] f = false
+someOf such (w ∷ ws) f = (eqb f (w .fact) && such w) || someOf such ws f
+
 abbrev pub named : List Window → ℕ → Bool
-named [] f = false
-named (w ∷ ws) f = eqb f (w .fact) || named ws f
+named ws = someOf (λ w. true) ws
 
 -- Both ends are included. A negative age lies in no window.
 abbrev pub within : ℕ → ℕ → ℤ → Bool
@@ -67,10 +71,15 @@ module _ (reading today : Date) where
   abbrev pub holdsAge : Window → Bool
   holdsAge w = within (w .first) (w .last) (cond (w .inYears) (ageInYears reading today) (ageInDays reading today))
 
-  -- The rule between the windows of one fact: the first listed that holds the age decides; Absent if none does.
+  abbrev pub openHolds : Window → Bool
+  openHolds w = w .opens && holdsAge w
+
+  abbrev pub closedHolds : Window → Bool
+  closedHolds w = not (w .opens) && holdsAge w
+
+  -- The rule between the windows of one fact: Present if some open one holds the age and no closed one does, else Absent. Request 12.
   abbrev pub decided : List Window → ℕ → Presence
-  decided [] f = absent
-  decided (w ∷ ws) f = cond (eqb f (w .fact) && holdsAge w) (verdict (w .opens)) (decided ws f)
+  decided ws f = verdict (someOf openHolds ws f && not (someOf closedHolds ws f))
 
   -- What a named fact becomes: Unknown if either date is.
   abbrev pub becomes : List Window → ℕ → Presence

@@ -1,4 +1,4 @@
--- Dates, ages and windows worked through, by computation. Request 1: each sentence, and each wrong turn, with a row of its own.
+-- Dates, ages and windows worked through, by computation. Requests 1 and 12: each sentence, and each wrong turn, with a row of its own.
 use mathlib.Core.Path.{_≡_, refl}
 use mathlib.Core.Bool.{Bool, true, false, _&&_, not}
 use mathlib.Core.List.{List, [], _∷_, _++_}
@@ -7,7 +7,9 @@ use lib.Dec.{eqb}
 use lib.ListN.{replicate}
 use lib.IntN.{ℤ, pos, negsuc}
 use Rattle.model.specs.Calendar.{Date, exists, unknownDate, dayNumber, ageInDays, ageInYears}
-use Rattle.model.specs.Windows.{applyWindows}
+use Rattle.model.specs.Facts.{Presence, absent, present, unknown}
+use Rattle.model.specs.Writing.{presenceField}
+use Rattle.model.specs.Windows.{windowsOf, becomes, applyWindows}
 use Rattle.model.specs.Worked.{Expected, refuses, writes, isExpected}
 
 abbrev on : ℕ → ℕ → ℕ → Date
@@ -73,9 +75,28 @@ allHold (r ∷ rs) = holds r && allHold rs
 abbrev stages : List ℕ
 stages = 0x80000006 ∷ 0x0000005A ∷ 0xC0000007 ∷ 0x00000009 ∷ []
 
--- An open window of fact 6 with a closed one in it.
+-- Windows of fact 6: open for 90 days, on days 5 to 30, and for ten years ..
+abbrev wide : List ℕ
+wide = 0x80000006 ∷ 0x0000005A ∷ []
+
+abbrev month : List ℕ
+month = 0x80000006 ∷ 0x0005001E ∷ []
+
+abbrev tenYears : List ℕ
+tenYears = 0xC0000006 ∷ 0x00000009 ∷ []
+
+-- .. and closed on days 10 to 20, 91 to 100, 14, and 365 to 730.
 abbrev survey : List ℕ
-survey = 0x80000006 ∷ 0x0000005A ∷ 0x00000006 ∷ 0x000A0014 ∷ []
+survey = 0x00000006 ∷ 0x000A0014 ∷ []
+
+abbrev afterwards : List ℕ
+afterwards = 0x00000006 ∷ 0x005B0064 ∷ []
+
+abbrev fortnight : List ℕ
+fortnight = 0x00000006 ∷ 0x000E000E ∷ []
+
+abbrev secondYear : List ℕ
+secondYear = 0x00000006 ∷ 0x016D02DA ∷ []
 
 abbrev today : Date
 today = on 2026 11 15
@@ -94,9 +115,12 @@ accepted =
     -- ten years are the completed years 0 to 9
     ∷ row stages (on 2016 11 16) today (table 0 0) 256 (writes (table 0x01 0))
     ∷ row stages (on 2016 11 15) today (table 0 0) 256 (writes (table 0 0))
-    -- the first listed window that holds the age
-    ∷ row survey (on 2026 11 1) today (table 0 0) 256 (writes (table 0x04 0))
-    ∷ row (0x00000006 ∷ 0x000A0014 ∷ 0x80000006 ∷ 0x0000005A ∷ []) (on 2026 11 1) today (table 0 0) 256 (writes (table 0 0))
+    -- closed before open, in either order, among several, and in two units
+    ∷ row (wide ++ survey) (on 2026 11 1) today (table 0 0) 256 (writes (table 0 0))
+    ∷ row (survey ++ wide) (on 2026 11 1) today (table 0 0) 256 (writes (table 0 0))
+    ∷ row (wide ++ afterwards) (on 2026 11 1) today (table 0 0) 256 (writes (table 0x04 0))
+    ∷ row (tenYears ++ secondYear) (on 2025 6 1) today (table 0 0) 256 (writes (table 0 0))
+    ∷ row (wide ++ month ++ fortnight) (on 2026 11 1) today (table 0 0) 256 (writes (table 0 0))
     -- a closed window over an Unknown field; a fact that is held by none; each window's age in its own unit
     ∷ row (0x00000005 ∷ 0x0000000A ∷ []) today today (table 0x25 0) 256 (writes (table 0x05 0))
     ∷ row (0x80000005 ∷ 0x0001000A ∷ []) today today (table 0x25 0) 256 (writes (table 0x05 0))
@@ -110,6 +134,38 @@ accepted =
 
 pub accepted-hold : allHold accepted ≡ true
 accepted-hold = refl
+
+-- ---- closed before open: what fact 6 becomes by a list, in every order of it
+abbrev makes : List ℕ → Date → Presence → Bool
+makes list reading p = eqb (presenceField (becomes reading today (windowsOf list) 6)) (presenceField p)
+
+abbrev bothWays : List ℕ → List ℕ → Date → Presence → Bool
+bothWays a b reading p = makes (a ++ b) reading p && makes (b ++ a) reading p
+
+abbrev sixWays : List ℕ → List ℕ → List ℕ → Date → Presence → Bool
+sixWays a b c reading p =
+    makes (a ++ b ++ c) reading p && makes (a ++ c ++ b) reading p && makes (b ++ a ++ c) reading p
+    && makes (b ++ c ++ a) reading p && makes (c ++ a ++ b) reading p && makes (c ++ b ++ a) reading p
+
+pub overlapping :
+    -- 14 days: a closed window that holds the age, one that doesn't, a third after two open ones, a second beside one that doesn't hold it
+    (bothWays wide survey (on 2026 11 1) absent
+    && bothWays wide afterwards (on 2026 11 1) present
+    && sixWays wide month fortnight (on 2026 11 1) absent
+    && sixWays wide afterwards fortnight (on 2026 11 1) absent
+    -- 1 year and 532 days, each window in its own unit
+    && bothWays tenYears secondYear (on 2025 6 1) absent
+    -- the ends of the closed window, 10 and 20 days, and the days beside them
+    && bothWays wide survey (on 2026 11 5) absent
+    && bothWays wide survey (on 2026 10 26) absent
+    && bothWays wide survey (on 2026 11 6) present
+    && bothWays wide survey (on 2026 10 25) present
+    -- a closed window of another fact; closed windows alone; an unknown date
+    && bothWays wide (0x00000007 ∷ 0x000A0014 ∷ []) (on 2026 11 1) present
+    && bothWays survey afterwards (on 2026 8 16) absent
+    && bothWays wide survey noDate unknown)
+    ≡ true
+overlapping = refl
 
 abbrev turnedBack : List Row
 turnedBack =

@@ -5,8 +5,9 @@ use mathlib.Core.Option.{none, some}
 use mathlib.Core.List.{List, [], _∷_, _++_, append-assoc}
 use Prim.Native.Nat.{ℕ, zero, suc, _+_, _-_, _*_, _/_, _%_, _^_, _≤_, _<_}
 use native.Mathlib.Omega.{arith}
+use lib.Bits.{bitAnd, and-high}
 use lib.Dec.{eqb, leb}
-use borrow.Author.Tests.{le-leb, lt-leb, ne-eqb, not-false}
+use borrow.Author.Tests.{le-leb, lt-leb, eq-eqb, ne-eqb, not-false}
 use lib.ListN.{length, take, drop, getD, set, drop-of-length-le, length-append, length-drop}
 use lib.Seq.{drop-cons, take-length}
 use Rattle.model.specs.Fields.{bits, split, packed}
@@ -19,14 +20,12 @@ use Rattle.laws.specs.FieldAtLaws.{split-shift}
 use Rattle.laws.specs.FieldLaws.{length-packed}
 use Rattle.laws.specs.UnpackedLaws.{fields-packed, packed-fields, length-fields}
 use Rattle.laws.specs.WindowLaws.{Judged, length-set-fields, narrow-set-fields}
-use Rattle.laws.specs.FieldSetLaws.{unitAt, Replaced, replaced}
+use Rattle.laws.specs.FieldSetLaws.{unitAt, replaced}
 use Rattle.answer.specs.declared.Answer.the-variants.{Written, Refused}
 use Rattle.answer.specs.Answers.{answerOf, Answered}
-use Rattle.calendar.specs.declared.Age.{Age}
-use Rattle.calendar.specs.declared.Age.the-variants.{Reached}
-use Rattle.windows.specs.Setting.{inAges, heldBy, fieldsBy, marked, heldOr, Windowed}
+use Rattle.windows.specs.Setting.{numberOf, inAges, heldBy, heldAs, fieldsBy, setWhere, marked, Windowed}
 use Rattle.calendar.specs.Answers.{shown}
-use Rattle.windows.specs.SettingLaws.{by-same, by-none, by-append, set-fields-by, decided-fields, set-by, thenSet, last-windows, next-window, mark-one, held-one, held-not}
+use Rattle.windows.specs.SettingLaws.{by-same, by-none, by-append, set-fields-by, decided-fields, set-by, thenSet, last-windows, next-window, set-one, set-none}
 
 -- ---- the fields of two words
 pub first-age : (ages : ℕ) → ages < 4294967296 → ages / 65536 ≡ bits ageBits ageBits ages
@@ -47,11 +46,18 @@ verdict-of lead h = few (lead / 2147483648) (omega arith) ∙ ap (λ n. presence
     few (suc (suc n)) k = absurd (omega arith)
 
 module _ (ages n : ℕ) (few : ages < 4294967296) where
-  pub too-young : n < ages / 65536 → false ≡ inAges ages (Reached n)
+  pub too-young : n < ages / 65536 → false ≡ inAges ages n
   too-young h = rw (lt-leb (bits ageBits ageBits ages) n (omega (arith, first-age ages few)))
 
-  pub old-enough : ages / 65536 ≤ n → leb n (ages % 65536) ≡ inAges ages (Reached n)
+  pub old-enough : ages / 65536 ≤ n → leb n (ages % 65536) ≡ inAges ages n
   old-enough h = rw (le-leb (bits ageBits ageBits ages) n (omega (arith, first-age ages few))) (ap (leb n) (last-age ages))
+
+module _ (lead ages value days years : ℕ) (few : lead < 4294967296) where
+  pub other-verdict : (lead / 2147483648 ≡ value → ⊥) → false ≡ heldAs value days years (windowOf lead ages)
+  other-verdict h = sym (ap (λ b. b && heldBy days years (windowOf lead ages)) (ne-eqb (presenceField (verdict (windowOf lead ages .opens))) value (λ e. h (verdict-of lead few ∙ e))))
+
+  pub its-verdict : {b : Bool} → lead / 2147483648 ≡ value → b ≡ heldBy days years (windowOf lead ages) → b ≡ heldAs value days years (windowOf lead ages)
+  its-verdict e told = told ∙ sym (ap (λ b. b && heldBy days years (windowOf lead ages)) (eq-eqb (presenceField (verdict (windowOf lead ages .opens))) value (sym (verdict-of lead few) ∙ e)))
 
 -- ---- one field of a byte
 abbrev oldOf : ℕ → ℕ → ℕ
@@ -60,29 +66,46 @@ oldOf byte place = byte / 2 ^ (6 - place * 2) % 4
 abbrev oneAt : ℕ → ℕ
 oneAt place = 64 / 2 ^ (place * 2)
 
+four : (P : ℕ → Type 0) → P 0 → P 1 → P 2 → P 3 → (n : ℕ) → n < 4 → P n
+four P a b c d zero h = a
+four P a b c d (suc zero) h = b
+four P a b c d (suc (suc zero)) h = c
+four P a b c d (suc (suc (suc zero))) h = d
+four P a b c d (suc (suc (suc (suc n)))) h = absurd (omega arith)
+
 one-is : (place : ℕ) → place < 4 → unitAt 2 4 place ≡ oneAt place
-one-is zero h = refl
-one-is (suc zero) h = refl
-one-is (suc (suc zero)) h = refl
-one-is (suc (suc (suc zero))) h = refl
-one-is (suc (suc (suc (suc k)))) h = absurd (omega arith)
+one-is = four (λ k. unitAt 2 4 k ≡ oneAt k) refl refl refl refl
+
+-- What the bits of a field count in a byte.
+abbrev pub inField : ℕ → ℕ → ℕ
+inField byte place = bitAnd byte (192 / 2 ^ (place * 2))
+
+in-field : (byte place : ℕ) → place < 4 → inField byte place ≡ oldOf byte place * oneAt place
+in-field byte = four (λ k. inField byte k ≡ oldOf byte k * oneAt k) (and-high byte 2 6) (and-high byte 2 4) (and-high byte 2 2) (and-high byte 2 0)
+
+-- All four fields of 85 times a value are the value.
+all-four : (place value : ℕ) → place < 4 → value < 4 → oldOf (value * 85) place ≡ value
+all-four place value p v =
+    four (λ k. (n : ℕ) → n < 4 → oldOf (n * 85) k ≡ n)
+    (four (λ n. oldOf (n * 85) 0 ≡ n) refl refl refl refl) (four (λ n. oldOf (n * 85) 1 ≡ n) refl refl refl refl)
+    (four (λ n. oldOf (n * 85) 2 ≡ n) refl refl refl refl) (four (λ n. oldOf (n * 85) 3 ≡ n) refl refl refl refl) place p value v
 
 pub record Placed (byte place value : ℕ) : Type 0 where
-  pub held : oldOf byte place * oneAt place ≤ byte
-  pub fits : byte - oldOf byte place * oneAt place + value * oneAt place < 256
-  pub fields : split 2 4 (byte - oldOf byte place * oneAt place + value * oneAt place) ≡ set (split 2 4 byte) place value
+  pub held : inField byte place ≤ byte
+  pub fits : byte - inField byte place + inField (value * 85) place < 256
+  pub fields : split 2 4 (byte - inField byte place + inField (value * 85) place) ≡ set (split 2 4 byte) place value
 
 pub placed : (byte place value : ℕ) → byte < 256 → place < 4 → value < 4 → Placed byte place value
 placed byte place value b p v =
     let r = replaced 2 3 place byte value p b v in
     let old : getD (split 2 4 byte) place 0 ≡ oldOf byte place = sym (split-shift 2 3 place byte b (omega arith)) in
     let one = one-is place p in
-    let product : getD (split 2 4 byte) place 0 * unitAt 2 4 place ≡ oldOf byte place * oneAt place = ap₂ (λ x y. x * y) old one in
-    let added : value * unitAt 2 4 place ≡ value * oneAt place = ap (λ y. value * y) one in
+    let taken : getD (split 2 4 byte) place 0 * unitAt 2 4 place ≡ inField byte place = ap₂ (λ x y. x * y) old one ∙ sym (in-field byte place p) in
+    let added : value * unitAt 2 4 place ≡ inField (value * 85) place = ap₂ (λ x y. x * y) (sym (all-four place value p v)) one ∙ sym (in-field (value * 85) place p) in
     record {
-      held = subst (λ x. x ≤ byte) product (r .held);
-      fits = subst (λ x. byte - x + value * oneAt place < 256) product (subst (λ y. byte - getD (split 2 4 byte) place 0 * unitAt 2 4 place + y < 256) added (r .fits));
-      fields = sym (ap₂ (λ x y. split 2 4 (byte - x + y)) product added) ∙ r .fields;
+      held = subst (λ x. x ≤ byte) taken (r .held);
+      fits = subst (λ x. byte - x + inField (value * 85) place < 256) taken (subst (λ y. byte - getD (split 2 4 byte) place 0 * unitAt 2 4 place + y < 256) added (r .fits));
+      fields = sym (ap₂ (λ x y. split 2 4 (byte - x + y)) taken added) ∙ r .fields;
     }
 
 -- ---- the list judged
@@ -116,49 +139,35 @@ pub long-bad : (list : List ℕ) → leb (length list) 64 ≡ false → true ≡
 long-bad list h = sym (ap not (ap (λ x. rightWindows list && x) h ∙ and-false (rightWindows list)))
 
 -- ---- a turn of a loop from the last window to the first
-module _ (list fields : List ℕ) (value : ℕ) where
-  pub none-marked : (i : ℕ) → length list < i * 2 + 2 → fields ≡ fieldsBy (marked value (windowsOf (drop (i * 2) list))) 0 fields
-  none-marked i h = sym (ap (λ ws. fieldsBy (marked value ws) 0 fields) (last-windows list i h) ∙ by-none (marked value []) 0 (λ f q k. refl) fields)
+module _ (such : Window → Bool) (value : ℕ) (list fields : List ℕ) where
+  -- The facts of the windows from i on are set, where these are such.
+  abbrev pub SetFrom : ℕ → List ℕ → Type 0
+  SetFrom i now = now ≡ fieldsBy (setWhere such value (windowsOf (drop (i * 2) list))) 0 fields
 
-  pub one-marked : (i j : ℕ) {now next : List ℕ} → j ≡ i + 1 → i * 2 + 1 < length list → now ≡ fieldsBy (marked value (windowsOf (drop (j * 2) list))) 0 fields → next ≡ set now (getD list (i * 2) 0 % 1024) value →
-      next ≡ fieldsBy (marked value (windowsOf (drop (i * 2) list))) 0 fields
-  one-marked i j e h sofar turn =
-      let w = windowOf (getD list (i * 2) 0) (getD list (i * 2 + 1) 0) in
-      let ws = windowsOf (drop ((i + 1) * 2) list) in
-      turn
-      ∙ ap₂ (λ l f. set l f value) (sofar ∙ ap (λ k. fieldsBy (marked value (windowsOf (drop (k * 2) list))) 0 fields) e) (fact-of (getD list (i * 2) 0))
-      ∙ set-by (marked value ws) (w .fact) value fields
-      ∙ by-same (thenSet (marked value ws) (w .fact) value) (marked value (w ∷ ws)) (mark-one value w ws) 0 fields
-      ∙ ap (λ l. fieldsBy (marked value l) 0 fields) (sym (next-window list i h))
-
-module _ (days years : Age) (list fields : List ℕ) where
-  pub none-held : (i : ℕ) → length list < i * 2 + 2 → fields ≡ fieldsBy (heldOr days years (windowsOf (drop (i * 2) list))) 0 fields
-  none-held i h = sym (ap (λ ws. fieldsBy (heldOr days years ws) 0 fields) (last-windows list i h) ∙ by-none (heldOr days years []) 0 (λ f q k. refl) fields)
+  pub none-set : (i : ℕ) → length list < i * 2 + 2 → SetFrom i fields
+  none-set i h = sym (ap (λ ws. fieldsBy (setWhere such value ws) 0 fields) (last-windows list i h) ∙ by-none (setWhere such value []) 0 (λ f q k. refl) fields)
 
   module _ (i j : ℕ) (e : j ≡ i + 1) (h : i * 2 + 1 < length list) where
     abbrev w : Window
     w = windowOf (getD list (i * 2) 0) (getD list (i * 2 + 1) 0)
 
-    pub one-held : {now next : List ℕ} {b : Bool} → getD list (i * 2) 0 < 4294967296 → b ≡ heldBy days years w → b ≡ true →
-        now ≡ fieldsBy (heldOr days years (windowsOf (drop (j * 2) list))) 0 fields → next ≡ set now (getD list (i * 2) 0 % 1024) (getD list (i * 2) 0 / 2147483648) →
-        next ≡ fieldsBy (heldOr days years (windowsOf (drop (i * 2) list))) 0 fields
-    one-held few told so so-far turn =
-        let ws = windowsOf (drop ((i + 1) * 2) list) in
-        let v = getD list (i * 2) 0 / 2147483648 in
-        turn
-        ∙ ap₂ (λ l f. set l f v) (so-far ∙ ap (λ k. fieldsBy (heldOr days years (windowsOf (drop (k * 2) list))) 0 fields) e) (fact-of (getD list (i * 2) 0))
-        ∙ set-by (heldOr days years ws) (w .fact) v fields
-        ∙ by-same (thenSet (heldOr days years ws) (w .fact) v) (heldOr days years (w ∷ ws)) (held-one days years w ws (sym told ∙ so) v (verdict-of (getD list (i * 2) 0) few)) 0 fields
-        ∙ ap (λ l. fieldsBy (heldOr days years l) 0 fields) (sym (next-window list i h))
+    abbrev later : List Window
+    later = windowsOf (drop ((i + 1) * 2) list)
 
-    pub none-more : {now : List ℕ} {b : Bool} → b ≡ heldBy days years w → b ≡ false →
-        now ≡ fieldsBy (heldOr days years (windowsOf (drop (j * 2) list))) 0 fields → now ≡ fieldsBy (heldOr days years (windowsOf (drop (i * 2) list))) 0 fields
-    none-more told no-age so-far =
-        let ws = windowsOf (drop ((i + 1) * 2) list) in
+    pub one-set : {now next : List ℕ} {b : Bool} → b ≡ such w → b ≡ true → SetFrom j now → next ≡ set now (getD list (i * 2) 0 % 1024) value → SetFrom i next
+    one-set told so so-far turn =
+        turn
+        ∙ ap₂ (λ l f. set l f value) (so-far ∙ ap (λ k. fieldsBy (setWhere such value (windowsOf (drop (k * 2) list))) 0 fields) e) (fact-of (getD list (i * 2) 0))
+        ∙ set-by (setWhere such value later) (w .fact) value fields
+        ∙ by-same (thenSet (setWhere such value later) (w .fact) value) (setWhere such value (w ∷ later)) (set-one such value w later (sym told ∙ so)) 0 fields
+        ∙ ap (λ l. fieldsBy (setWhere such value l) 0 fields) (sym (next-window list i h))
+
+    pub none-more : {now : List ℕ} {b : Bool} → b ≡ such w → b ≡ false → SetFrom j now → SetFrom i now
+    none-more told not-so so-far =
         so-far
-        ∙ ap (λ k. fieldsBy (heldOr days years (windowsOf (drop (k * 2) list))) 0 fields) e
-        ∙ by-same (heldOr days years ws) (heldOr days years (w ∷ ws)) (held-not days years w ws (sym told ∙ no-age)) 0 fields
-        ∙ ap (λ l. fieldsBy (heldOr days years l) 0 fields) (sym (next-window list i h))
+        ∙ ap (λ k. fieldsBy (setWhere such value (windowsOf (drop (k * 2) list))) 0 fields) e
+        ∙ by-same (setWhere such value later) (setWhere such value (w ∷ later)) (set-none such value w later (sym told ∙ not-so)) 0 fields
+        ∙ ap (λ l. fieldsBy (setWhere such value l) 0 fields) (sym (next-window list i h))
 
 -- ---- the table that is written
 -- A date that was judged and isn't unknown exists.
@@ -175,7 +184,7 @@ fact-few lead = omega arith
 named-few : (list : List ℕ) (f : ℕ) → 1024 ≤ f → named (windowsOf list) f ≡ false
 named-few [] f h = refl
 named-few (w ∷ []) f h = refl
-named-few (w ∷ v ∷ rest) f h = ap₂ (λ a b. a || b) (ne-eqb f (bits 0 factBits w) (λ e. omega (arith, fact-few w))) (named-few rest f h)
+named-few (w ∷ v ∷ rest) f h = ap₂ (λ a b. (a && true) || b) (ne-eqb f (bits 0 factBits w) (λ e. omega (arith, fact-few w))) (named-few rest f h)
 
 same-table : (xs ys : List ℕ) → length xs ≡ length ys → tableFields xs ≡ tableFields ys → xs ≡ ys
 same-table xs ys l e = sym (packed-fields xs) ∙ ap₂ (λ n fs. packed 2 4 n fs) l e ∙ packed-fields ys
@@ -224,14 +233,13 @@ module _ (list : List ℕ) (reading today : Date) (table : List ℕ) (j : Judged
   pub unknown-marked : (unknownDate reading || unknownDate today) ≡ true → (f q : ℕ) → marked 2 ws f q ≡ cond (named ws f) (presenceField (says f)) q
   unknown-marked h f q = ap (λ b. cond (named ws f) (presenceField (cond b unknown (decided reading today ws f))) q) (sym h)
 
-  known-decided : (unknownDate reading || unknownDate today) ≡ false → (f q : ℕ) →
-      heldOr (shown (ageInDays reading today)) (shown (ageInYears reading today)) ws f (marked 0 ws f q) ≡ cond (named ws f) (presenceField (says f)) q
-  known-decided h f q = decided-fields reading today ws f q ∙ ap (λ b. cond (named ws f) (presenceField (cond b unknown (decided reading today ws f))) q) (sym h)
-
-  -- What the two loops leave, one after the other.
-  pub both-loops : (days years : Age) → days ≡ shown (ageInDays reading today) → years ≡ shown (ageInYears reading today) → (unknownDate reading || unknownDate today) ≡ false →
-      (f q : ℕ) → heldOr days years ws f (marked 0 ws f q) ≡ cond (named ws f) (presenceField (says f)) q
-  both-loops days years d y h f q = ap₂ (λ a b. heldOr a b ws f (marked 0 ws f q)) d y ∙ known-decided h f q
+  -- What the loops leave, one after the other.
+  pub all-loops : (days years : ℕ) → days ≡ numberOf (shown (ageInDays reading today)) → years ≡ numberOf (shown (ageInYears reading today)) → (unknownDate reading || unknownDate today) ≡ false →
+      (f q : ℕ) → setWhere (heldAs 0 days years) 0 ws f (setWhere (heldAs 1 days years) 1 ws f (marked 0 ws f q)) ≡ cond (named ws f) (presenceField (says f)) q
+  all-loops days years d y h f q =
+      ap₂ (λ a b. setWhere (heldAs 0 a b) 0 ws f (setWhere (heldAs 1 a b) 1 ws f (marked 0 ws f q))) d y
+      ∙ decided-fields reading today list f q
+      ∙ ap (λ b. cond (named ws f) (presenceField (cond b unknown (decided reading today ws f))) q) (sym h)
 
 -- ---- the answer
 module _ (list : List ℕ) (reading today : Date) (table out : List ℕ) where

@@ -1,22 +1,21 @@
 -- Fields set one by one, and all of them at once.
-use mathlib.Core.Path.{_≡_, refl, sym, _∙_, ap, ap₂, subst}
+use mathlib.Core.Path.{_≡_, refl, sym, _∙_, ap, ap₂}
 use mathlib.Core.Bool.{Bool, true, false, cond, not, _&&_, _||_, and-true, and-false}
 use mathlib.Core.List.{List, [], _∷_, _++_}
-use Prim.Native.Nat.{ℕ, zero, suc, _+_, _-_, _*_, _/_, _%_, _≤_, _<_}
+use Prim.Native.Nat.{ℕ, zero, suc, _+_, _*_, _/_, _%_, _^_, _≤_, _<_}
 use native.Mathlib.Omega.{arith}
-use borrow.Author.Tests.{eq-eqb, ne-eqb}
+use borrow.Author.Tests.{lt-leb, eq-eqb, ne-eqb}
 use lib.Dec.{eqb, leb}
 use lib.IntN.{ℤ, pos, negsuc}
-use lib.ListN.{length, drop, getD, set, length-append, length-drop, length-set}
-use lib.Seq.{drop-cons, set-append-left}
-use Rattle.model.specs.Fields.{split, packed}
-use Rattle.model.specs.Facts.{Presence, absent, present, tableBytes, tableFields}
+use lib.ListN.{length, drop, getD, set, length-drop}
+use lib.Seq.{drop-cons}
+use Rattle.model.specs.Fields.{bits, split}
+use Rattle.model.specs.Facts.{Presence, tableFields}
 use Rattle.model.specs.Writing.{presenceField}
 use Rattle.model.specs.Calendar.{Date, ageInDays, ageInYears}
-use Rattle.model.specs.Windows.{Window, windowOf, windowsOf, within, verdict, decided, named, setFields}
-use Rattle.calendar.specs.declared.Age.{Age}
+use Rattle.model.specs.Windows.{Window, ageBits, windowOf, windowsOf, within, holdsAge, openHolds, closedHolds, verdict, decided, someOf, named, setFields}
 use Rattle.calendar.specs.Answers.{shown}
-use Rattle.windows.specs.Setting.{between, heldBy, fieldsBy, marked, heldOr}
+use Rattle.windows.specs.Setting.{numberOf, between, heldBy, heldAs, fieldsBy, setWhere, marked}
 
 -- ---- every field by its fact
 module _ (g h : ℕ → ℕ → ℕ) where
@@ -76,61 +75,80 @@ cond-or : (a b : Bool) {A : Type 0} (v q : A) → cond a v (cond b v q) ≡ cond
 cond-or true b v q = refl
 cond-or false b v q = refl
 
-pub mark-one : (value : ℕ) (w : Window) (ws : List Window) (f q : ℕ) → thenSet (marked value ws) (w .fact) value f q ≡ marked value (w ∷ ws) f q
-mark-one value w ws f q = cond-or (eqb f (w .fact)) (named ws f) value q
+module _ (such : Window → Bool) (value : ℕ) (w : Window) (ws : List Window) where
+  pub set-one : such w ≡ true → (f q : ℕ) → thenSet (setWhere such value ws) (w .fact) value f q ≡ setWhere such value (w ∷ ws) f q
+  set-one h f q =
+      cond-or (eqb f (w .fact)) (someOf such ws f) value q
+      ∙ ap (λ b. cond (b || someOf such ws f) value q) (sym (and-true (eqb f (w .fact))) ∙ ap (λ b. eqb f (w .fact) && b) (sym h))
 
-module _ (days years : Age) (w : Window) (ws : List Window) where
-  pub held-one : heldBy days years w ≡ true → (v : ℕ) → v ≡ presenceField (verdict (w .opens)) → (f q : ℕ) → thenSet (heldOr days years ws) (w .fact) v f q ≡ heldOr days years (w ∷ ws) f q
-  held-one h v e f q =
-      ap (λ x. cond (eqb f (w .fact)) x (heldOr days years ws f q)) e
-      ∙ ap (λ b. cond b (presenceField (verdict (w .opens))) (heldOr days years ws f q)) (sym (and-true (eqb f (w .fact))) ∙ ap (λ b. eqb f (w .fact) && b) (sym h))
-
-  pub held-not : heldBy days years w ≡ false → (f q : ℕ) → heldOr days years ws f q ≡ heldOr days years (w ∷ ws) f q
-  held-not h f q = ap (λ b. cond b (presenceField (verdict (w .opens))) (heldOr days years ws f q)) (sym (and-false (eqb f (w .fact))) ∙ ap (λ b. eqb f (w .fact) && b) (sym h))
+  pub set-none : such w ≡ false → (f q : ℕ) → setWhere such value ws f q ≡ setWhere such value (w ∷ ws) f q
+  set-none h f q = ap (λ b. cond (b || someOf such ws f) value q) (sym (and-false (eqb f (w .fact))) ∙ ap (λ b. eqb f (w .fact) && b) (sym h))
 
 -- ---- the rule of the model
-between-is : (first last : ℕ) (z : ℤ) → between first last (shown z) ≡ within first last z
-between-is first last (pos n) = refl
-between-is first last (negsuc n) = refl
+between-is : (first last : ℕ) → last < 2 ^ ageBits → (z : ℤ) → between first last (numberOf (shown z)) ≡ within first last z
+between-is first last h (pos n) = refl
+between-is first last h (negsuc n) = ap (λ b. leb first (2 ^ ageBits) && b) (lt-leb (2 ^ ageBits) last h) ∙ and-false (leb first (2 ^ ageBits))
 
-shown-of : (b : Bool) (x y : ℤ) → cond b (shown x) (shown y) ≡ shown (cond b x y)
-shown-of true x y = refl
-shown-of false x y = refl
+number-of : (b : Bool) (x y : ℤ) → cond b (numberOf (shown x)) (numberOf (shown y)) ≡ numberOf (shown (cond b x y))
+number-of true x y = refl
+number-of false x y = refl
+
+last-few : (ages : ℕ) → bits 0 ageBits ages < 2 ^ ageBits
+last-few ages = omega arith
+
+some-same : (such also : Window → Bool) → ((lead ages : ℕ) → such (windowOf lead ages) ≡ also (windowOf lead ages)) → (list : List ℕ) (f : ℕ) → someOf such (windowsOf list) f ≡ someOf also (windowsOf list) f
+some-same such also h [] f = refl
+some-same such also h (w ∷ []) f = refl
+some-same such also h (w ∷ v ∷ rest) f = ap₂ (λ a b. (eqb f (windowOf w v .fact) && a) || b) (h w v) (some-same such also h rest f)
+
+-- Of a fact that isn't named no window says anything.
+none-named : (such : Window → Bool) (ws : List Window) (f : ℕ) → named ws f ≡ false → someOf such ws f ≡ false
+none-named such [] f h = refl
+none-named such (w ∷ ws) f h = by (eqb f (w .fact)) h (none-named such ws f)
+  where
+    by : (its : Bool) → ((its && true) || named ws f) ≡ false → (named ws f ≡ false → someOf such ws f ≡ false) → ((its && such w) || someOf such ws f) ≡ false
+    by true k rest = cc
+    by false k rest = rest k
+
+opens-is : (o : Bool) → eqb (presenceField (verdict o)) 1 ≡ o
+opens-is true = refl
+opens-is false = refl
+
+closes-is : (o : Bool) → eqb (presenceField (verdict o)) 0 ≡ not o
+closes-is true = refl
+closes-is false = refl
+
+-- Absent for a named fact, then Present where an open window says it, then Absent where a closed one does.
+in-turn : (isNamed opened closed : Bool) (q : ℕ) → (isNamed ≡ false → opened ≡ false) → (isNamed ≡ false → closed ≡ false) → cond closed 0 (cond opened 1 (cond isNamed 0 q)) ≡ cond isNamed (presenceField (verdict (opened && not closed))) q
+in-turn true true true q o c = refl
+in-turn true true false q o c = refl
+in-turn true false true q o c = refl
+in-turn true false false q o c = refl
+in-turn false true closed q o c = let z : true ≡ false = o refl in cc
+in-turn false false true q o c = let z : true ≡ false = c refl in cc
+in-turn false false false q o c = refl
 
 module _ (reading today : Date) where
-  abbrev days : Age
-  days = shown (ageInDays reading today)
+  abbrev days : ℕ
+  days = numberOf (shown (ageInDays reading today))
 
-  abbrev years : Age
-  years = shown (ageInYears reading today)
+  abbrev years : ℕ
+  years = numberOf (shown (ageInYears reading today))
 
-  held-is : (w : Window) → heldBy days years w ≡ within (w .first) (w .last) (cond (w .inYears) (ageInYears reading today) (ageInDays reading today))
-  held-is w = ap (between (w .first) (w .last)) (shown-of (w .inYears) (ageInYears reading today) (ageInDays reading today)) ∙ between-is (w .first) (w .last) (cond (w .inYears) (ageInYears reading today) (ageInDays reading today))
+  held-is : (lead ages : ℕ) → heldBy days years (windowOf lead ages) ≡ holdsAge reading today (windowOf lead ages)
+  held-is lead ages =
+      let w = windowOf lead ages in
+      ap (between (w .first) (w .last)) (number-of (w .inYears) (ageInYears reading today) (ageInDays reading today))
+      ∙ between-is (w .first) (w .last) (last-few ages) (cond (w .inYears) (ageInYears reading today) (ageInDays reading today))
 
-  as-decided : (b : Bool) (p : Presence) (v : ℕ) (r : Presence) → v ≡ presenceField r → cond b (presenceField p) v ≡ presenceField (cond b p r)
-  as-decided true p v r e = refl
-  as-decided false p v r e = e
-
-  named-held : (ws : List Window) (f : ℕ) → heldOr days years ws f 0 ≡ presenceField (decided reading today ws f)
-  named-held [] f = refl
-  named-held (w ∷ ws) f =
-      ap (λ b. cond (eqb f (w .fact) && b) (presenceField (verdict (w .opens))) (heldOr days years ws f 0)) (held-is w)
-      ∙ as-decided (eqb f (w .fact) && within (w .first) (w .last) (cond (w .inYears) (ageInYears reading today) (ageInDays reading today))) (verdict (w .opens)) (heldOr days years ws f 0) (decided reading today ws f) (named-held ws f)
-
-  other-held : (ws : List Window) (f q : ℕ) → named ws f ≡ false → heldOr days years ws f q ≡ q
-  other-held [] f q h = refl
-  other-held (w ∷ ws) f q h = by (eqb f (w .fact)) (named ws f) refl h (other-held ws f q)
-    where
-      by : (a b : Bool) → named ws f ≡ b → (a || b) ≡ false → (b ≡ false → heldOr days years ws f q ≡ q) → cond (a && heldBy days years w) (presenceField (verdict (w .opens))) (heldOr days years ws f q) ≡ q
-      by true b e k r = cc
-      by false b e k r = r k
-
-  pub decided-fields : (ws : List Window) (f q : ℕ) → heldOr days years ws f (marked 0 ws f q) ≡ cond (named ws f) (presenceField (decided reading today ws f)) q
-  decided-fields ws f q = by (named ws f) refl
-    where
-      by : (b : Bool) → named ws f ≡ b → heldOr days years ws f (cond b 0 q) ≡ cond b (presenceField (decided reading today ws f)) q
-      by true e = named-held ws f
-      by false e = other-held ws f q e
+  pub decided-fields : (list : List ℕ) (f q : ℕ) →
+      setWhere (heldAs 0 days years) 0 (windowsOf list) f (setWhere (heldAs 1 days years) 1 (windowsOf list) f (marked 0 (windowsOf list) f q)) ≡ cond (named (windowsOf list) f) (presenceField (decided reading today (windowsOf list) f)) q
+  decided-fields list f q =
+      let ws = windowsOf list in
+      ap₂ (λ c o. cond c 0 (cond o 1 (marked 0 ws f q)))
+      (some-same (heldAs 0 days years) (closedHolds reading today) (λ lead ages. ap₂ (λ a b. a && b) (closes-is (windowOf lead ages .opens)) (held-is lead ages)) list f)
+      (some-same (heldAs 1 days years) (openHolds reading today) (λ lead ages. ap₂ (λ a b. a && b) (opens-is (windowOf lead ages .opens)) (held-is lead ages)) list f)
+      ∙ in-turn (named ws f) (someOf (openHolds reading today) ws f) (someOf (closedHolds reading today) ws f) q (none-named (openHolds reading today) ws f) (none-named (closedHolds reading today) ws f)
 
 -- ---- one field of a table
 pub fields-set : (bs : List ℕ) (f v r : ℕ) → f / 4 < length bs → split 2 4 r ≡ set (split 2 4 (getD bs (f / 4) 0)) (f % 4) v → tableFields (set bs (f / 4) r) ≡ set (tableFields bs) f v

@@ -13,7 +13,7 @@ ghost use Rattle.model.specs.Windows.{windowOf, windowsOf, rightWindow, badList
 ghost use Rattle.facts.specs.Answers.{faultOf};
 ghost use Rattle.answer.specs.Answers.{Answered};
 ghost use Rattle.calendar.specs.Answers.{dateOf};
-ghost use Rattle.windows.specs.Setting.{inAges, heldBy, fieldsBy, marked, heldOr, Windowed};
+ghost use Rattle.windows.specs.Setting.{numberOf, inAges, heldBy, heldAs, fieldsBy, setWhere, marked, Windowed};
 
 // A window's first word: its verdict above its unit, and a fact below twenty zero bits.
 const VERDICT: u32 = 2147483648;
@@ -30,6 +30,8 @@ const LIST_WORDS: usize = 64;
 
 // A fact's field in a table.
 const ABSENT: u8 = 0;
+
+const PRESENT: u8 = 1;
 
 const UNKNOWN: u8 = 2;
 
@@ -63,23 +65,28 @@ fn is_bad_list(windows: &[u32]) -> bool
     false
 }
 
-// Whether an age lies between the two ages of a window, both included.
-fn is_in(ages: u32, age: Age) -> bool
-    ensures { λ r. ⌜ r ≡ inAges ages age ⌝ }
+// An age as the loops take it. That of a reading after today becomes one above every last age, so it lies in no window.
+fn number(age: Age) -> u32
+    ensures { λ r. ⌜ r ≡ numberOf age ⌝ }
 {
     match age {
-        Age::Ahead => false,
-        Age::Reached(number) => {
-            if number < ages / FIRST_AGE {
-                return false;
-            }
-            number <= ages % FIRST_AGE
-        }
+        Age::Ahead => FIRST_AGE,
+        Age::Reached(number) => number,
     }
 }
 
+// Whether an age lies between the two ages of a window, both included.
+fn is_in(ages: u32, age: u32) -> bool
+    ensures { λ r. ⌜ r ≡ inAges ages age ⌝ }
+{
+    if age < ages / FIRST_AGE {
+        return false;
+    }
+    age <= ages % FIRST_AGE
+}
+
 // Whether a window holds the age, taken in its own unit.
-fn holds(lead: u32, ages: u32, days: Age, years: Age) -> bool
+fn holds(lead: u32, ages: u32, days: u32, years: u32) -> bool
     ensures { λ r. ⌜ r ≡ heldBy days years (windowOf lead ages) ⌝ }
 {
     if lead / UNIT % 2 == 1 {
@@ -88,14 +95,23 @@ fn holds(lead: u32, ages: u32, days: Age, years: Age) -> bool
     is_in(ages, days)
 }
 
-// A byte of a table with a value in one of its four fields. The place is a shift, so nothing branches on it.
+// Whether a window makes its fact the value: Present if it is open, Absent if it is closed, and only while it holds the age.
+fn says(lead: u32, ages: u32, value: u8, days: u32, years: u32) -> bool
+    ensures { λ r. ⌜ r ≡ heldAs value days years (windowOf lead ages) ⌝ }
+{
+    if (lead / VERDICT) as u8 != value {
+        return false;
+    }
+    holds(lead, ages, days, years)
+}
+
+// A byte of a table with a value in one of its four fields: 85 times the value has it in all four. The place is a shift, so nothing branches on it.
 fn with_field(byte: u8, place: u32, value: u8) -> u8
     requires { ⌜ (place < 4) × (value < 4) ⌝ }
     ensures { λ r. ⌜ split 2 4 r ≡ set (split 2 4 byte) place value ⌝ }
 {
-    let old = (byte >> (6 - place * 2)) % 4;
-    let one = 64 >> (place * 2);
-    byte - old * one + value * one
+    let mask = 192 >> (place * 2);
+    byte - (byte & mask) + (value * 85 & mask)
 }
 
 // Sets the field of a fact.
@@ -119,17 +135,17 @@ fn mark(windows: &[u32], value: u8, out: &mut [u8])
     }
 }
 
-// Sets the fact of each window that holds the age to its verdict, from the last window to the first, so that the first one stands.
-fn decide(windows: &[u32], days: Age, years: Age, out: &mut [u8])
-    requires { ⌜ tableBytes ≤ length (now out) ⌝ }
-    ensures { λ _. ⌜ tableFields (now (out .exit)) ≡ fieldsBy (heldOr days years (windowsOf (now (windows .entry)))) 0 (tableFields (now (out .entry))) ⌝ }
+// Sets every fact of which some window says a value to this value.
+fn decide(windows: &[u32], value: u8, days: u32, years: u32, out: &mut [u8])
+    requires { ⌜ (tableBytes ≤ length (now out)) × (value < 4) ⌝ }
+    ensures { λ _. ⌜ tableFields (now (out .exit)) ≡ fieldsBy (setWhere (heldAs value days years) value (windowsOf (now (windows .entry)))) 0 (tableFields (now (out .entry))) ⌝ }
 {
     let mut i = windows.len() / 2;
     while i > 0 {
         i -= 1;
         let lead = windows[i * 2];
-        if holds(lead, windows[i * 2 + 1], days, years) {
-            set_field(out, lead % policy_model::FACTS, (lead / VERDICT) as u8);
+        if says(lead, windows[i * 2 + 1], value, days, years) {
+            set_field(out, lead % policy_model::FACTS, value);
         }
     }
 }
@@ -153,7 +169,8 @@ fn fault(windows: &[u32], reading: Date, today: Date, facts: &[u8]) -> TableFaul
     facts::partial_fault(facts)
 }
 
-// Copies the table, and sets the facts that the list names: to Unknown if either date is, and else to Absent first, for those that no window holds.
+// Copies the table, and sets the facts that the list names: to Unknown if either date is. Else all of them are Absent first, then those Present of which an
+// open window holds the age, and last those Absent of which a closed one does, which goes before open ones.
 fn write(windows: &[u32], reading: Date, today: Date, facts: &[u8], out: &mut [u8])
     requires { ⌜ (windowsFault (now windows) (dateOf reading) (dateOf today) (now facts) ≡ none) × (tableBytes ≤ length (now out)) ⌝ }
     ensures { λ _. ⌜ Windowed (now (windows .entry)) (dateOf reading) (dateOf today) (now (facts .entry)) (now (out .entry)) (now (out .exit)) ⌝ }
@@ -167,10 +184,11 @@ fn write(windows: &[u32], reading: Date, today: Date, facts: &[u8], out: &mut [u
         mark(windows, UNKNOWN, out);
         return;
     }
-    let days = calendar::age_in_days(reading, today);
-    let years = calendar::age_in_years(reading, today);
+    let days = number(calendar::age_in_days(reading, today));
+    let years = number(calendar::age_in_years(reading, today));
     mark(windows, ABSENT, out);
-    decide(windows, days, years, out);
+    decide(windows, PRESENT, days, years, out);
+    decide(windows, ABSENT, days, years, out);
 }
 
 // Everything is judged before a byte changes.

@@ -70,10 +70,10 @@ Example:
     Join(Join),
     /// Sets facts by the age of a reading, by a list of retention windows.
     #[command(after_help = "\
-Of one fact the first window in the list that holds the age decides: open
-makes the fact present, closed absent. A fact that is named and held by no
-window is absent; if either date is unknown it is unknown. Other facts stay
-as they are. Both ends of a window are included.
+Closed goes before open, and the order of the windows doesn't matter: a fact
+that is named is present if some open window of it holds the age and no closed
+one does, and else absent; if either date is unknown it is unknown. Other facts
+stay as they are. Both ends of a window are included.
 
 Example:
   echo 'open 6 0..90 days' |

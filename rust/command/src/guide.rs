@@ -79,10 +79,11 @@ Windows
   A list of retention windows says what facts are while a reading has an age,
   one window a line; # begins a comment:
     open 6 0..90 days       fact 6 is present from 0 to 90 days
-    closed 6 10..20 days    fact 6 is absent from 10 to 20 days
+    closed 6 10..20 days    but absent from 10 to 20 days
     open 7 0..9 years       fact 7 is present for ten years
-  Both ends are included, and years are completed ones. The command window
-  sets the facts of a table by such a list.
+  Both ends are included, and years are completed ones. Closed goes before
+  open, in whatever order the windows stand. The command window sets the facts
+  of a table by such a list.
 
 The road in four commands
   Two relays join their tables: one knows that fact 6 is absent, the other

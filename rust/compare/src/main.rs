@@ -54,7 +54,7 @@ enum Command {
         #[command(flatten)]
         sample: Sample,
     },
-    /// Compares the proved call on windows with the comparison's own, and shows the first case in which they differ.
+    /// Compares the proved call on windows, each list in two orders, with the comparison's own, and shows the first case in which they differ.
     #[cfg(feature = "proved")]
     Windows {
         #[command(flatten)]
@@ -258,22 +258,30 @@ fn registers(sample: &Sample) -> io::Result<()> {
 /// In batches as well.
 #[cfg(feature = "proved")]
 fn windows(sample: &Sample) -> io::Result<()> {
-    use compare::generate::windows::draw;
+    use compare::generate::rng::Rng;
+    use compare::generate::windows::{draw, shuffled};
     use compare::proved::sets_as;
 
     const BATCH: usize = 20_000;
-    let mut accepted = 0;
+    let (mut accepted, mut overruled) = (0, 0);
+    let mut rng = Rng::new(sample.seed);
     for (batch, first) in (0..sample.count).step_by(BATCH).enumerate() {
         let count = BATCH.min(sample.count - first);
         for case in draw(sample.seed + batch as u64, count) {
-            if !sets_as(&case) {
+            let other = shuffled(&mut rng, &case);
+            let answer = case.answer();
+            if !sets_as(&case) || !sets_as(&other) || answer != other.answer() {
                 return Err(io::Error::other(format!("differs: {case:X?}")));
             }
-            accepted += usize::from(case.answer().is_ok());
+            if !case.parts_where_overruled() {
+                return Err(io::Error::other(format!("the former rule: {case:X?}")));
+            }
+            accepted += usize::from(answer.is_ok());
+            overruled += usize::from(answer.is_ok() && !case.overruled().is_empty());
         }
     }
     println!(
-        "{} cases, seed {}: no difference; {accepted} of them accepted",
+        "{} cases in two orders, seed {}: no difference; {accepted} of them accepted, {overruled} with a fact that the former rule left Present",
         sample.count, sample.seed
     );
     Ok(())

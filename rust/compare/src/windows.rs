@@ -1,4 +1,6 @@
-//! Retention windows, from document 02's request 1 alone: the original has no such call. The calendar is the crate `time`'s.
+//! Retention windows, from document 02's requests 1 and 12 alone: the original has no such call. The calendar is the crate `time`'s.
+
+use std::collections::BTreeSet;
 
 use gatekeep::Presence;
 use time::{Date, Month};
@@ -33,11 +35,53 @@ struct Window {
     last: i64,
 }
 
+/// What a fact becomes of the verdicts of its windows that hold the age, in the list's order.
+type Rule = fn(&[bool]) -> Presence;
+
 impl Case {
     /// The 256 bytes that are written, or why there are none.
     pub fn answer(&self) -> Result<Vec<u8>, Refusal> {
-        let reading = date(self.reading)?;
-        let today = date(self.today)?;
+        self.by(closed_first)
+    }
+
+    /// The same by the rule of request 1 that request 12 replaced.
+    pub fn former(&self) -> Result<Vec<u8>, Refusal> {
+        self.by(first_listed)
+    }
+
+    /// Whether the two rules part where request 12 says so, from Present to Absent, and nowhere else, in a refusal neither.
+    pub fn parts_where_overruled(&self) -> bool {
+        match (self.former(), self.answer()) {
+            (Ok(before), Ok(after)) => {
+                let overruled = self.overruled();
+                let mut both = fields(&before).zip(fields(&after)).enumerate();
+                both.all(|(fact, (was, is))| {
+                    if overruled.contains(&fact) {
+                        [was, is] == [Presence::Present, Presence::Absent].map(field_of)
+                    } else {
+                        was == is
+                    }
+                })
+            }
+            (before, after) => before == after,
+        }
+    }
+
+    /// The facts of which the first window that holds the age is open and a later one that holds it closed.
+    pub fn overruled(&self) -> BTreeSet<usize> {
+        let (Ok(Some(ages)), Ok(windows)) = (self.ages(), self.list()) else {
+            return BTreeSet::new();
+        };
+        let overruled = |fact: &usize| {
+            let verdicts = verdicts(&windows, *fact, &ages);
+            verdicts.starts_with(&[true]) && verdicts.contains(&false)
+        };
+        let facts = windows.iter().map(|window| window.fact);
+        facts.filter(overruled).collect()
+    }
+
+    fn by(&self, rule: Rule) -> Result<Vec<u8>, Refusal> {
+        let ages = self.ages()?;
         let windows = self.list()?;
         if self.table.len() != TABLE_BYTES {
             return Err(Refusal::Windows);
@@ -46,26 +90,20 @@ impl Case {
         if self.room < TABLE_BYTES {
             return Err(Refusal::Room);
         }
-        let ages = reading
-            .zip(today)
-            .map(|(reading, today)| Ages::between(reading, today));
-        let set = |(fact, field): (usize, u8)| {
-            let mut naming = windows.iter().filter(|window| window.fact == fact);
-            let named = naming.clone().next().is_some();
-            match &ages {
-                _ if !named => field,
-                None => field_of(Presence::Unknown),
-                Some(ages) => {
-                    let first = naming.find(|window| window.holds(ages));
-                    field_of(match first {
-                        Some(Window { opens: true, .. }) => Presence::Present,
-                        _ => Presence::Absent,
-                    })
-                }
-            }
+        let set = |(fact, field): (usize, u8)| match &ages {
+            _ if windows.iter().all(|window| window.fact != fact) => field,
+            None => field_of(Presence::Unknown),
+            Some(ages) => field_of(rule(&verdicts(&windows, fact, ages))),
         };
         let set: Vec<u8> = fields(&self.table).enumerate().map(set).collect();
         Ok(pack(&set))
+    }
+
+    /// Both ages, if both dates are known.
+    fn ages(&self) -> Result<Option<Ages>, Refusal> {
+        let (reading, today) = (date(self.reading)?, date(self.today)?);
+        let dates = reading.zip(today);
+        Ok(dates.map(|(reading, today)| Ages::between(reading, today)))
     }
 
     fn list(&self) -> Result<Vec<Window>, Refusal> {
@@ -95,6 +133,28 @@ impl Window {
     fn holds(&self, ages: &Ages) -> bool {
         let age = if self.years { ages.years } else { ages.days };
         age >= 0 && (self.first..=self.last).contains(&age)
+    }
+}
+
+/// Which windows of a fact that hold the age are open, in the list's order.
+fn verdicts(windows: &[Window], fact: usize, ages: &Ages) -> Vec<bool> {
+    let holding = |window: &&Window| window.fact == fact && window.holds(ages);
+    let held = windows.iter().filter(holding);
+    held.map(|window| window.opens).collect()
+}
+
+fn closed_first(verdicts: &[bool]) -> Presence {
+    if verdicts.contains(&true) && !verdicts.contains(&false) {
+        Presence::Present
+    } else {
+        Presence::Absent
+    }
+}
+
+fn first_listed(verdicts: &[bool]) -> Presence {
+    match verdicts.first() {
+        Some(true) => Presence::Present,
+        _ => Presence::Absent,
     }
 }
 

@@ -298,9 +298,9 @@ pub fn carries_obligation(record: &[u32]) -> Result<bool, Refusal> {
 /// Sets facts of a table by the age of a reading: the table with these facts set is the first 256 bytes of `out`.
 ///
 /// `windows` has the words of 0 to 32 windows, [`Window::words`](crate::Window::words) one after the other, and the table is 256 bytes,
-/// [`FactTable::to_bytes`](crate::FactTable::to_bytes). A fact that some window names becomes what the first listed window of that fact says that holds the
-/// age, and Absent if none does; if either date is [`Date::UNKNOWN`], it becomes Unknown. Every other fact keeps its field. Later bytes of `out` are left
-/// as they were, and so is all of it when the call is refused.
+/// [`FactTable::to_bytes`](crate::FactTable::to_bytes). A fact that some window names becomes Present if an open window of it holds the age and no closed
+/// one does, and else Absent; if either date is [`Date::UNKNOWN`], it becomes Unknown. The order of the windows doesn't matter. Every other fact keeps its
+/// field. Later bytes of `out` are left as they were, and so is all of it when the call is refused.
 ///
 /// # Errors
 ///
@@ -314,16 +314,17 @@ pub fn carries_obligation(record: &[u32]) -> Result<bool, Refusal> {
 /// const RAW_STAGE: Fact = Fact::new(6).unwrap();
 /// const HOURLY_MEANS: Fact = Fact::new(7).unwrap();
 ///
-/// // Raw stage for 90 days, hourly means for ten years.
+/// // Raw stage for 90 days but for a survey, hourly means for ten years.
 /// let windows = [
 ///     Window::open(RAW_STAGE, Ages::days(0..=90)).words(),
+///     Window::closed(RAW_STAGE, Ages::days(10..=20)).words(),
 ///     Window::open(HOURLY_MEANS, Ages::years(0..=9)).words(),
 /// ];
-/// let (reading, today) = (Date::new(2026, 8, 16), Date::new(2026, 11, 15));
+/// let (reading, today) = (Date::new(2026, 11, 1), Date::new(2026, 11, 15));
 /// let mut out = [0; 256];
 /// let table = FactTable::new().to_bytes();
 /// let facts = vierskof::apply_windows(windows.as_flattened(), reading, today, &table, &mut out)?;
-/// // 91 days are too many, and 0 years are not.
+/// // 14 days lie in the survey, and 0 years in the ten.
 /// assert_eq!(facts[1], 0x01);
 /// # Ok::<(), vierskof::Refusal>(())
 /// ```

@@ -1,5 +1,6 @@
 -- `windows::mark` meets its contract. The loop's invariant: the facts of the windows from `i` on have the value. The measure is `i`. Assumes nothing.
 use mathlib.Core.Path.{_≡_, refl, ap, _∙_}
+use mathlib.Core.Bool.{true}
 use Prim.Native.Nat.{_-_, _*_, _/_, _≤_}
 use native.Mathlib.Omega.{arith}
 use borrow.Author.Needs.{needs}
@@ -7,14 +8,14 @@ use lib.ListN.{length, drop}
 use Rattle.model.specs.Facts.{tableFields}
 use Rattle.model.specs.Windows.{windowsOf}
 use Rattle.windows.specs.Setting.{fieldsBy, marked}
-use Rattle.windows.proofs.Parts.{none-marked, one-marked}
+use Rattle.windows.proofs.Parts.{SetFrom, none-set, one-set}
 use mathlib.Core.Path.{_≡_}
 use Prim.Native.Nat.{_*_, _/_, _≤_}
 use Rattle.windows.proofs.mark.Statement.{statement}
 use Rattle.windows.proofs.mark.Tie as tie
 
 abbrev Inv-loop : tie.InvT-loop
-Inv-loop windows value out₀ i₀ out i = (i ≤ length windows / 2) × (length out ≡ length out₀) × (tableFields out ≡ fieldsBy (marked value (windowsOf (drop (i * 2) windows))) 0 (tableFields out₀))
+Inv-loop windows value out₀ i₀ out i = (i ≤ length windows / 2) × (length out ≡ length out₀) × SetFrom (λ w. true) value windows (tableFields out₀) i (tableFields out)
 
 abbrev μ-loop : tie.MeasureT-loop
 μ-loop windows value out₀ i₀ out i = i
@@ -22,7 +23,7 @@ abbrev μ-loop : tie.MeasureT-loop
 loop-holds : tie.Need-loop-holds Inv-loop μ-loop
 loop-holds c =
     let args = c .before .before .args in
-    (omega arith, refl, none-marked (args .windows .now) (tableFields (args .out .now)) (args .value) (length (args .windows .now) / 2) (omega arith))
+    (omega arith, refl, none-set (λ w. true) (args .value) (args .windows .now) (tableFields (args .out .now)) (length (args .windows .now) / 2) (omega arith))
 
 sub-i : tie.Need-sub-i Inv-loop μ-loop
 sub-i c = search needs
@@ -50,7 +51,7 @@ loop-again c =
     let at-loop = c .before .before .before .before .before .before in
     let start = at-loop .before .before .before in
     let i = at-loop .loop .i in
-    (omega arith, omega (arith, at-loop .loop .inv .1), one-marked (start .args .windows .now) (tableFields (start .args .out .now)) (start .args .value) (i - 1) i (omega arith) (omega arith) (at-loop .loop .inv .2) (c .before .before .set-field .ensures))
+    (omega arith, omega (arith, at-loop .loop .inv .1), one-set (λ w. true) (start .args .value) (start .args .windows .now) (tableFields (start .args .out .now)) (i - 1) i (omega arith) (omega arith) refl refl (at-loop .loop .inv .2) (c .before .before .set-field .ensures))
 
 same-length : tie.Need-same-length Inv-loop μ-loop
 same-length c = c .before .loop .inv .1

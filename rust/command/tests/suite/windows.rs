@@ -26,6 +26,35 @@ fn facts_are_said() {
 }
 
 #[test]
+fn closed_goes_before_open_in_any_order() {
+    let lines = [
+        "open 6 0..90 days",
+        "closed 6 10..20 days",
+        "open 6 0..9 years",
+    ];
+    for (reading, expected) in [
+        ("2026-11-06", "6=present\n"),
+        ("2026-11-05", "6=absent\n"),
+        ("2026-10-26", "6=absent\n"),
+        ("2026-10-25", "6=present\n"),
+        ("unknown", "6=unknown\n"),
+    ] {
+        let dates = format!("window --reading {reading} --today 2026-11-15");
+        for order in [
+            [0, 1, 2],
+            [0, 2, 1],
+            [1, 0, 2],
+            [1, 2, 0],
+            [2, 0, 1],
+            [2, 1, 0],
+        ] {
+            let text = order.map(|at| lines[at]).join("\n");
+            assert_eq!(answer(&dates, &text), expected, "{reading}: {text}");
+        }
+    }
+}
+
+#[test]
 fn each_form_is_taken_again() {
     let folder = folder("windowed");
     let table = folder.join("table");

@@ -35,6 +35,38 @@ fn case(rng: &mut Rng) -> Case {
     case
 }
 
+/// Two to five windows of one fact, their ends at the age more often than not.
+pub fn draw_overlaps(seed: u64, count: usize) -> Vec<Case> {
+    let mut rng = Rng::new(seed);
+    let overlap = |rng: &mut Rng| {
+        let apart = i64::from(rng.small(1_500));
+        let reading = turning(rng);
+        let today = reading + Duration::days(apart);
+        let fact = rng.pick(&[0, 6, 7, 1_023]);
+        let windows = rng.between(2, 5);
+        Case {
+            windows: (0..windows)
+                .flat_map(|_| window(rng, fact, apart))
+                .collect(),
+            reading: plain(reading),
+            today: plain(if today.year() > 2199 { reading } else { today }),
+            table: table(rng),
+            room: 256,
+        }
+    };
+    (0..count).map(|_| overlap(&mut rng)).collect()
+}
+
+/// The case with its windows in some other order; a word without its pair stays the last.
+pub fn shuffled(rng: &mut Rng, case: &Case) -> Case {
+    let (pairs, odd) = case.windows.as_chunks::<2>();
+    let pairs = rng.choose(pairs, pairs.len());
+    Case {
+        windows: [pairs.as_flattened(), odd].concat(),
+        ..case.clone()
+    }
+}
+
 /// Two dates: any two, or two that are as far apart as some rule turns on.
 fn dates(rng: &mut Rng) -> (Numbers, Numbers) {
     let reading = turning(rng);
@@ -88,14 +120,18 @@ fn day(year: i32, month: Month, day: u8) -> Date {
     Date::from_calendar_date(year, month, day).expect("a date")
 }
 
-/// The date as it is given; now and then it is unknown, or no date.
-fn numbers(rng: &mut Rng, date: Date) -> Numbers {
+fn plain(date: Date) -> Numbers {
     let year = u32::try_from(date.year()).expect("a year");
-    let mut numbers = [
+    [
         year,
         u32::from(u8::from(date.month())),
         u32::from(date.day()),
-    ];
+    ]
+}
+
+/// The date as it is given; now and then it is unknown, or no date.
+fn numbers(rng: &mut Rng, date: Date) -> Numbers {
+    let mut numbers = plain(date);
     match rng.below(100) {
         0..6 => [0, 0, 0],
         6..9 => {

@@ -47,6 +47,26 @@ fn facts_are_set_by_age() {
     }
 }
 
+/// A closed window goes before an open one, in either order, also in another unit.
+#[test]
+fn closed_goes_before_open() {
+    let open = Window::open(fact(6), Ages::days(0..=90)).words();
+    let survey = Window::closed(fact(6), Ages::days(10..=20)).words();
+    let years = Window::closed(fact(6), Ages::years(0..=0)).words();
+    for (list, reading, expected) in [
+        ([open, survey], Date::new(2026, 11, 1), 0x00),
+        ([open, survey], Date::new(2026, 10, 25), 0x04),
+        ([open, years], Date::new(2026, 10, 25), 0x00),
+        ([open, survey], Date::UNKNOWN, 0x08),
+    ] {
+        for list in [list, [list[1], list[0]]] {
+            let mut out = [0xA5; 256];
+            let set = apply_windows(list.as_flattened(), reading, TODAY, &table(0, 0), &mut out);
+            assert_eq!(set, Ok(&table(expected, 0)[..]), "{list:X?} {reading}");
+        }
+    }
+}
+
 #[test]
 fn refusals_come_in_their_order() {
     let refused = |windows: &[u32], reading, facts: &[u8], room: usize| {

@@ -29,15 +29,16 @@ enum call {
 // their words.
 enum { JOIN_TABLES = CALLS, APPLY_WINDOWS, INPUTS };
 
-// An input of the fuzzer begins with call, room and table bytes, as a stored answer does.
-enum { LEAD = 6 };
+// An input of the fuzzer begins with call, room and table bytes, as a stored answer does, and a sheet's number, of 32 bits.
+enum { SHEET_AT = 6, LEAD = 10 };
 
-// What a call is given: a sheet's, a record's or a register's words, a table, and the room of the output in words. A register is asked for a group and a day,
-// which stand in the table's place, four bytes each.
+// What a call is given: a sheet's, a record's or a register's words, a sheet's number, a table, and the room of the output in words. A register is asked for
+// a group and a day, which stand in the table's place, four bytes each.
 struct given {
     enum call call;
     uint32_t *words;
     size_t count;
+    uint32_t number;
     uint8_t *table;
     size_t bytes;
     size_t room;
@@ -116,18 +117,19 @@ static inline uint32_t day_of(const struct given *given) { return asked(given, 4
 static inline uint64_t returned(const struct given *given, void *out) {
     const uint32_t *words = given->words;
     size_t count = given->count;
+    uint32_t number = given->number;
     switch (given->call) {
-    case EVALUATE: return vierskof_evaluate(words, count, given->table, given->bytes, out, given->room);
-    case PARTIAL_EVALUATE: return vierskof_partial_evaluate(words, count, given->table, given->bytes, out, given->room);
-    case NARROW_RESIDUAL: return vierskof_narrow_residual(words, count, given->table, given->bytes, out, given->room);
-    case COMPLETE_RESIDUAL: return vierskof_complete_residual(words, count, given->table, given->bytes, out, given->room);
+    case EVALUATE: return vierskof_evaluate(words, count, number, given->table, given->bytes, out, given->room);
+    case PARTIAL_EVALUATE: return vierskof_partial_evaluate(words, count, number, given->table, given->bytes, out, given->room);
+    case NARROW_RESIDUAL: return vierskof_narrow_residual(words, count, number, given->table, given->bytes, out, given->room);
+    case COMPLETE_RESIDUAL: return vierskof_complete_residual(words, count, number, given->table, given->bytes, out, given->room);
     case REQUIRED_FACTS: return vierskof_required_facts(words, count, out, VIERSKOF_SET_NUMBERS);
     case REQUIRED_RESIDUAL_FACTS: return vierskof_required_residual_facts(words, count, out, VIERSKOF_SET_NUMBERS);
     case IS_PERMIT_CONSTANT: return vierskof_is_permit_constant(words, count);
     case IS_DENY_CONSTANT: return vierskof_is_deny_constant(words, count);
     case CARRIES_OBLIGATION: return vierskof_carries_obligation(words, count);
-    case PARTIAL_EVALUATE_IN_ORDER: return vierskof_partial_evaluate_in_order(words, count, given->table, given->bytes, out, given->room);
-    case NARROW_RESIDUAL_IN_ORDER: return vierskof_narrow_residual_in_order(words, count, given->table, given->bytes, out, given->room);
+    case PARTIAL_EVALUATE_IN_ORDER: return vierskof_partial_evaluate_in_order(words, count, number, given->table, given->bytes, out, given->room);
+    case NARROW_RESIDUAL_IN_ORDER: return vierskof_narrow_residual_in_order(words, count, number, given->table, given->bytes, out, given->room);
     case SHEET_IN_FORCE: return vierskof_sheet_in_force(words, count, group_of(given), day_of(given));
     default: abort();
     }

@@ -1,5 +1,5 @@
-// The fuzzer's harness over the C interface. An input is a call, a room and a table's length, 16 bits each, the table and the words, or a second table,
-// all most significant byte first; the numbers after the last call's are those of joins and windows. Every claim holds of every input; one that doesn't
+// The fuzzer's harness over the C interface. An input is a call, a room and a table's length, 16 bits each, a sheet's number, 32 bits, the table and the
+// words, or a second table, all most significant byte first; the numbers after the last call's are those of joins and windows. Every claim holds of every input; one that doesn't
 // ends the run.
 #include <stdio.h>
 
@@ -44,7 +44,8 @@ static int same(const void *one, const void *other, size_t bytes) { return bytes
 // A refusal has a number of the table and no value; an accepted call's value is in its range.
 static void in_range(const struct given *given, const struct answer *answer) {
     bool in_table = answer->number <= VIERSKOF_REFUSED_ROOM && answer->number != 9, no_register = answer->number == VIERSKOF_REFUSED_REGISTER;
-    HOLDS(given->call == SHEET_IN_FORCE ? no_register || answer->number == 0 : in_table);
+    bool other_sheet = answer->number == VIERSKOF_REFUSED_SHEET_NUMBER && writes(given->call);
+    HOLDS(given->call == SHEET_IN_FORCE ? no_register || answer->number == 0 : in_table || other_sheet);
     if (answer->number) {
         HOLDS(answer->value == 0);
     } else if (writes(given->call)) {
@@ -75,6 +76,8 @@ static struct answer call(struct given given, enum mark mark) {
     in_range(&given, &answer);
     if (counts(given.call)) counted(&answer);
     for (size_t i = answer.value; writes(given.call) && i < given.room; i++) HOLDS(out[i] == marked(mark, i));
+    // What is written carries the number that was given.
+    HOLDS(!writes(given.call) || answer.number || vierskof_sheet_number(out, answer.value) == given.number);
     HOLDS(same(own.words, given.words, given.count * sizeof *given.words));
     HOLDS(same(own.table, given.table, given.bytes));
     free(own.words);
@@ -100,14 +103,15 @@ static struct answer same_twice(struct given given) {
 }
 
 // The original, where it is linked: it answers as the C interface does.
-__attribute__((weak)) uint64_t judge_answer(size_t call, const uint32_t *words, size_t count, const uint8_t *table, size_t bytes, uint32_t *out, size_t room);
+__attribute__((weak)) uint64_t judge_answer(size_t call, const uint32_t *words, size_t count, uint32_t number, const uint8_t *table, size_t bytes, uint32_t *out,
+                                            size_t room);
 
 // The original returns the same, and would leave the same output.
 static void judged(struct given given, const struct answer *answer) {
     if (!judge_answer) return;
     size_t bytes = out_bytes(&given);
     uint32_t *out = output(bytes, FIRST);
-    uint64_t told = judge_answer(given.call, given.words, given.count, given.table, given.bytes, out, bytes / sizeof *out);
+    uint64_t told = judge_answer(given.call, given.words, given.count, given.number, given.table, given.bytes, out, bytes / sizeof *out);
     HOLDS(told == ((uint64_t)answer->number << 32 | answer->value));
     HOLDS(same(out, answer->out, bytes));
     free(out);
@@ -120,7 +124,7 @@ __attribute__((weak)) bool judge_clause(const uint32_t *words, size_t count, con
 
 // All calls that read only a record refuse the same ones for the same cause; the tree of a Resolved record is a permit or a deny, and no tree is both.
 static uint32_t as_record(const uint32_t *words, size_t count) {
-    struct given given = {REQUIRED_RESIDUAL_FACTS, (uint32_t *)words, count, NULL, 0, 0};
+    struct given given = {REQUIRED_RESIDUAL_FACTS, (uint32_t *)words, count, 0, NULL, 0, 0};
     uint32_t number = number_of(given);
     uint32_t said[CALLS] = {0};
     for (given.call = IS_PERMIT_CONSTANT; given.call <= CARRIES_OBLIGATION; given.call++) {
@@ -139,7 +143,8 @@ static uint32_t as_record(const uint32_t *words, size_t count) {
 
 // The record that a call wrote, in a block of its own length: the calls that read records accept it.
 static struct given record_of(struct answer answer, size_t room) {
-    struct given record = {NARROW_RESIDUAL, copy(answer.out, answer.value * sizeof *answer.out), answer.value, NULL, 0, room};
+    struct given record = {NARROW_RESIDUAL, copy(answer.out, answer.value * sizeof *answer.out), answer.value, 0, NULL, 0, room};
+    record.number = vierskof_sheet_number(record.words, record.count);
     HOLDS(as_record(record.words, record.count) == 0);
     free(answer.out);
     return record;
@@ -179,7 +184,8 @@ static void names_no_settled(const struct given *record, const struct given *tab
 
 // ---- roads
 
-// Takes an accepted sheet or record through a call with a faultless table, which is refused for want of room alone. Whether there was room.
+// Takes an accepted sheet or record through a call with its own number and a faultless table, which is refused for want of room alone. Whether there was
+// room.
 static int taken(struct given given, enum call which, const uint8_t *table, size_t bytes, struct given *record) {
     given.call = which;
     given.table = (uint8_t *)table;
@@ -272,12 +278,28 @@ static const struct way WAYS[] = {
     {PARTIAL_EVALUATE_IN_ORDER, NARROW_RESIDUAL, 0},
 };
 
-// An accepted sheet or record with a faultless table: with tables that leave facts open, and with the known one from the start.
+// Under a number that no record carries an accepted sheet is refused by 16, and under another than its own an accepted record, with room and without.
+static void other_numbers(struct given given, int sheet, const uint8_t *known) {
+    static const enum call calls[2][3] = {{COMPLETE_RESIDUAL, NARROW_RESIDUAL, NARROW_RESIDUAL_IN_ORDER}, {EVALUATE, PARTIAL_EVALUATE, PARTIAL_EVALUATE_IN_ORDER}};
+    uint32_t off = given.number ? given.number : 1;
+    given.number = sheet ? given.number | 0x10000 : vierskof_sheet_number(given.words, given.count) ^ off;
+    for (size_t i = 0; i < 6; i++) {
+        struct given other = given;
+        other.call = calls[sheet][i % 3];
+        if (i % 3 == 0) other.table = (uint8_t *)known;
+        if (i > 2) other.room = 0;
+        HOLDS(number_of(other) == VIERSKOF_REFUSED_SHEET_NUMBER);
+    }
+}
+
+// An accepted sheet or record with a faultless table: with tables that leave facts open, and with the known one from the start; all under one number.
 static void roads(struct given given, int sheet) {
     given.room = sheet ? VIERSKOF_ROOM(given.count) : VIERSKOF_RECORD_WORDS;
     uint8_t *some = block(given.bytes), *known = block(given.bytes);
     settle(&given, 0, some);
     settle(&given, 1, known);
+    other_numbers(given, sheet, known);
+    given.number = sheet ? given.number & 0xFFFF : vierskof_sheet_number(given.words, given.count);
     for (size_t i = 0; sheet && i < sizeof WAYS / sizeof *WAYS; i++) {
         staged(given, WAYS[i], given.table, some, known);
         staged(given, WAYS[i], known, known, known);
@@ -405,7 +427,7 @@ int LLVMFuzzerTestOneInput(const uint8_t *data, size_t size) {
         hold_join((struct join){(uint8_t *)data + LEAD, bytes, (uint8_t *)data + words, size - words, number_at(data + 2, 2)});
         return 0;
     }
-    struct given given = {input, NULL, (size - words) / 4, NULL, bytes, number_at(data + 2, 2)};
+    struct given given = {input, NULL, (size - words) / 4, number_at(data + SHEET_AT, 4), NULL, bytes, number_at(data + 2, 2)};
     given.table = copy(data + LEAD, bytes);
     given.words = words_at(data + words, given.count);
     if (input == APPLY_WINDOWS) {

@@ -181,12 +181,26 @@ static void change_register(struct input *input, size_t bytes, size_t words, siz
     }
 }
 
+// The lead of a Pending record without consulted entries, of this sheet.
+static uint32_t lead_of(uint32_t number) { return 0xF0000000 | (number & 0xFFFF) << 12; }
+
+// Another sheet's number, most often of the record too.
+static void change_number(struct input *input, size_t words, enum call call) {
+    uint32_t numbers[] = {0, 1, 7, 4095, 4096, 65535, 65536, 65543, UINT32_MAX};
+    uint32_t number = draw(input, 8) ? numbers[draw(input, 9)] : draw(input, 65536);
+    put(input->data + SHEET_AT, number, 4);
+    if (reads_sheet(call) || input->size < words + 4 || draw(input, 4) == 0) return;
+    uint32_t lead = number_at(input->data + words, 4);
+    if (lead >> 28 >= 14) put(input->data + words, (lead & 0xF0000FFF) | (lead_of(number) & 0x0FFFF000), 4);
+}
+
 // Another call. A sheet becomes a record by a lead before it, and such a record a sheet again.
 static void change_call(struct input *input, size_t words, enum call call) {
     enum call other = draw(input, INPUTS);
-    int lead = input->size >= words + 4 && number_at(input->data + words, 4) == 0xF0000000;
+    uint32_t plain = lead_of(number_at(input->data + SHEET_AT, 4));
+    int lead = input->size >= words + 4 && number_at(input->data + words, 4) == plain;
     put(input->data, other, 2);
-    if (reads_sheet(call) && !reads_sheet(other)) insert(input, words, 0xF0000000);
+    if (reads_sheet(call) && !reads_sheet(other)) insert(input, words, plain);
     if (!reads_sheet(call) && reads_sheet(other) && lead) cut(input, words, 4);
 }
 
@@ -238,7 +252,13 @@ size_t LLVMFuzzerCustomMutator(uint8_t *data, size_t size, size_t max, unsigned 
     enum call call = number;
     switch (change) {
     case 0: change_call(&input, words, call); break;
-    case 1: put(data + 2, draw(&input, draw(&input, 2) ? 16 : 2000), 2); break;
+    case 1:
+        if (draw(&input, 2)) {
+            put(data + 2, draw(&input, draw(&input, 2) ? 16 : 2000), 2);
+        } else {
+            change_number(&input, words, call);
+        }
+        break;
     case 2:
     case 3: change_table(&input, bytes); break;
     default:

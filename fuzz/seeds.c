@@ -1,10 +1,14 @@
 // Writes what each stored answer of a file was given as an input of the fuzzer, a file each: FILE FOLDER.
 #include "stored.h"
 
+// The sheet's number has 16 bits in a stored answer, where it is the last of the numbers.
 static void write_seed(const struct stored *stored, const char *name) {
     FILE *to = fopen(name, "wb");
     size_t given = stored->given.bytes + 4 * stored->given.count;
-    if (!to || fwrite(stored->at, 1, LEAD, to) != LEAD || fwrite(stored->at + HEAD, 1, given, to) != given || fclose(to)) {
+    uint8_t lead[LEAD] = {0};
+    memcpy(lead, stored->at, SHEET_AT);
+    memcpy(lead + LEAD - 2, stored->at + HEAD - 2, 2);
+    if (!to || fwrite(lead, 1, LEAD, to) != LEAD || fwrite(stored->at + HEAD, 1, given, to) != given || fclose(to)) {
         perror(name);
         exit(2);
     }

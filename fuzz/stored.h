@@ -1,6 +1,6 @@
-// A file of stored answers: a line of text, then of each answer seven 16-bit numbers (call, room, table bytes, words, number, value, answer words), the
-// table, the words, and the words that stand first in the output afterwards; all most significant byte first. A register's value, which 16 bits may not
-// hold, is the one answer word.
+// A file of stored answers: a line of text, then of each answer eight 16-bit numbers (call, room, table bytes, words, number, value, answer words, sheet
+// number), the table, the words, and the words that stand first in the output afterwards; all most significant byte first. A register's value, which 16
+// bits may not hold, is the one answer word.
 #ifndef STORED_H
 #define STORED_H
 
@@ -8,7 +8,7 @@
 
 #include "calls.h"
 
-enum { HEAD = 14 };
+enum { HEAD = 16 };
 
 struct stored {
     // The call to its last given word.
@@ -59,7 +59,7 @@ static inline int next_stored(struct file *file, struct stored *stored) {
     }
     *stored = (struct stored){
         .at = at,
-        .given = {numbers[0], words_at(at + words, numbers[3]), numbers[3], copy(at + table, numbers[2]), numbers[2], numbers[1]},
+        .given = {numbers[0], words_at(at + words, numbers[3]), numbers[3], numbers[7], copy(at + table, numbers[2]), numbers[2], numbers[1]},
         .number = numbers[4],
         .value = numbers[5],
         .answer = words_at(at + answer, numbers[6]),

@@ -50,8 +50,9 @@ enum {
 #define VIERSKOF_ROOM(words) (3 * (size_t)(words) + 513)
 
 /* Why a call is turned back. Of several causes a call names the first in this order: 1, 2, then 3 and 4 from fact 0 on,
-   then 5 to 8 from the first word on, then 10, then 11. 9 is not used. A register has 15 alone. A join has an order of its own: 2 in either
-   table, 3 in either, 14, then 11; for windows it is 12, 13, 3, 11. Later versions may have further numbers. */
+   then 5 to 8 from the first word on, then 10, then 16, then 11. 9 is not used. A register has 15 alone. A join has an order of
+   its own: 2 in either table, 3 in either, 14, then 11; for windows it is 12, 13, 3, 11. Later versions may have further
+   numbers. */
 enum vierskof_cause {
     VIERSKOF_ACCEPTED = 0,
     VIERSKOF_REFUSED_LENGTH = 1,            /* the sheet or record has no word, or too many */
@@ -67,42 +68,48 @@ enum vierskof_cause {
     VIERSKOF_REFUSED_DATE = 12,             /* a date doesn't exist or lies outside the years 1900 to 2199 */
     VIERSKOF_REFUSED_WINDOWS = 13,          /* the list of windows isn't as it has to be, or its table isn't 256 bytes */
     VIERSKOF_REFUSED_CLASH = 14,            /* a fact is Present in one of two joined tables and Absent in the other */
-    VIERSKOF_REFUSED_REGISTER = 15          /* the words are no register of sheets */
+    VIERSKOF_REFUSED_REGISTER = 15,         /* the words are no register of sheets */
+    VIERSKOF_REFUSED_SHEET_NUMBER = 16      /* the record is of another sheet, or the number is one that no record carries */
 };
 
 /* The number of the refusal, 0 when the call was accepted; and the call's value. */
 static inline uint32_t vierskof_refusal(uint64_t returned) { return (uint32_t)(returned >> 32); }
 static inline uint32_t vierskof_value(uint64_t returned) { return (uint32_t)returned; }
 
-/* Decides a sheet with a known table. Value: the words written. `out` overlaps neither `sheet` nor `facts`. */
-uint64_t vierskof_evaluate(const uint32_t *sheet, size_t words, const uint8_t *facts, size_t bytes,
+/* Decides a sheet with a known table. Value: the words written. `number` is the sheet's, 0 for one without, and the record
+   carries it; over 65535 it is refused by 16. `out` overlaps neither `sheet` nor `facts`. */
+uint64_t vierskof_evaluate(const uint32_t *sheet, size_t words, uint32_t number, const uint8_t *facts, size_t bytes,
                            uint32_t *VIERSKOF_RESTRICT out, size_t room);
 
-/* Reduces a sheet with a table that may leave facts open. Value: the words written. `out` overlaps neither `sheet` nor `facts`.
-   A fact past the table's end is Absent: a table of all that is not known says Unknown (2) of each fact. */
-uint64_t vierskof_partial_evaluate(const uint32_t *sheet, size_t words, const uint8_t *facts, size_t bytes,
+/* Reduces a sheet with a table that may leave facts open. Value: the words written. `number` is as above. `out` overlaps
+   neither `sheet` nor `facts`. A fact past the table's end is Absent: a table of all that is not known says Unknown (2) of each
+   fact. */
+uint64_t vierskof_partial_evaluate(const uint32_t *sheet, size_t words, uint32_t number, const uint8_t *facts, size_t bytes,
                                    uint32_t *VIERSKOF_RESTRICT out, size_t room);
 
-/* Narrows a record by a table of further facts, which may leave facts open as well. Value: the words written. `out` overlaps
-   neither `record` nor `facts`: a record is not narrowed in place. */
-uint64_t vierskof_narrow_residual(const uint32_t *record, size_t words, const uint8_t *facts, size_t bytes,
+/* Narrows a record by a table of further facts, which may leave facts open as well. Value: the words written. `number` is that
+   of the sheet that the record is expected to be of, and what is written carries it again; a record with another number is
+   refused by 16. Expected 0 takes only records without a number. `out` overlaps neither `record` nor `facts`: a record is not
+   narrowed in place. */
+uint64_t vierskof_narrow_residual(const uint32_t *record, size_t words, uint32_t number, const uint8_t *facts, size_t bytes,
                                   uint32_t *VIERSKOF_RESTRICT out, size_t room);
 
 /* The same two in sheet order: a list that stays open holds its arms where the sheet has them, an All up to and including its
    first resolved deny. Where no table contradicts the one that completes it, a record that this pair alone has made is
    completed to the clause of direct evaluation, obligations and shape too, but for fact lists and the facts consulted, and one
    that both pairs have made to its effect and products. */
-uint64_t vierskof_partial_evaluate_in_order(const uint32_t *sheet, size_t words, const uint8_t *facts, size_t bytes,
-                                            uint32_t *VIERSKOF_RESTRICT out, size_t room);
-uint64_t vierskof_narrow_residual_in_order(const uint32_t *record, size_t words, const uint8_t *facts, size_t bytes,
-                                           uint32_t *VIERSKOF_RESTRICT out, size_t room);
+uint64_t vierskof_partial_evaluate_in_order(const uint32_t *sheet, size_t words, uint32_t number, const uint8_t *facts,
+                                            size_t bytes, uint32_t *VIERSKOF_RESTRICT out, size_t room);
+uint64_t vierskof_narrow_residual_in_order(const uint32_t *record, size_t words, uint32_t number, const uint8_t *facts,
+                                           size_t bytes, uint32_t *VIERSKOF_RESTRICT out, size_t room);
 
-/* Completes a record with a known table. Value: the words written. `out` overlaps neither `record` nor `facts`. */
-uint64_t vierskof_complete_residual(const uint32_t *record, size_t words, const uint8_t *facts, size_t bytes,
+/* Completes a record with a known table. Value: the words written. `number` is the expected one, as for a narrowing. `out`
+   overlaps neither `record` nor `facts`. */
+uint64_t vierskof_complete_residual(const uint32_t *record, size_t words, uint32_t number, const uint8_t *facts, size_t bytes,
                                     uint32_t *VIERSKOF_RESTRICT out, size_t room);
 
-/* The facts that a sheet names, or a record's tree. Value: how many. Refused: an empty set. `numbers` is 16; a set of another
-   length is left as it was. `set` doesn't overlap the words. */
+/* The facts that a sheet names, or the tree of a record of any number. Value: how many. Refused: an empty set. `numbers` is 16;
+   a set of another length is left as it was. `set` doesn't overlap the words. */
 uint64_t vierskof_required_facts(const uint32_t *sheet, size_t words, uint64_t *VIERSKOF_RESTRICT set, size_t numbers);
 uint64_t vierskof_required_residual_facts(const uint32_t *record, size_t words, uint64_t *VIERSKOF_RESTRICT set, size_t numbers);
 
@@ -141,6 +148,11 @@ uint64_t vierskof_apply_windows(const uint32_t *windows, size_t words, uint32_t 
 
 /* Whether the record is decided, and doesn't wait for facts. */
 static inline bool vierskof_is_resolved(const uint32_t *record, size_t words) { return words > 0 && record[0] >> 28 == 14; }
+
+/* The number of its sheet, 0 for one without. */
+static inline uint16_t vierskof_sheet_number(const uint32_t *record, size_t words) {
+    return words > 0 ? (uint16_t)(record[0] >> 12 & 0xFFFF) : (uint16_t)0;
+}
 
 /* Where its tree begins, after the lead and the facts consulted, two a word. */
 static inline size_t vierskof_tree(const uint32_t *record, size_t words) {

@@ -50,6 +50,10 @@ pub record Put (W : List ℕ) (T : Table) (buf : List ℕ) (d : Decision) (entri
   pub put : (l : Consulted) → Sound W buf d → count ≡ length l → take count entries ≡ map entryField l →
       Answered (write (length before) (record { body = resolved (decisionOf W T buf d); log = l })) before after r
 
+-- The record that a call wrote carries the number afterwards, whatever the call.
+pub record Numbered (number : ℕ) (written after : List ℕ) (answer r : Answer) : Type 0 where
+  pub numbers : (a : model.Answer) (before : List ℕ) → Answered a before written answer → Answered (model.under number a) before after r
+
 -- The record that `made` gives of the policy at `at`, after the `count` entries that stand after the first word, once each, the first one kept, was
 -- written or refused. Of a sheet there are none, and the policy stands at 0.
 pub record Makes (made : Policy Outcome → Consulted → Record Outcome) (W : List ℕ) (count at : ℕ) (before after : List ℕ) (r : Answer) : Type 0 where

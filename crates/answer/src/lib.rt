@@ -1,11 +1,14 @@
 // What a call answers: a record of words that was written, or a numbered refusal that leaves the output as it was.
 use decision::Decision;
-ghost use Prim.Native.Nat.{_≤_};
+use policy_model::COUNTS;
+use policy_model::KIND;
+ghost use Prim.Native.Nat.{_^_, _≤_, _<_};
 ghost use lib.ListN.{length};
 ghost use Rattle.model.specs.Facts.{factCount, tableOf};
 ghost use Rattle.decision.specs.Room.{RoomToUnite, Few};
 ghost use Rattle.clause.specs.Room.{RoomToName};
-ghost use Rattle.answer.specs.Answers.{Answered, Put, copied};
+ghost use Rattle.model.specs.Writing.{sheetBits};
+ghost use Rattle.answer.specs.Answers.{Answered, Put, Numbered, copied};
 
 // How many words were written, or the number of the refusal.
 pub enum Answer {
@@ -62,4 +65,26 @@ pub fn copy_record(words: &[u32], out: &mut [u32]) -> Answer
         return Answer::Refused(11);
     }
     Answer::Written(packing::copy_words(words, 0, words.len(), out))
+}
+
+// Puts a sheet's number into the lead of the record that was written, if one was.
+pub fn under_number(answer: Answer, number: u32, out: &mut [u32]) -> Answer
+    requires { ⌜ number < 2 ^ sheetBits ⌝ }
+    ensures { λ r. ⌜ Numbered number (now (out .entry)) (now (out .exit)) answer r ⌝ }
+{
+    match answer {
+        Answer::Refused(cause) => Answer::Refused(cause),
+        Answer::Written(words) => {
+            // no call writes a record of no words
+            if words == 0 {
+                return Answer::Written(words);
+            }
+            if out.len() == 0 {
+                return Answer::Written(words);
+            }
+            let lead = out[0];
+            out[0] = lead / KIND * KIND + (number * COUNTS + lead % COUNTS);
+            Answer::Written(words)
+        }
+    }
 }

@@ -10,6 +10,8 @@ ghost use lib.ListN.{length};
 ghost use Rattle.model.specs.Facts.{tableOf, tableFault};
 ghost use Rattle.model.specs.Partial.{permitsFirst, sheetOrder};
 ghost use Rattle.model.specs.Reading.{recordWords};
+ghost use Rattle.model.specs.Calls.{hasNumber, isSheetNumber};
+ghost use Rattle.model.specs.Products.{readSheet, readRecord};
 ghost use Rattle.model.specs.Products.{evaluate as Calls·evaluate, partialEvaluate, narrowResidual, completeResidual};
 ghost use Rattle.facts.specs.Answers.{faultOf};
 ghost use Rattle.policy_model.specs.Answers.{refusal, sheetRefusal, leadOf, recordLead};
@@ -17,7 +19,7 @@ ghost use Rattle.answer.specs.Answers.{Answered, Makes};
 ghost use Rattle.completion.specs.Answers.{completedAfter};
 ghost use Rattle.partial_policy.specs.Reducing.{orderOf};
 ghost use Rattle.partial.specs.Answers.{reducedAfter};
-ghost use Rattle.calls.specs.Judged.{kindOf, judgedSheet, judgedRecord};
+ghost use Rattle.calls.specs.Judged.{kindOf, ofNumber, judgedSheet, judgedRecord};
 
 // The fault of a table. A known one leaves no fact open.
 fn table_fault(facts: &[u8], known: bool) -> TableFault
@@ -29,9 +31,37 @@ fn table_fault(facts: &[u8], known: bool) -> TableFault
     facts::partial_fault(facts)
 }
 
-// Whether a sheet and its table are turned back: by the length, the table, the words.
-fn judge_sheet(sheet: &[u32], facts: &[u8], known: bool) -> SheetCheck
-    ensures { λ r. ⌜ sheetRefusal r ≡ refusal (judgedSheet known (now (sheet .entry)) (now (facts .entry))) ⌝ }
+// Whether a sheet is turned back: by its words, or by its number, which no record could carry.
+fn check_sheet(sheet: &[u32], number: u32) -> SheetCheck
+    ensures { λ r. ⌜ sheetRefusal r ≡ refusal (ofNumber (isSheetNumber number) (readSheet (now (sheet .entry)))) ⌝ }
+{
+    let check = policy_model::check_sheet(sheet);
+    if number < policy_model::SHEET_NUMBERS {
+        return check;
+    }
+    match check {
+        SheetCheck::Refused(cause) => SheetCheck::Refused(cause),
+        SheetCheck::Accepted => SheetCheck::Refused(16),
+    }
+}
+
+// Whether a record is turned back: by its words, or by its number, which is not the one expected. What the record is, otherwise.
+fn check_record(words: &[u32], number: u32) -> RecordCheck
+    ensures { λ r. ⌜ recordLead r ≡ leadOf (ofNumber (hasNumber (now (words .entry)) number) (readRecord (now (words .entry)))) ⌝ }
+{
+    let check = policy_model::check_record(words);
+    if policy_model::sheet_number(words) == number {
+        return check;
+    }
+    match check {
+        RecordCheck::Refused(cause) => RecordCheck::Refused(cause),
+        _ => RecordCheck::Refused(16),
+    }
+}
+
+// Whether a sheet and its table are turned back: by the length, the table, the words, the number.
+fn judge_sheet(sheet: &[u32], number: u32, facts: &[u8], known: bool) -> SheetCheck
+    ensures { λ r. ⌜ sheetRefusal r ≡ refusal (judgedSheet known number (now (sheet .entry)) (now (facts .entry))) ⌝ }
 {
     if sheet.len() == 0 {
         return SheetCheck::Refused(1);
@@ -40,14 +70,14 @@ fn judge_sheet(sheet: &[u32], facts: &[u8], known: bool) -> SheetCheck
         return SheetCheck::Refused(1);
     }
     match table_fault(facts, known) {
-        TableFault::Refused(number) => SheetCheck::Refused(number),
-        TableFault::Faultless => policy_model::check_sheet(sheet),
+        TableFault::Refused(cause) => SheetCheck::Refused(cause),
+        TableFault::Faultless => check_sheet(sheet, number),
     }
 }
 
 // Whether a record and its table are turned back, and what the record is.
-fn judge_record(words: &[u32], facts: &[u8], known: bool) -> RecordCheck
-    ensures { λ r. ⌜ recordLead r ≡ leadOf (judgedRecord known (now (words .entry)) (now (facts .entry))) ⌝ }
+fn judge_record(words: &[u32], number: u32, facts: &[u8], known: bool) -> RecordCheck
+    ensures { λ r. ⌜ recordLead r ≡ leadOf (judgedRecord known number (now (words .entry)) (now (facts .entry))) ⌝ }
 {
     if words.len() == 0 {
         return RecordCheck::Refused(1);
@@ -56,8 +86,8 @@ fn judge_record(words: &[u32], facts: &[u8], known: bool) -> RecordCheck
         return RecordCheck::Refused(1);
     }
     match table_fault(facts, known) {
-        TableFault::Refused(number) => RecordCheck::Refused(number),
-        TableFault::Faultless => policy_model::check_record(words),
+        TableFault::Refused(cause) => RecordCheck::Refused(cause),
+        TableFault::Faultless => check_record(words, number),
     }
 }
 
@@ -113,90 +143,106 @@ fn narrow(
     partial::reduce_long(words, consulted, tree, in_order, facts, out)
 }
 
-// Decides a sheet with a known table.
-pub fn evaluate(sheet: &[u32], facts: &[u8], out: &mut [u32]) -> Answer
-    ensures { λ r. ⌜ Answered (Calls·evaluate (now (sheet .entry)) (now (facts .entry)) (length (now (out .entry)))) (now (out .entry)) (now (out .exit)) r ⌝ }
+// Decides a sheet with a known table. The record carries the sheet's number.
+pub fn evaluate(sheet: &[u32], number: u32, facts: &[u8], out: &mut [u32]) -> Answer
+    ensures { λ r. ⌜ Answered (Calls·evaluate number (now (sheet .entry)) (now (facts .entry)) (length (now (out .entry)))) (now (out .entry)) (now (out .exit)) r ⌝ }
 {
-    match judge_sheet(sheet, facts, true) {
-        SheetCheck::Refused(number) => Answer::Refused(number),
-        SheetCheck::Accepted => decide(sheet, facts, out),
+    match judge_sheet(sheet, number, facts, true) {
+        SheetCheck::Refused(cause) => Answer::Refused(cause),
+        SheetCheck::Accepted => answer::under_number(decide(sheet, facts, out), number, out),
     }
 }
 
 // Judges a sheet with a table that may leave facts open, and reduces it.
-fn partial_evaluate_by(sheet: &[u32], in_order: bool, facts: &[u8], out: &mut [u32]) -> Answer
-    ensures { λ r. ⌜ Answered (partialEvaluate (orderOf in_order) (now (sheet .entry)) (now (facts .entry)) (length (now (out .entry)))) (now (out .entry)) (now (out .exit)) r ⌝ }
+fn partial_evaluate_by(
+    sheet: &[u32],
+    number: u32,
+    in_order: bool,
+    facts: &[u8],
+    out: &mut [u32],
+) -> Answer
+    ensures { λ r. ⌜ Answered (partialEvaluate (orderOf in_order) number (now (sheet .entry)) (now (facts .entry)) (length (now (out .entry)))) (now (out .entry)) (now (out .exit)) r ⌝ }
 {
-    match judge_sheet(sheet, facts, false) {
-        SheetCheck::Refused(number) => Answer::Refused(number),
-        SheetCheck::Accepted => reduce(sheet, in_order, facts, out),
+    match judge_sheet(sheet, number, facts, false) {
+        SheetCheck::Refused(cause) => Answer::Refused(cause),
+        SheetCheck::Accepted => answer::under_number(
+            reduce(sheet, in_order, facts, out),
+            number,
+            out,
+        ),
     }
 }
 
 // Reduces a sheet, with permits first in a list that is left.
-pub fn partial_evaluate(sheet: &[u32], facts: &[u8], out: &mut [u32]) -> Answer
-    ensures { λ r. ⌜ Answered (partialEvaluate permitsFirst (now (sheet .entry)) (now (facts .entry)) (length (now (out .entry)))) (now (out .entry)) (now (out .exit)) r ⌝ }
+pub fn partial_evaluate(sheet: &[u32], number: u32, facts: &[u8], out: &mut [u32]) -> Answer
+    ensures { λ r. ⌜ Answered (partialEvaluate permitsFirst number (now (sheet .entry)) (now (facts .entry)) (length (now (out .entry)))) (now (out .entry)) (now (out .exit)) r ⌝ }
 {
-    partial_evaluate_by(sheet, false, facts, out)
+    partial_evaluate_by(sheet, number, false, facts, out)
 }
 
 // Reduces a sheet, and leaves arms in sheet order.
-pub fn partial_evaluate_in_order(sheet: &[u32], facts: &[u8], out: &mut [u32]) -> Answer
-    ensures { λ r. ⌜ Answered (partialEvaluate sheetOrder (now (sheet .entry)) (now (facts .entry)) (length (now (out .entry)))) (now (out .entry)) (now (out .exit)) r ⌝ }
+pub fn partial_evaluate_in_order(
+    sheet: &[u32],
+    number: u32,
+    facts: &[u8],
+    out: &mut [u32],
+) -> Answer
+    ensures { λ r. ⌜ Answered (partialEvaluate sheetOrder number (now (sheet .entry)) (now (facts .entry)) (length (now (out .entry)))) (now (out .entry)) (now (out .exit)) r ⌝ }
 {
-    partial_evaluate_by(sheet, true, facts, out)
+    partial_evaluate_by(sheet, number, true, facts, out)
 }
 
 // Judges a record with a table of further facts, and narrows it. A Resolved one comes back as it stands.
-fn narrow_residual_by(words: &[u32], in_order: bool, facts: &[u8], out: &mut [u32]) -> Answer
-    ensures { λ r. ⌜ Answered (narrowResidual (orderOf in_order) (now (words .entry)) (now (facts .entry)) (length (now (out .entry)))) (now (out .entry)) (now (out .exit)) r ⌝ }
+fn narrow_residual_by(
+    words: &[u32],
+    number: u32,
+    in_order: bool,
+    facts: &[u8],
+    out: &mut [u32],
+) -> Answer
+    ensures { λ r. ⌜ Answered (narrowResidual (orderOf in_order) number (now (words .entry)) (now (facts .entry)) (length (now (out .entry)))) (now (out .entry)) (now (out .exit)) r ⌝ }
 {
-    match judge_record(words, facts, false) {
-        RecordCheck::Refused(number) => Answer::Refused(number),
+    match judge_record(words, number, facts, false) {
+        RecordCheck::Refused(cause) => Answer::Refused(cause),
         RecordCheck::Resolved {
             consulted: _,
             tree: _,
         } => answer::copy_record(words, out),
-        RecordCheck::Pending { consulted, tree } => narrow(
-            words,
-            consulted as usize,
-            tree,
-            in_order,
-            facts,
+        RecordCheck::Pending { consulted, tree } => answer::under_number(
+            narrow(words, consulted as usize, tree, in_order, facts, out),
+            number,
             out,
         ),
     }
 }
 
 // Narrows a record, with permits first in a list that is left.
-pub fn narrow_residual(words: &[u32], facts: &[u8], out: &mut [u32]) -> Answer
-    ensures { λ r. ⌜ Answered (narrowResidual permitsFirst (now (words .entry)) (now (facts .entry)) (length (now (out .entry)))) (now (out .entry)) (now (out .exit)) r ⌝ }
+pub fn narrow_residual(words: &[u32], number: u32, facts: &[u8], out: &mut [u32]) -> Answer
+    ensures { λ r. ⌜ Answered (narrowResidual permitsFirst number (now (words .entry)) (now (facts .entry)) (length (now (out .entry)))) (now (out .entry)) (now (out .exit)) r ⌝ }
 {
-    narrow_residual_by(words, false, facts, out)
+    narrow_residual_by(words, number, false, facts, out)
 }
 
 // Narrows a record, and leaves arms in sheet order.
-pub fn narrow_residual_in_order(words: &[u32], facts: &[u8], out: &mut [u32]) -> Answer
-    ensures { λ r. ⌜ Answered (narrowResidual sheetOrder (now (words .entry)) (now (facts .entry)) (length (now (out .entry)))) (now (out .entry)) (now (out .exit)) r ⌝ }
+pub fn narrow_residual_in_order(words: &[u32], number: u32, facts: &[u8], out: &mut [u32]) -> Answer
+    ensures { λ r. ⌜ Answered (narrowResidual sheetOrder number (now (words .entry)) (now (facts .entry)) (length (now (out .entry)))) (now (out .entry)) (now (out .exit)) r ⌝ }
 {
-    narrow_residual_by(words, true, facts, out)
+    narrow_residual_by(words, number, true, facts, out)
 }
 
 // Completes a record with a known table. A Resolved one comes back as it stands.
-pub fn complete_residual(words: &[u32], facts: &[u8], out: &mut [u32]) -> Answer
-    ensures { λ r. ⌜ Answered (completeResidual (now (words .entry)) (now (facts .entry)) (length (now (out .entry)))) (now (out .entry)) (now (out .exit)) r ⌝ }
+pub fn complete_residual(words: &[u32], number: u32, facts: &[u8], out: &mut [u32]) -> Answer
+    ensures { λ r. ⌜ Answered (completeResidual number (now (words .entry)) (now (facts .entry)) (length (now (out .entry)))) (now (out .entry)) (now (out .exit)) r ⌝ }
 {
-    match judge_record(words, facts, true) {
-        RecordCheck::Refused(number) => Answer::Refused(number),
+    match judge_record(words, number, facts, true) {
+        RecordCheck::Refused(cause) => Answer::Refused(cause),
         RecordCheck::Resolved {
             consulted: _,
             tree: _,
         } => answer::copy_record(words, out),
-        RecordCheck::Pending { consulted, tree } => complete(
-            words,
-            consulted as usize,
-            tree,
-            facts,
+        RecordCheck::Pending { consulted, tree } => answer::under_number(
+            complete(words, consulted as usize, tree, facts, out),
+            number,
             out,
         ),
     }

@@ -17,8 +17,8 @@ use Rattle.model.specs.Policy.{Policy, permit, deny, grant, all, any, orElse, s
 use Rattle.model.specs.Partial.{ReducedPolicy, resolved, pending, asResidual}
 use Rattle.model.specs.Consulted.{Consulted}
 use Rattle.model.specs.Record.{Record}
-use Rattle.model.specs.Writing.{obligationBits, entryBits, word, shapeBit, marked, entryField, countC, count, encodeC, encodeCs, deniedField, encodeD, encode, encodes, leadKind, encodeR}
-use Rattle.model.specs.Reading.{Parsed, refuse, got, next, unless, another, readList, obligation, listed, consulted, many, nodeC, readCondition, whole, mark, shapeOf, outcomeOf, deniedOf, grantMore, grantAt, more12, at12, more13, at13, asStored, inResidual, nodeP, lastKind, readPolicy, readSheet, node14, parse14, parse15, rest, leads, readLead, readRecord, mostObligations}
+use Rattle.model.specs.Writing.{obligationBits, entryBits, word, shapeBit, marked, entryField, countC, count, encodeC, encodeCs, deniedField, encodeD, encode, encodes, leadKind, encodeR, numbered}
+use Rattle.model.specs.Reading.{Parsed, refuse, got, next, unless, another, readList, obligation, listed, consulted, many, nodeC, readCondition, whole, mark, shapeOf, outcomeOf, deniedOf, grantMore, grantAt, more12, at12, more13, at13, asStored, inResidual, nodeP, lastKind, readPolicy, readSheet, node14, parse14, parse15, rest, leads, readLead, readRecord, sheetNumber, mostObligations}
 use Rattle.laws.specs.FieldLaws.{Holds, fine, nothing, if-holds, weaker, then-holds, same-list}
 use Rattle.laws.specs.Form.{IfThere}
 use Rattle.laws.specs.ReadForm.{same-obligation, same-listed, same-consulted}
@@ -281,22 +281,25 @@ module _ {O : Type 0} (number : O → ℕ) (value : ℕ → Option O) (only : (v
   same-15 : (us : List ℕ) → Holds (SameB 15 us) (parse15 value us)
   same-15 us = then-holds (readPolicy value true 32 us) (λ t vs. got (pending t) vs) (same-T true 32 us) (λ t vs h. fine (h, refl))
 
-  abbrev SameR : List ℕ → Record O → List ℕ → Type 0
-  SameR us r vs = encodeR number r ++ vs ≡ us
+  -- The sheet's number stands above the count.
+  abbrev SameR : ℕ → List ℕ → Record O → List ℕ → Type 0
+  SameR n us r vs = numbered n (encodeR number r) ++ vs ≡ us
 
-  same-rest : (k : ℕ) (p : List ℕ → Parsed (ReducedPolicy O)) → ((us : List ℕ) → Holds (SameB k us) (p us)) → (r : ℕ) (us : List ℕ) → Holds (SameR (word k r ∷ us)) (rest value p r us)
+  same-rest : (k : ℕ) (p : List ℕ → Parsed (ReducedPolicy O)) → ((us : List ℕ) → Holds (SameB k us) (p us)) → (r : ℕ) (us : List ℕ) → Holds (SameR (r / 4096) (word k r ∷ us)) (rest value p r us)
   same-rest k p hp r us =
-      if-holds (ltb r 4096) 8 (next (readList consulted entryBits r us) (λ es vs. next (p vs) (λ b ts. got (record { body = b; log = es }) ts))) (λ _.
-      then-holds (readList consulted entryBits r us) (λ es vs. next (p vs) (λ b ts. got (record { body = b; log = es }) ts)) (same-entries r us) (λ es vs h.
+      then-holds (readList consulted entryBits (r % 4096) us) (λ es vs. next (p vs) (λ b ts. got (record { body = b; log = es }) ts)) (same-entries (r % 4096) us) (λ es vs h.
       then-holds (p vs) (λ b ts. got (record { body = b; log = es }) ts) (hp vs) (λ b ts g.
-      fine ((λ i. word (g .1 i) (h .1 i) ∷ ((pack entryBits (map entryField es) ++ encode number (asResidual b)) ++ ts)) ∙ ap (λ y. word k r ∷ y) (append-assoc (pack entryBits (map entryField es)) (encode number (asResidual b)) ts ∙ ap (λ y. pack entryBits (map entryField es) ++ y) (g .0) ∙ h .0)))))
+      let few : length es < 4096 = omega (arith, h .1) in
+      let k₁ : (leadKind number b * 268435456 + length es) / 268435456 ≡ leadKind number b = omega arith in
+      let c₁ : r / 4096 * 4096 + (leadKind number b * 268435456 + length es) % 4096 ≡ r = omega (arith, h .1) in
+      fine ((λ i. word ((k₁ ∙ g .1) i) (c₁ i) ∷ ((pack entryBits (map entryField es) ++ encode number (asResidual b)) ++ ts)) ∙ ap (λ y. word k r ∷ y) (append-assoc (pack entryBits (map entryField es)) (encode number (asResidual b)) ts ∙ ap (λ y. pack entryBits (map entryField es) ++ y) (g .0) ∙ h .0))))
 
-  same-leads : (k r : ℕ) (us : List ℕ) → Holds (SameR (word (14 + k) r ∷ us)) (leads value k r us)
+  same-leads : (k r : ℕ) (us : List ℕ) → Holds (SameR (r / 4096) (word (14 + k) r ∷ us)) (leads value k r us)
   same-leads zero r us = same-rest 14 (parse14 value) same-14 r us
   same-leads (suc zero) r us = same-rest 15 (parse15 value) same-15 r us
   same-leads (suc (suc k)) r us = nothing
 
-  same-lead : (us : List ℕ) → Holds (SameR us) (readLead value us)
+  same-lead : (us : List ℕ) → Holds (SameR (sheetNumber us) us) (readLead value us)
   same-lead us =
       another-is us (λ w vs. unless (leb 14 (w / 268435456)) 5 (leads value (w / 268435456 - 14) (w % 268435456) vs)) (λ w vs ew.
       let k = w / 268435456 in
@@ -304,7 +307,8 @@ module _ {O : Type 0} (number : O → ℕ) (value : ℕ → Option O) (only : (v
       if-holds (leb 14 k) 5 (leads value (k - 14) r vs) (λ e.
       let h : 14 ≤ k = leb→le 14 k (subst T (sym e) tt) in
       let j : word (14 + (k - 14)) r ≡ w = omega arith in
-      weaker (leads value (k - 14) r vs) (λ b ts s. s ∙ ap (λ x. x ∷ vs) j ∙ sym ew) (same-leads (k - 14) r vs)))
+      let m : sheetNumber us ≡ r / 4096 = ap sheetNumber ew ∙ omega arith in
+      weaker (leads value (k - 14) r vs) (λ b ts s. ap (λ n. numbered n (encodeR number b) ++ ts) m ∙ s ∙ ap (λ x. x ∷ vs) j ∙ sym ew) (same-leads (k - 14) r vs)))
 
   whole-same : {A : Type 0} (enc : A → List ℕ) (us : List ℕ) (q : Parsed A) → Holds (λ a vs. enc a ++ vs ≡ us) q → Holds (λ a vs. enc a ≡ us) (whole q)
   whole-same enc us (refuse n) h = nothing
@@ -317,7 +321,7 @@ module _ {O : Type 0} (number : O → ℕ) (value : ℕ → Option O) (only : (v
       subst (Holds (λ x _. encode number x ≡ ws)) e
       (if-holds (leb 1 (length ws) && leb (length ws) 4096) 1 (whole (readPolicy value false 32 ws)) (λ _. whole-same (encode number) ws (readPolicy value false 32 ws) (same-T false 32 ws))) .it
 
-  pub same-record : (ws : List ℕ) (r : Record O) (vs : List ℕ) → readRecord value ws ≡ got r vs → encodeR number r ≡ ws
+  pub same-record : (ws : List ℕ) (r : Record O) (vs : List ℕ) → readRecord value ws ≡ got r vs → numbered (sheetNumber ws) (encodeR number r) ≡ ws
   same-record ws r vs e =
-      subst (Holds (λ x _. encodeR number x ≡ ws)) e
-      (if-holds (leb 1 (length ws) && leb (length ws) 16384) 1 (whole (readLead value ws)) (λ _. whole-same (encodeR number) ws (readLead value ws) (same-lead ws))) .it
+      subst (Holds (λ x _. numbered (sheetNumber ws) (encodeR number x) ≡ ws)) e
+      (if-holds (leb 1 (length ws) && leb (length ws) 16384) 1 (whole (readLead value ws)) (λ _. whole-same (λ x. numbered (sheetNumber ws) (encodeR number x)) ws (readLead value ws) (same-lead ws))) .it

@@ -9,7 +9,8 @@ use native.Mathlib.Omega.{arith}
 use lib.Dec.{eqb, ltb, leb}
 use lib.ListN.{length, length-append}
 use borrow.Author.Tests.{ltb-true, ltb-false, eqb-true, eqb-false, eq-eqb}
-use Rattle.model.specs.Register.{Entry, entryOf, entriesOf, registerWords, sameSheet, isAmong, faultless, isRegister, sheetBits, qualifies, supersedes, later, inForceFrom, inForce, refusal, sheet, sheetOf, sheetInForce}
+use Rattle.model.specs.Writing.{sheetBits}
+use Rattle.model.specs.Register.{Entry, entryOf, entriesOf, registerWords, sameSheet, isAmong, faultless, isRegister, qualifies, supersedes, later, inForceFrom, inForce, refusal, sheet, sheetOf, sheetInForce}
 use Rattle.laws.specs.Lists.{eqb-sym}
 use Rattle.laws.specs.InForce.{IsIn, NoLater, Latest, NoneOf, Found, SameEntries, Told}
 

@@ -9,7 +9,7 @@ use Rattle.model.specs.Condition.{Condition, always, never, has, notC, allC, an
 use Rattle.model.specs.Decision.{Decision, permits, denies}
 use Rattle.model.specs.Policy.{Policy, permit, deny, grant, all, any, orElse, stored, Policies, pnil, pcons}
 use Rattle.model.specs.Record.{Record, tree}
-use Rattle.model.specs.Writing.{obligationBits, entryBits, entryField, encodeC, encodeCs, encodeD, encode, encodes, encodeR}
+use Rattle.model.specs.Writing.{obligationBits, entryBits, entryField, encodeC, encodeCs, encodeD, encode, encodes, encodeR, numbered}
 use Rattle.laws.specs.FieldLaws.{length-packed}
 use Rattle.laws.specs.Size.{wordsC, wordsCs, wordsD, words, wordss, wordsR}
 
@@ -50,3 +50,8 @@ module _ {O : Type 0} (number : O → ℕ) where
 
   pub length-encodeR : (r : Record O) → length (encodeR number r) ≡ wordsR r
   length-encodeR r = omega (arith, length-append (pack entryBits (map entryField (r .log))) (encode number (tree r)), length-pack entryBits (map entryField (r .log)), length-map (r .log) entryField, length-encode (tree r))
+
+-- Its number takes no words.
+pub length-numbered : (n : ℕ) (ws : List ℕ) → length (numbered n ws) ≡ length ws
+length-numbered n [] = refl
+length-numbered n (w ∷ ws) = omega arith

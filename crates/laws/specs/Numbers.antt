@@ -1,5 +1,6 @@
--- Every refusal has a number of document 01's table, "How a request is turned back": 1 to 11, but for 9, which no longer occurs. So 0 can say that a call was accepted. Assumes nothing.
-use mathlib.Core.Path.{_≡_}
+-- Every refusal has a number of document 01's table, "How a request is turned back": 1 to 11, but for 9, which no longer occurs; or 16, for a sheet's number. So 0 can say that a call was accepted. Assumes nothing.
+use mathlib.Core.Path.{_≡_, refl}
+use mathlib.Core.Logic.{_⊎_, inl, inr}
 use mathlib.Core.Bool.{Bool, true, false, cond, _&&_}
 use mathlib.Core.Option.{Option, none, some}
 use mathlib.Core.List.{List, [], _∷_}
@@ -18,7 +19,7 @@ use Rattle.model.specs.Consulted.{Consulted}
 use Rattle.model.specs.Record.{Record, evaluated, reduced, narrowed, completed}
 use Rattle.model.specs.Writing.{encodeR, countBits, markBits, obligationBits, entryBits}
 use Rattle.model.specs.Reading.{Parsed, refuse, got, next, unless, another, Fields, bad, ok, put, takeField, takeFields, readWords, readList, obligation, fewObligations, listed, entry, consulted, kindOf, restOf, plain, counted, many, nodeC, readCondition, levels, sheetLength, recordLength, whole, mark, shapeOf, outcomeOf, deniedOf, grantMore, parseGrant, grantAt, more12, parse12, at12, more13, parse13, at13, asStored, inResidual, nodeP, lastKind, readPolicy, readSheet, node14, parse14, parse15, rest, leads, readLead, readRecord, obligationCount}
-use Rattle.model.specs.Calls.{Answer, refusal, wrote, unlessLong, unlessFault, onRead, fits, write, evaluate, partialEvaluate, narrowResidual, completeResidual}
+use Rattle.model.specs.Calls.{Answer, refusal, wrote, unlessLong, unlessFault, onRead, unlessOther, hasNumber, isSheetNumber, under, fits, write, evaluate, partialEvaluate, narrowResidual, completeResidual}
 
 -- A number of the table. There is no 9: obligations may repeat.
 abbrev pub Cause : ℕ → Type 0
@@ -307,8 +308,8 @@ module _ {O : Type 0} (value : ℕ → Option O) where
   rest-numbered p h r ws =
       let recorded : Consulted → ReducedPolicy O → Record O = λ es b. record { body = b; log = es } in
       let body : Consulted → List ℕ → Parsed (Record O) = λ es vs. next (p vs) (λ b us. got (recorded es b) us) in
-      counted-numbered r (next (readList consulted entryBits r ws) body)
-      (next-numbered (readList consulted entryBits r ws) body (list-numbered consulted consulted-numbered entryBits r ws) (λ es vs. made-numbered (p vs) (recorded es) (h vs)))
+      let count = r % 2 ^ countBits in
+      next-numbered (readList consulted entryBits count ws) body (list-numbered consulted consulted-numbered entryBits count ws) (λ es vs. made-numbered (p vs) (recorded es) (h vs))
 
   leads-numbered : (k r : ℕ) (ws : List ℕ) → Numbered (leads value k r ws)
   leads-numbered zero r ws = rest-numbered (λ vs. parse14 value vs) parse14-numbered r ws
@@ -349,47 +350,52 @@ table-faulty k bs = by (leb (length bs) tableBytes)
     by true = first-faulty k (tableFields bs)
     by false = (omega arith, omega arith, λ e. omega arith)
 
--- ---- the four calls
+-- ---- the calls
 abbrev pub Told : Answer → Type 0
-Told (refusal n) = Cause n
+Told (refusal n) = Cause n ⊎ (n ≡ 16)
 Told (wrote ws) = Unit {0}
 
 long-told : (b : Bool) (a : Answer) → Told a → Told (unlessLong b a)
 long-told true a h = h
-long-told false a h = one
+long-told false a h = inl one
 
 fault-told : (o : Option ℕ) (a : Answer) → Faulty o → Told a → Told (unlessFault o a)
 fault-told none a h g = g
-fault-told (some n) a h g = h
+fault-told (some n) a h g = inl h
 
 read-told : {A : Type 0} (p : Parsed A) (k : A → Answer) → Numbered p → ((a : A) → Told (k a)) → Told (onRead p k)
-read-told (refuse n) k h g = h
+read-told (refuse n) k h g = inl h
 read-told (got a ws) k h g = g a
 
-module _ (L : Outcomes) where
-  write-told : (room : ℕ) (r : Record (L .O)) → Told (write L room r)
-  write-told room r = by (fits L room r)
+under-told : (number : ℕ) (a : Answer) → Told a → Told (under number a)
+under-told number (refusal n) h = h
+under-told number (wrote ws) h = tt
+
+module _ (L : Outcomes) (number : ℕ) where
+  write-told : (b : Bool) (room : ℕ) (r : Record (L .O)) → Told (unlessOther b (under number (write L room r)))
+  write-told false room r = inr refl
+  write-told true room r = under-told number (write L room r) (by (fits L room r))
     where
       by : (b : Bool) → Told (cond b (wrote (encodeR (L .number) r)) (refusal 11))
       by true = tt
-      by false = (omega arith, omega arith, λ e. omega arith)
+      by false = inl (omega arith, omega arith, λ e. omega arith)
 
-  pub evaluate-told : (sheet facts : List ℕ) (room : ℕ) → Told (evaluate L sheet facts room)
+  pub evaluate-told : (sheet facts : List ℕ) (room : ℕ) → Told (evaluate L number sheet facts room)
   evaluate-told sheet facts room =
       long-told (sheetLength sheet) _ (fault-told (tableFault knownFacts facts) _ (table-faulty knownFacts facts)
-      (read-told (readSheet (L .value) sheet) _ (sheet-numbered (L .value) sheet) (λ t. write-told room (evaluated L (tableOf facts) t))))
+      (read-told (readSheet (L .value) sheet) _ (sheet-numbered (L .value) sheet) (λ t. write-told (isSheetNumber number) room (evaluated L (tableOf facts) t))))
 
-  pub partial-evaluate-told : (o : Order) (sheet facts : List ℕ) (room : ℕ) → Told (partialEvaluate L o sheet facts room)
+  pub partial-evaluate-told : (o : Order) (sheet facts : List ℕ) (room : ℕ) → Told (partialEvaluate L o number sheet facts room)
   partial-evaluate-told o sheet facts room =
       long-told (sheetLength sheet) _ (fault-told (tableFault partialFacts facts) _ (table-faulty partialFacts facts)
-      (read-told (readSheet (L .value) sheet) _ (sheet-numbered (L .value) sheet) (λ t. write-told room (reduced L o (tableOf facts) t))))
+      (read-told (readSheet (L .value) sheet) _ (sheet-numbered (L .value) sheet) (λ t. write-told (isSheetNumber number) room (reduced L o (tableOf facts) t))))
 
-  pub narrow-residual-told : (o : Order) (rec facts : List ℕ) (room : ℕ) → Told (narrowResidual L o rec facts room)
+  pub narrow-residual-told : (o : Order) (rec facts : List ℕ) (room : ℕ) → Told (narrowResidual L o number rec facts room)
   narrow-residual-told o rec facts room =
       long-told (recordLength rec) _ (fault-told (tableFault partialFacts facts) _ (table-faulty partialFacts facts)
-      (read-told (readRecord (L .value) rec) _ (record-numbered (L .value) rec) (λ r. write-told room (narrowed L o (tableOf facts) r))))
+      (read-told (readRecord (L .value) rec) _ (record-numbered (L .value) rec) (λ r. write-told (hasNumber rec number) room (narrowed L o (tableOf facts) r))))
 
-  pub complete-residual-told : (rec facts : List ℕ) (room : ℕ) → Told (completeResidual L rec facts room)
+  pub complete-residual-told : (rec facts : List ℕ) (room : ℕ) → Told (completeResidual L number rec facts room)
   complete-residual-told rec facts room =
       long-told (recordLength rec) _ (fault-told (tableFault knownFacts facts) _ (table-faulty knownFacts facts)
-      (read-told (readRecord (L .value) rec) _ (record-numbered (L .value) rec) (λ r. write-told room (completed L (tableOf facts) r))))
+      (read-told (readRecord (L .value) rec) _ (record-numbered (L .value) rec) (λ r. write-told (hasNumber rec number) room (completed L (tableOf facts) r))))

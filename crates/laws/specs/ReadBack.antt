@@ -13,11 +13,11 @@ use Rattle.model.specs.Facts.{Presence, absent, present, unknown}
 use Rattle.model.specs.Condition.{Condition, always, never, has, notC, allC, anyC, Conditions, cnil, ccons}
 use Rattle.model.specs.Decision.{Shape, forbidden, hidden, Permit, Denial, Decision, permits, denies}
 use Rattle.model.specs.Policy.{Grant, Policy, permit, deny, grant, all, any, orElse, stored, Policies, pnil, pcons}
-use Rattle.model.specs.Partial.{ReducedPolicy, resolved, pending}
+use Rattle.model.specs.Partial.{ReducedPolicy, resolved, pending, asResidual}
 use Rattle.model.specs.Consulted.{Entry, Consulted}
 use Rattle.model.specs.Record.{Record, tree}
-use Rattle.model.specs.Writing.{obligationBits, entryBits, word, shapeBit, marked, presenceField, entryField, countC, count, encodeC, encodeCs, deniedField, encodeD, encode, encodes, encodeR}
-use Rattle.model.specs.Reading.{Parsed, got, next, unless, readList, obligation, listed, entry, consulted, many, nodeC, readCondition, whole, mark, shapeOf, outcomeOf, deniedOf, grantMore, parseGrant, grantAt, more12, parse12, at12, more13, parse13, at13, asStored, node, readPolicy, readSheet, node14, parse14, parse15, rest, leads, readLead, readRecord, obligationCount, mostObligations}
+use Rattle.model.specs.Writing.{obligationBits, entryBits, word, shapeBit, marked, presenceField, entryField, countC, count, encodeC, encodeCs, deniedField, encodeD, encode, encodes, leadKind, encodeR, numbered}
+use Rattle.model.specs.Reading.{Parsed, got, next, unless, readList, obligation, listed, entry, consulted, many, nodeC, readCondition, whole, mark, shapeOf, outcomeOf, deniedOf, grantMore, parseGrant, grantAt, more12, parse12, at12, more13, parse13, at13, asStored, node, readPolicy, readSheet, node14, parse14, parse15, rest, leads, readLead, readRecord, sheetNumber, obligationCount, mostObligations}
 use Rattle.laws.specs.Lists.{Below}
 use Rattle.laws.specs.FieldAt.{Narrow}
 use Rattle.laws.specs.FieldLaws.{Passes, back-list}
@@ -389,28 +389,43 @@ module _ {O : Type 0} (G : O → Type 0) (number : O → ℕ) (value : ℕ → O
       ∙ ap (λ x. next x (λ d us. got (resolved d) us)) (back-13 q ws f)
 
   back-rest : (p : List ℕ → Parsed (ReducedPolicy O)) (b : ReducedPolicy O) (es : Consulted) (vs ws : List ℕ) → length es < 4096 → Named es → p (vs ++ ws) ≡ got b ws
-      → rest value p (length es) ((pack entryBits (map entryField es) ++ vs) ++ ws) ≡ got (record { body = b; log = es }) ws
-  back-rest p b es vs ws n f h =
-      ap (λ us. rest value p (length es) us) (append-assoc (pack entryBits (map entryField es)) vs ws)
-      ∙ unless-is 8 (next (readList consulted entryBits (length es) (pack entryBits (map entryField es) ++ (vs ++ ws))) (λ xs us. next (p us) (λ y ts. got (record { body = y; log = xs }) ts))) (lt-ltb (length es) 4096 n)
+      → (sheet : ℕ) → rest value p (sheet * 4096 + length es) ((pack entryBits (map entryField es) ++ vs) ++ ws) ≡ got (record { body = b; log = es }) ws
+  back-rest p b es vs ws n f h sheet =
+      let m : (sheet * 4096 + length es) % 4096 ≡ length es = omega arith in
+      ap (λ us. rest value p (sheet * 4096 + length es) us) (append-assoc (pack entryBits (map entryField es)) vs ws)
+      ∙ ap (λ x. next (readList consulted entryBits x (pack entryBits (map entryField es) ++ (vs ++ ws))) (λ xs us. next (p us) (λ y ts. got (record { body = y; log = xs }) ts))) m
       ∙ ap (λ q. next q (λ xs us. next (p us) (λ y ts. got (record { body = y; log = xs }) ts))) (back-entries es (vs ++ ws) f)
       ∙ ap (λ q. next q (λ y ts. got (record { body = y; log = es }) ts)) h
 
   lead-word : (k : ℕ) (n : ℕ) (vs : List ℕ) → n < 268435456 → readLead value (word k n ∷ vs) ≡ unless (leb 14 k) 5 (leads value (k - 14) n vs)
   lead-word k n vs h = λ i. unless (leb 14 (word-kind k n h i)) 5 (leads value (word-kind k n h i - 14) (word-rest k n h i) vs)
 
-  back-lead : (b : ReducedPolicy O) (es : Consulted) (ws : List ℕ) → length es < 4096 → Named es → FormOf G Few Countable (tree (record { body = b; log = es })) → depth (tree (record { body = b; log = es })) ≤ 32
-      → readLead value (encodeR number (record { body = b; log = es }) ++ ws) ≡ got (record { body = b; log = es }) ws
-  back-lead (resolved e) es ws n f g h =
-      lead-word 14 (length es) ((pack entryBits (map entryField es) ++ encodeD number e) ++ ws) (omega arith)
-      ∙ back-rest (parse14 value) (resolved e) es (encodeD number e) ws n f (back-14 e ws g)
-  back-lead (pending t) es ws n f g h =
-      lead-word 15 (length es) ((pack entryBits (map entryField es) ++ encode number t) ++ ws) (omega arith)
-      ∙ back-rest (parse15 value) (pending t) es (encode number t) ws n f (ap (λ q. next q (λ x us. got (pending x) us)) (back-T t true 32 ws h g tt))
+  -- The words of a record under a sheet's number.
+  numbered-is : (sheet : ℕ) (b : ReducedPolicy O) (es : Consulted) → length es < 4096
+      → numbered sheet (encodeR number (record { body = b; log = es })) ≡ word (leadKind number b) (sheet * 4096 + length es) ∷ (pack entryBits (map entryField es) ++ encode number (asResidual b))
+  numbered-is sheet b es n =
+      let k = leadKind number b in
+      let kind : (k * 268435456 + length es) / 268435456 ≡ k = omega arith in
+      let many : (k * 268435456 + length es) % 4096 ≡ length es = omega arith in
+      λ i. word (kind i) (sheet * 4096 + many i) ∷ (pack entryBits (map entryField es) ++ encode number (asResidual b))
 
-  -- A record of good form is read back from its words.
-  pub back-R : (r : Record O) → length (r .log) < 4096 → Named (r .log) → FormOf G Few Countable (tree r) → depth (tree r) ≤ 32 → length (encodeR number r) ≤ 16384 → readRecord value (encodeR number r) ≡ got r []
-  back-R r n f g h k =
-      unless-is 1 (whole (readLead value (encodeR number r))) (both-is (leb 1 (length (encodeR number r))) (leb (length (encodeR number r)) 16384) (le-leb 1 (length (encodeR number r)) (omega arith)) (le-leb (length (encodeR number r)) 16384 k))
-      ∙ ap (λ us. whole (readLead value us)) (sym (append-nil (encodeR number r)))
-      ∙ ap (whole) (back-lead (r .body) (r .log) [] n f g h)
+  back-lead : (sheet : ℕ) → sheet < 65536 → (b : ReducedPolicy O) (es : Consulted) (ws : List ℕ) → length es < 4096 → Named es → FormOf G Few Countable (asResidual b) → depth (asResidual b) ≤ 32
+      → readLead value (word (leadKind number b) (sheet * 4096 + length es) ∷ ((pack entryBits (map entryField es) ++ encode number (asResidual b)) ++ ws)) ≡ got (record { body = b; log = es }) ws
+  back-lead sheet s (resolved e) es ws n f g h =
+      lead-word 14 (sheet * 4096 + length es) ((pack entryBits (map entryField es) ++ encodeD number e) ++ ws) (omega arith)
+      ∙ back-rest (parse14 value) (resolved e) es (encodeD number e) ws n f (back-14 e ws g) sheet
+  back-lead sheet s (pending t) es ws n f g h =
+      lead-word 15 (sheet * 4096 + length es) ((pack entryBits (map entryField es) ++ encode number t) ++ ws) (omega arith)
+      ∙ back-rest (parse15 value) (pending t) es (encode number t) ws n f (ap (λ q. next q (λ x us. got (pending x) us)) (back-T t true 32 ws h g tt)) sheet
+
+  -- A record of good form is read back from its words under a sheet's number, and the number is that one.
+  pub back-R : (sheet : ℕ) → sheet < 65536 → (r : Record O) → length (r .log) < 4096 → Named (r .log) → FormOf G Few Countable (tree r) → depth (tree r) ≤ 32 → length (encodeR number r) ≤ 16384
+      → readRecord value (numbered sheet (encodeR number r)) ≡ got r []
+  back-R sheet s r n f g h k =
+      let ws = numbered sheet (encodeR number r) in
+      unless-is 1 (whole (readLead value ws)) (both-is (leb 1 (length ws)) (leb (length ws) 16384) (le-leb 1 (length ws) (omega arith)) (le-leb (length ws) 16384 (omega arith)))
+      ∙ ap (λ us. whole (readLead value us)) (numbered-is sheet (r .body) (r .log) n ∙ sym (append-nil (word (leadKind number (r .body)) (sheet * 4096 + length (r .log)) ∷ (pack entryBits (map entryField (r .log)) ++ encode number (tree r)))))
+      ∙ ap whole (back-lead sheet s (r .body) (r .log) [] n f g h)
+
+  pub back-number : (sheet : ℕ) → sheet < 65536 → (r : Record O) → sheetNumber (numbered sheet (encodeR number r)) ≡ sheet
+  back-number sheet s r = omega arith

@@ -364,11 +364,9 @@ module _ {O : Type 0} (G : O → Type 0) (value : ℕ → Option O) (sound : (n 
 
   ok-rest : (p : List ℕ → Parsed (ReducedPolicy O)) → ((ws : List ℕ) → Holds (OkB (length ws)) (p ws)) → (r : ℕ) (ws : List ℕ) → Holds (λ x vs. (vs ≡ [] → OkRecord (suc (length ws)) x)) (rest value p r ws)
   ok-rest p hp r ws =
-      if-holds (ltb r 4096) 8 (next (readList consulted entryBits r ws) (λ es vs. next (p vs) (λ b us. got (record { body = b; log = es }) us))) (λ fits.
-      then-holds (readList consulted entryBits r ws) (λ es vs. next (p vs) (λ b us. got (record { body = b; log = es }) us)) (ok-entries r ws) (λ es vs he.
+      then-holds (readList consulted entryBits (r % 4096) ws) (λ es vs. next (p vs) (λ b us. got (record { body = b; log = es }) us)) (ok-entries (r % 4096) ws) (λ es vs he.
       then-holds (p vs) (λ b us. got (record { body = b; log = es }) us) (hp vs) (λ b us hb.
-      let n : length es ≡ r = he .1 in
-      let h : r < 4096 = ltb-true r 4096 fits in
+      let n : length es ≡ r % 4096 = he .1 in
       let u = he .2 in
       let v = hb .2 in
       fine (λ none. record {
@@ -377,7 +375,7 @@ module _ {O : Type 0} (G : O → Type 0) (value : ℕ → Option O) (sound : (n 
         entries = he .0;
         few = omega arith;
         long = ap (λ x. 1 + wordsFor (perWord entryBits) x + words (asResidual b)) n ∙ omega (arith, ap length none);
-      }))))
+      })))
 
   ok-leads : (k r : ℕ) (ws : List ℕ) → Holds (λ x vs. (vs ≡ [] → OkRecord (suc (length ws)) x)) (leads value k r ws)
   ok-leads zero r ws = ok-rest (parse14 value) ok-14 r ws

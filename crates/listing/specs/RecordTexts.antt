@@ -16,8 +16,8 @@ use Rattle.model.specs.Decision.{Shape, forbidden, hidden, Permit, Denial, Deci
 use Rattle.model.specs.Partial.{ReducedPolicy, resolved, pending}
 use Rattle.model.specs.Consulted.{Entry, Consulted}
 use Rattle.model.specs.Record.{Record}
-use Rattle.model.specs.Writing.{word, marked, shapeBit, presenceField, entryField, obligationBits, entryBits, mostListed, mostHeld}
-use Rattle.model.specs.Reading.{Parsed, refuse, got, shapeOf, obligationCount}
+use Rattle.model.specs.Writing.{word, marked, shapeBit, presenceField, entryField, obligationBits, entryBits, numbered, mostListed, mostHeld}
+use Rattle.model.specs.Reading.{Parsed, refuse, got, shapeOf, sheetNumber, obligationCount}
 use Rattle.model.specs.Listing.{text, newline, digits, decimal, listOf, line, shapeName, presenceText, entryText, listing}
 use Rattle.model.specs.Products.{Outcome, deniedField, encodeD, encodeR, readRecord}
 use Rattle.laws.specs.Lists.{Below}
@@ -171,14 +171,14 @@ listing-lines (permits p) l =
     ap (λ x. text "effect permit\nproducts " ++ (digits 16 4 (p .outcome) ++ (text "\nshape -\nobligations " ++ x))) lists
 listing-lines (denies d) l = deny-lines (d .shape) (listOf (map decimal (d .facts))) (listOf (map entryText l))
 
--- The words of a Resolved record.
-resolved-text : (d : Decision Outcome) (l : Consulted) → FormD InRange Countable d → Named l → length l ≤ mostListed
-    → recordText (encodeR (record { body = resolved d; log = l })) ≡ listing d l
+-- The words of a Resolved record, whatever its number.
+resolved-text : (n : ℕ) (d : Decision Outcome) (l : Consulted) → FormD InRange Countable d → Named l → length l ≤ mostListed
+    → recordText (numbered n (encodeR (record { body = resolved d; log = l }))) ≡ listing d l
 unfolding recordText
-resolved-text d l f named few =
-    let ws = encodeR (record { body = resolved d; log = l }) in
+resolved-text n d l f named few =
+    let ws = numbered n (encodeR (record { body = resolved d; log = l })) in
     let entries = pack entryBits (map entryField l) in
-    let en : word 14 (length l) % 4096 ≡ length l = omega arith in
+    let en : word (word 14 (length l) / 268435456) (n * 4096 + word 14 (length l) % 4096) % 4096 ≡ length l = omega arith in
     let there : drop (1 + wordsFor 2 (length l)) ws ≡ encodeD d =
     ap (λ n. drop n ws) (let z : 1 + wordsFor 2 (length l) ≡ suc (wordsFor 2 (length l)) = omega arith in z)
     ∙ drop-at entries (encodeD d) (wordsFor 2 (length l)) (length-pack entryBits (map entryField l) ∙ ap (wordsFor 2) (length-map l entryField)) in
@@ -192,7 +192,7 @@ body-text ws (resolved d) l vs e =
     let r : Record Outcome = record { body = resolved d; log = l } in
     let ok : OkRecord InRange (productSets .value) (writtenProducts .sound) (length ws) r = subst (Holds (λ x _. OkRecord InRange (productSets .value) (writtenProducts .sound) (length ws) x)) e (ok-record InRange (productSets .value) (writtenProducts .sound) ws) .it in
     ap recordText (sym (same-record (productSets .number) (productSets .value) (writtenProducts .only) ws r vs e))
-    ∙ resolved-text d l (ok .form) (ok .entries) (ok .few)
+    ∙ resolved-text (sheetNumber ws) d l (ok .form) (ok .entries) (ok .few)
 
 parsed-text : (ws : List ℕ) (q : Parsed (Record Outcome)) → readRecord ws ≡ q → ListedAs (λ bytes. recordText ws ≡ bytes) q
 parsed-text ws (refuse n) e = tt

@@ -1,17 +1,17 @@
--- The calls over words, bytes and an output. Document 01, "How a request is turned back".
--- Order of the causes: 1, 2, the table's fields (3 or 4), the words from the first (5 to 8), 10, then 11.
+-- The calls over words, bytes and an output. Document 01, "How a request is turned back", and request 6.
+-- Order of the causes: 1, 2, the table's fields (3 or 4), the words from the first (5 to 8), 10, the sheet's number (16), then 11.
 use mathlib.Core.Bool.{Bool, true, false, cond, _&&_}
 use mathlib.Core.Option.{Option, none, some}
 use mathlib.Core.List.{List, [], _∷_, _++_}
 use Prim.Native.Nat.{ℕ, _+_, _*_, _^_}
-use lib.Dec.{leb}
+use lib.Dec.{eqb, ltb, leb}
 use lib.ListN.{length, drop}
 use Rattle.model.specs.Facts.{tableOf, partialFacts, knownFacts, tableFault}
 use Rattle.model.specs.Outcome.{Outcomes}
 use Rattle.model.specs.Partial.{Order}
 use Rattle.model.specs.Record.{Record, tree, evaluated, reduced, narrowed, completed}
-use Rattle.model.specs.Writing.{encodeR, short}
-use Rattle.model.specs.Reading.{Parsed, refuse, got, sheetLength, recordLength, readSheet, readRecord}
+use Rattle.model.specs.Writing.{sheetBits, encodeR, numbered, short}
+use Rattle.model.specs.Reading.{Parsed, refuse, got, sheetLength, recordLength, sheetNumber, readSheet, readRecord}
 
 -- A refusal's number, or the words written.
 pub data Answer : Type 0 where
@@ -45,6 +45,22 @@ abbrev pub onRead : {A : Type 0} → Parsed A → (A → Answer) → Answer
 onRead (refuse n) k = refusal n
 onRead (got a ws) k = k a
 
+-- 16 when the number that is given is not the record's: of a record that was read, or of the one to be written, whose lead must be able to say it.
+abbrev pub unlessOther : Bool → Answer → Answer
+unlessOther true a = a
+unlessOther false a = refusal 16
+
+abbrev pub hasNumber : List ℕ → ℕ → Bool
+hasNumber rec number = eqb (sheetNumber rec) number
+
+abbrev pub isSheetNumber : ℕ → Bool
+isSheetNumber number = ltb number (2 ^ sheetBits)
+
+-- What is written carries the number.
+abbrev pub under : ℕ → Answer → Answer
+under number (refusal n) = refusal n
+under number (wrote ws) = wrote (numbered number ws)
+
 module _ (L : Outcomes) where
   -- 11 when the resulting record is longer than the output or 16,384 words, or a list in it is over what its count can say: 4,095 facts, 127 obligations.
   abbrev pub fits : ℕ → Record (L .O) → Bool
@@ -53,24 +69,24 @@ module _ (L : Outcomes) where
   abbrev pub write : ℕ → Record (L .O) → Answer
   write room r = cond (fits room r) (wrote (encodeR (L .number) r)) (refusal 11)
 
-  -- ---- the calls: words, table bytes, and the room of the output in words. Reduction and narrowing by permits first are the calls of document 01,
-  -- in sheet order those of request 8.
-  abbrev pub evaluate : List ℕ → List ℕ → ℕ → Answer
-  evaluate sheet facts room =
+  -- ---- the calls: the sheet's number, words, table bytes, and the room of the output in words. Reduction and narrowing by permits first are the calls of
+  -- document 01, in sheet order those of request 8.
+  abbrev pub evaluate : ℕ → List ℕ → List ℕ → ℕ → Answer
+  evaluate number sheet facts room =
       unlessLong (sheetLength sheet) (unlessFault (tableFault knownFacts facts)
-      (onRead (readSheet (L .value) sheet) (λ t. write room (evaluated L (tableOf facts) t))))
+      (onRead (readSheet (L .value) sheet) (λ t. unlessOther (isSheetNumber number) (under number (write room (evaluated L (tableOf facts) t))))))
 
-  abbrev pub partialEvaluate : Order → List ℕ → List ℕ → ℕ → Answer
-  partialEvaluate o sheet facts room =
+  abbrev pub partialEvaluate : Order → ℕ → List ℕ → List ℕ → ℕ → Answer
+  partialEvaluate o number sheet facts room =
       unlessLong (sheetLength sheet) (unlessFault (tableFault partialFacts facts)
-      (onRead (readSheet (L .value) sheet) (λ t. write room (reduced L o (tableOf facts) t))))
+      (onRead (readSheet (L .value) sheet) (λ t. unlessOther (isSheetNumber number) (under number (write room (reduced L o (tableOf facts) t))))))
 
-  abbrev pub narrowResidual : Order → List ℕ → List ℕ → ℕ → Answer
-  narrowResidual o rec facts room =
+  abbrev pub narrowResidual : Order → ℕ → List ℕ → List ℕ → ℕ → Answer
+  narrowResidual o number rec facts room =
       unlessLong (recordLength rec) (unlessFault (tableFault partialFacts facts)
-      (onRead (readRecord (L .value) rec) (λ r. write room (narrowed L o (tableOf facts) r))))
+      (onRead (readRecord (L .value) rec) (λ r. unlessOther (hasNumber rec number) (under number (write room (narrowed L o (tableOf facts) r))))))
 
-  abbrev pub completeResidual : List ℕ → List ℕ → ℕ → Answer
-  completeResidual rec facts room =
+  abbrev pub completeResidual : ℕ → List ℕ → List ℕ → ℕ → Answer
+  completeResidual number rec facts room =
       unlessLong (recordLength rec) (unlessFault (tableFault knownFacts facts)
-      (onRead (readRecord (L .value) rec) (λ r. write room (completed L (tableOf facts) r))))
+      (onRead (readRecord (L .value) rec) (λ r. unlessOther (hasNumber rec number) (under number (write room (completed L (tableOf facts) r))))))

@@ -16,6 +16,7 @@ pub mod Products
 pub mod Listing
 pub mod Worked
 pub mod WorkedInOrder
+pub mod WorkedNumbers
 pub mod Register
 pub mod WorkedRegister
 pub mod Join

@@ -201,16 +201,16 @@ fits = calls.fits productSets
 abbrev pub write : ℕ → Record Outcome → Answer
 write = calls.write productSets
 
-abbrev pub evaluate : List ℕ → List ℕ → ℕ → Answer
+abbrev pub evaluate : ℕ → List ℕ → List ℕ → ℕ → Answer
 evaluate = calls.evaluate productSets
 
-abbrev pub partialEvaluate : Order → List ℕ → List ℕ → ℕ → Answer
+abbrev pub partialEvaluate : Order → ℕ → List ℕ → List ℕ → ℕ → Answer
 partialEvaluate = calls.partialEvaluate productSets
 
-abbrev pub narrowResidual : Order → List ℕ → List ℕ → ℕ → Answer
+abbrev pub narrowResidual : Order → ℕ → List ℕ → List ℕ → ℕ → Answer
 narrowResidual = calls.narrowResidual productSets
 
-abbrev pub completeResidual : List ℕ → List ℕ → ℕ → Answer
+abbrev pub completeResidual : ℕ → List ℕ → List ℕ → ℕ → Answer
 completeResidual = calls.completeResidual productSets
 
 abbrev pub requiredFacts : List ℕ → Required

@@ -1,6 +1,6 @@
 -- Reading words: a tree, a record, or the number of the first cause of refusal. Document 01, "How a request is turned back":
 -- 1 a length, 5 kind not allowed here, 6 words end early, 7 the 33rd level, 8 a field, 10 words after the tree.
--- At a node, or a record's lead: word present (6), kind (5), level (7), its fields (8);
+-- At a node: word present (6), kind (5), level (7), its fields (8); at a record's lead: word present (6), kind (5);
 -- each further word present (6), then at each field from the left 8.
 use mathlib.Core.Bool.{Bool, true, false, cond, _&&_}
 use mathlib.Core.Option.{Option, none, some}
@@ -17,7 +17,7 @@ use Rattle.model.specs.Policy.{Policy, permit, deny, grant, all, any, or
 use Rattle.model.specs.Partial.{ReducedPolicy, resolved, pending}
 use Rattle.model.specs.Consulted.{Entry, Consulted}
 use Rattle.model.specs.Record.{Record}
-use Rattle.model.specs.Writing.{restBits, countBits, markBits, obligationBits, entryBits}
+use Rattle.model.specs.Writing.{restBits, countBits, sheetBits, markBits, obligationBits, entryBits}
 
 -- What reading gives: a refusal's number, or a value and the words after it.
 pub data Parsed (A : Type 0) : Type 0 where
@@ -163,6 +163,10 @@ sheetLength ws = leb 1 (length ws) && leb (length ws) sheetWords
 abbrev pub recordLength : List ℕ → Bool
 recordLength ws = leb 1 (length ws) && leb (length ws) recordWords
 
+-- The number of a record's sheet, in its lead; 0 for a sheet without one. Request 6.
+abbrev pub sheetNumber : List ℕ → ℕ
+sheetNumber ws = bits countBits sheetBits (getD ws 0 0)
+
 -- Words after the tree (10).
 abbrev pub whole : {A : Type 0} → Parsed A → Parsed A
 whole (refuse n) = refuse n
@@ -292,7 +296,7 @@ module _ {O : Type 0} (value : ℕ → Option O) where
   abbrev pub readSheet : List ℕ → Parsed (Policy O)
   readSheet ws = unless (sheetLength ws) 1 (whole (readPolicy false levels ws))
 
-  -- ---- records: the lead (kind, zero (16), consulted count (12)), the consulted entries, the tree
+  -- ---- records: the lead (kind, the sheet's number (16), whatever it is, consulted count (12)), the consulted entries, the tree
 
   -- Under 14 one node 12 or 13, under 15 a residual tree.
   abbrev pub asResolved : Parsed (Decision O) → Parsed (ReducedPolicy O)
@@ -308,7 +312,7 @@ module _ {O : Type 0} (value : ℕ → Option O) where
   parse15 ws = next (readPolicy true levels ws) (λ t vs. got (pending t) vs)
 
   abbrev pub rest : (List ℕ → Parsed (ReducedPolicy O)) → ℕ → List ℕ → Parsed (Record O)
-  rest p r ws = counted r (next (readList consulted entryBits r ws) (λ es vs. next (p vs) (λ b us. got (record { body = b; log = es }) us)))
+  rest p r ws = next (readList consulted entryBits (r % 2 ^ countBits) ws) (λ es vs. next (p vs) (λ b us. got (record { body = b; log = es }) us))
 
   abbrev pub leads : ℕ → ℕ → List ℕ → Parsed (Record O)
   leads k r ws = byKind (rest parse14 r ws ∷ rest parse15 r ws ∷ []) k

@@ -6,13 +6,11 @@ use Prim.Native.Nat.{ℕ, _+_, _/_, _%_, _^_}
 use lib.Dec.{eqb, ltb, leb}
 use lib.ListN.{length}
 use Rattle.model.specs.Fields.{bits}
+use Rattle.model.specs.Writing.{sheetBits}
 
 -- ---- an entry: group (8), withdrawn (1), zero (7), sheet number (16); then effective day (32), days since 1900-01-01
 abbrev pub zeroBits : ℕ
 zeroBits = 7
-
-abbrev pub sheetBits : ℕ
-sheetBits = 16
 
 pub record Entry : Type 0 where
   pub group : ℕ

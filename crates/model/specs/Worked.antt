@@ -15,21 +15,25 @@ pub data Called : Type 0 where
   evaluates completes : Called
   reduces narrows reducesInOrder narrowsInOrder : Called
 
--- A call, the room of its output, its table and its words, and what it must answer.
+-- The sheet's number, a call, the room of its output, its table and its words, and what it must answer.
 pub data Expected : Type 0 where
   refuses : ℕ → Expected
   writes : List ℕ → Expected
 
 pub data Row : Type 0 where
-  row : Called → ℕ → List ℕ → List ℕ → Expected → Row
+  rowUnder : ℕ → Called → ℕ → List ℕ → List ℕ → Expected → Row
 
-abbrev pub call : Called → List ℕ → List ℕ → ℕ → Answer
-call evaluates given table room = evaluate productSets given table room
-call reduces given table room = partialEvaluate productSets permitsFirst given table room
-call narrows given table room = narrowResidual productSets permitsFirst given table room
-call reducesInOrder given table room = partialEvaluate productSets sheetOrder given table room
-call narrowsInOrder given table room = narrowResidual productSets sheetOrder given table room
-call completes given table room = completeResidual productSets given table room
+-- Without a number.
+abbrev pub row : Called → ℕ → List ℕ → List ℕ → Expected → Row
+row = rowUnder 0
+
+abbrev pub call : Called → ℕ → List ℕ → List ℕ → ℕ → Answer
+call evaluates = evaluate productSets
+call reduces = partialEvaluate productSets permitsFirst
+call narrows = narrowResidual productSets permitsFirst
+call reducesInOrder = partialEvaluate productSets sheetOrder
+call narrowsInOrder = narrowResidual productSets sheetOrder
+call completes = completeResidual productSets
 
 abbrev pub sameList : List ℕ → List ℕ → Bool
 sameList [] [] = true
@@ -44,7 +48,7 @@ isExpected (wrote ws) (refuses m) = false
 isExpected (wrote ws) (writes vs) = sameList ws vs
 
 abbrev pub holds : Row → Bool
-holds (row c room table given e) = isExpected (call c given table room) e
+holds (rowUnder n c room table given e) = isExpected (call c n given table room) e
 
 abbrev pub allHold : List Row → Bool
 allHold [] = true
@@ -207,10 +211,10 @@ pub levels-hold : allHold levelRows ≡ true
 levels-hold = refl
 
 -- ---- the output afterwards
-pub output-written : afterwards (evaluate productSets (0x60000001 ∷ []) [] 5) (1 ∷ 2 ∷ 3 ∷ 4 ∷ 5 ∷ []) ≡ 0xE0000000 ∷ 0xC0000001 ∷ 0 ∷ 4 ∷ 5 ∷ []
+pub output-written : afterwards (evaluate productSets 0 (0x60000001 ∷ []) [] 5) (1 ∷ 2 ∷ 3 ∷ 4 ∷ 5 ∷ []) ≡ 0xE0000000 ∷ 0xC0000001 ∷ 0 ∷ 4 ∷ 5 ∷ []
 output-written = refl
 
-pub output-kept : afterwards (evaluate productSets (0x60000001 ∷ []) [] 2) (1 ∷ 2 ∷ []) ≡ 1 ∷ 2 ∷ []
+pub output-kept : afterwards (evaluate productSets 0 (0x60000001 ∷ []) [] 2) (1 ∷ 2 ∷ []) ≡ 1 ∷ 2 ∷ []
 output-kept = refl
 
 -- ---- required facts and the questions

@@ -2,7 +2,7 @@
 use mathlib.Core.Bool.{Bool, true, false, _&&_}
 use mathlib.Core.Option.{Option, none, some}
 use mathlib.Core.List.{List, [], _∷_, _++_, map}
-use Prim.Native.Nat.{ℕ, suc, _+_, _-_, _^_}
+use Prim.Native.Nat.{ℕ, suc, _+_, _-_, _/_, _%_, _^_}
 use lib.Dec.{leb}
 use lib.ListN.{length}
 use Rattle.model.specs.Fields.{above, pack}
@@ -21,6 +21,9 @@ restBits = 28
 
 abbrev pub countBits : ℕ  -- a count of arms, of facts or of consulted entries
 countBits = 12
+
+abbrev pub sheetBits : ℕ  -- a sheet's number
+sheetBits = 16
 
 abbrev pub markBits : ℕ  -- a label or a reason
 markBits = 15
@@ -116,13 +119,18 @@ module _ {O : Type 0} (number : O → ℕ) where
     encodes pnil = []
     encodes (pcons t ts) = encode t ++ encodes ts
 
-  -- 14 Resolved or 15 Pending: kind, zero (16), consulted count (12); the entries; one residual tree.
+  -- 14 Resolved or 15 Pending: kind, the sheet's number (16), here 0, consulted count (12); the entries; one residual tree.
   abbrev pub leadKind : ReducedPolicy O → ℕ
   leadKind (resolved d) = 14
   leadKind (pending t) = 15
 
   abbrev pub encodeR : Record O → List ℕ
   encodeR r = word (leadKind (r .body)) (length (r .log)) ∷ (pack entryBits (map entryField (r .log)) ++ encode (tree r))
+
+-- A record's words under its sheet's number, which stands in the lead between kind and count. Request 6.
+abbrev pub numbered : ℕ → List ℕ → List ℕ
+numbered n [] = []
+numbered n (w ∷ ws) = word (w / 2 ^ restBits) (above countBits n + w % 2 ^ countBits) ∷ ws
 
 -- No list of the tree is over what its count can say: 4,095 facts, 127 obligations.
 abbrev pub mostListed : ℕ

@@ -6,7 +6,7 @@ use mathlib.Core.List.{List, [], _∷_}
 use Prim.Native.Nat.{ℕ, zero, suc, _+_, _-_, _/_, _%_, _≤_}
 use native.Mathlib.Omega.{arith}
 use borrow.Author.Tests.{leb-true, le-leb}
-use lib.Dec.{ltb, leb}
+use lib.Dec.{leb}
 use lib.ListN.{length, drop}
 use Rattle.model.specs.Condition.{Condition}
 use Rattle.model.specs.Policy.{Policy, stored}
@@ -81,15 +81,14 @@ pub record Parts (ws : List ℕ) (r : Record Outcome) (vs : List ℕ) : Type 0 w
 module _ (w : ℕ) (us : List ℕ) where
   rest-reads : (p : List ℕ → Parsed (ReducedPolicy Outcome)) → ((vs : List ℕ) → Holds (λ b ts. TreeRead b vs ts) (p vs)) → (r : ℕ) → Holds (Parts (w ∷ us)) (rest p r us)
   rest-reads p reads r =
-      if-holds (ltb r 4096) 8 (next (readList consulted entryBits r us) (λ es vs. next (p vs) (λ b ts. got (record { body = b; log = es }) ts))) (λ _.
-      next-is (readList consulted entryBits r us) (λ es vs. next (p vs) (λ b ts. got (record { body = b; log = es }) ts)) (λ es vs e.
-      let long : length es ≡ r = subst (Holds (λ xs _. length xs ≡ r)) e (entries-long r us) .it in
-      let left : drop (pairs es) us ≡ vs = subst (Holds (λ xs ts. drop (pairs xs) us ≡ ts)) e (entries-leave r us) .it in
+      next-is (readList consulted entryBits (r % 4096) us) (λ es vs. next (p vs) (λ b ts. got (record { body = b; log = es }) ts)) (λ es vs e.
+      let long : length es ≡ r % 4096 = subst (Holds (λ xs _. length xs ≡ r % 4096)) e (entries-long (r % 4096) us) .it in
+      let left : drop (pairs es) us ≡ vs = subst (Holds (λ xs ts. drop (pairs xs) us ≡ ts)) e (entries-leave (r % 4096) us) .it in
       next-is (p vs) (λ b ts. got (record { body = b; log = es }) ts) (λ b ts g.
       fine (record {
         entries-read = ap (λ n. readList consulted entryBits n us) long ∙ e ∙ ap (got es) (sym left);
         tree-read = subst (λ ts′. TreeRead b ts′ ts) (sym left) (subst (Holds (λ b ts. TreeRead b vs ts)) g (reads vs) .it);
-      }))))
+      })))
 
   leads-read : (j r : ℕ) → Holds (Parts (w ∷ us)) (leads j r us)
   leads-read zero r = rest-reads parse14 resolved-reads r

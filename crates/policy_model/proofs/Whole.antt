@@ -282,28 +282,26 @@ module _ (ws : List ℕ) where
     unfolding leadOf
     other-record g = ap leadOf (fair-record false (lt-leb 14 k₁ g))
 
-    module _ (low : 14 ≤ k₁) (fits : w₁ < 4294967296) where
-      abbrev counted-at : Bool → Parsed (Record Outcome)
-      counted-at t = whole (unless t 8 (next (readList consulted entryBits r₁ (drop 1 ws)) (and-tree ws (eqb k₁ 15))))
+    -- The count is the lead's last twelve bits.
+    abbrev n₁ : ℕ
+    n₁ = w₁ % 4096
 
-      known-lead : (t : Bool) → ltb r₁ 4096 ≡ t → counted-at t ≡ readRecord ws
-      known-lead t e =
+    module _ (low : 14 ≤ k₁) (fits : w₁ < 4294967296) where
+      known-lead : whole (next (readList consulted entryBits n₁ (drop 1 ws)) (and-tree ws (eqb k₁ 15))) ≡ readRecord ws
+      known-lead =
           let j : 14 + (k₁ - 14) ≡ k₁ = omega arith in
-          ap counted-at (sym e)
+          let m : n₁ ≡ r₁ % 4096 = omega arith in
+          ap (λ n. whole (next (readList consulted entryBits n (drop 1 ws)) (and-tree ws (eqb k₁ 15)))) m
           ∙ ap (λ k. whole (rest (productSets .value) (bodyAt (eqb k 15)) r₁ (drop 1 ws))) (sym j)
           ∙ ap whole (lead-by (k₁ - 14) r₁ (drop 1 ws) (omega arith))
           ∙ fair-record true (le-leb 14 k₁ low)
 
-      pub record-count : 4096 ≤ r₁ → refuse 8 ≡ leadOf (readRecord ws)
-      unfolding leadOf
-      record-count g = ap leadOf (known-lead false (le-ltb r₁ 4096 g))
+      pub record-entries : (n : ℕ) → Refused n ≡ checked pairs 1 (readList consulted entryBits n₁ (drop 1 ws)) → refuse n ≡ leadOf (readRecord ws)
+      record-entries n e = entries-refused ws (eqb k₁ 15) n (readList consulted entryBits n₁ (drop 1 ws)) e ∙ ap leadOf known-lead
 
-      pub record-entries : (n : ℕ) → r₁ < 4096 → Refused n ≡ checked pairs 1 (readList consulted entryBits r₁ (drop 1 ws)) → refuse n ≡ leadOf (readRecord ws)
-      record-entries n g e = entries-refused ws (eqb k₁ 15) n (readList consulted entryBits r₁ (drop 1 ws)) e ∙ ap leadOf (known-lead true (lt-ltb r₁ 4096 g))
-
-      pub record-tree : (tree : ℕ) (b : Checked) → r₁ < 4096 → Next tree ≡ checked pairs 1 (readList consulted entryBits r₁ (drop 1 ws)) →
-          b ≡ checked wordsB tree (whole (bodyAt (eqb k₁ 15) (drop tree ws))) → recordLead (recordOf b (eqb k₁ 15) r₁ tree) ≡ leadOf (readRecord ws)
-      record-tree tree b g e d =
-          ap (λ x. recordLead (recordOf x (eqb k₁ 15) r₁ tree)) d
-          ∙ entries-then ws (eqb k₁ 15) r₁ tree (readList consulted entryBits r₁ (drop 1 ws)) (entries-long r₁ (drop 1 ws)) (entries-leave r₁ (drop 1 ws)) e
-          ∙ ap leadOf (known-lead true (lt-ltb r₁ 4096 g))
+      pub record-tree : (tree : ℕ) (b : Checked) → Next tree ≡ checked pairs 1 (readList consulted entryBits n₁ (drop 1 ws)) →
+          b ≡ checked wordsB tree (whole (bodyAt (eqb k₁ 15) (drop tree ws))) → recordLead (recordOf b (eqb k₁ 15) n₁ tree) ≡ leadOf (readRecord ws)
+      record-tree tree b e d =
+          ap (λ x. recordLead (recordOf x (eqb k₁ 15) n₁ tree)) d
+          ∙ entries-then ws (eqb k₁ 15) n₁ tree (readList consulted entryBits n₁ (drop 1 ws)) (entries-long n₁ (drop 1 ws)) (entries-leave n₁ (drop 1 ws)) e
+          ∙ ap leadOf known-lead

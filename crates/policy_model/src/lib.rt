@@ -8,7 +8,7 @@ ghost use Rattle.model.specs.Outcome.{outcomeBits};
 ghost use Rattle.model.specs.Condition.{cnil, ccons};
 ghost use Rattle.model.specs.Policy.{pnil, pcons};
 ghost use Rattle.model.specs.Writing.{countBits, obligationBits, entryBits};
-ghost use Rattle.model.specs.Reading.{many, readList, obligation, listed, consulted, readCondition, levels, recordWords, whole};
+ghost use Rattle.model.specs.Reading.{many, readList, obligation, listed, consulted, readCondition, levels, recordWords, sheetNumber, whole};
 ghost use Rattle.model.specs.Products.{readPolicy, readSheet, parse14, readRecord};
 ghost use Rattle.laws.specs.Size.{quads, pairs, wordsC, wordsCs, wordsD, words as wordsT, wordss as wordsTs};
 ghost use Rattle.policy_model.specs.Heads.{conditionHead, deepCondition, permitHead, grantHead, permitTraceHead, denyTraceHead, policyHead, deepPolicy, grantNode, permitTraceNode, denyTraceNode};
@@ -90,6 +90,9 @@ pub const COUNTS: u32 = 4096;
 pub const HALF: u32 = 65536;
 
 pub const THREE_QUARTERS: u32 = HALF * QUARTER;
+
+// A sheet's number, half a word as well, stands in a record's lead between its kind and its count.
+pub const SHEET_NUMBERS: u32 = HALF;
 
 // The shape of a Grant and of a DenyWithTrace; whether a DenyWithTrace has an outcome.
 pub const HIDDEN: u32 = 134217728;
@@ -954,10 +957,7 @@ pub fn check_record(words: &[u32]) -> RecordCheck
     if kind < KIND_RESOLVED {
         return RecordCheck::Refused(5);
     }
-    let count = words[0] % KIND;
-    if count >= COUNTS {
-        return RecordCheck::Refused(8);
-    }
+    let count = words[0] % COUNTS;
     match check_entries(words, 1, count) {
         Checked::Next(tree) => record_of(
             check_body(words, tree, kind == KIND_PENDING),
@@ -967,6 +967,16 @@ pub fn check_record(words: &[u32]) -> RecordCheck
         ),
         Checked::Refused(number) => RecordCheck::Refused(number),
     }
+}
+
+// The number of a record's sheet, in its lead; 0 where there is no word.
+pub fn sheet_number(words: &[u32]) -> u32
+    ensures { λ r. ⌜ r ≡ sheetNumber (now (words .entry)) ⌝ }
+{
+    if words.len() == 0 {
+        return 0;
+    }
+    words[0] / COUNTS % SHEET_NUMBERS
 }
 
 // The arms that a first word opens, of a condition or a policy; a Grant's condition is one. The kinds without arms that are the commonest come first.

@@ -2,9 +2,9 @@
 use mathlib.Core.Path.{_≡_, refl, sym, _∙_, ap, ap₂, subst}
 use mathlib.Core.Bool.{Bool, true, false}
 use mathlib.Core.List.{List, [], _∷_, map}
-use Prim.Native.Nat.{ℕ, zero, suc, _+_, _-_}
+use Prim.Native.Nat.{ℕ, zero, suc, _+_, _-_, _%_, _^_}
 use native.Mathlib.Omega.{arith}
-use lib.Dec.{ltb, leb}
+use lib.Dec.{leb}
 use lib.ListN.{length, drop, replicate, length-map}
 use lib.Seq.{drop-drop}
 use Rattle.model.specs.Fields.{wordsFor, pack}
@@ -13,7 +13,7 @@ use Rattle.model.specs.Policy.{Policy, names}
 use Rattle.model.specs.Partial.{ReducedPolicy, resolved, pending}
 use Rattle.model.specs.Consulted.{Consulted}
 use Rattle.model.specs.Record.{Record, tree}
-use Rattle.model.specs.Writing.{entryBits, entryField}
+use Rattle.model.specs.Writing.{countBits, entryBits, entryField}
 use Rattle.model.specs.Reading.{Parsed, refuse, got, next, unless, readList, consulted, kindOf, restOf, whole, levels}
 use Rattle.model.specs.Required.{factSet, requiredOf}
 use Rattle.model.specs.Products.{Outcome, leadKind, readPolicy, at12, at13, node14, parse14, parse15, rest, leads, readLead, policyAt}
@@ -68,12 +68,12 @@ entries-left n us =
 module _ (rec : List ℕ) (w : ℕ) (ws : List ℕ) (e : rec ≡ w ∷ ws) where
   rest-tree : (p : List ℕ → Parsed (ReducedPolicy Outcome)) → ((vs : List ℕ) → Holds (BodyOf (readPolicy true levels vs)) (p vs)) → (r : ℕ) → Holds (TreeAt rec) (rest p r ws)
   rest-tree p h r =
-      if-holds (ltb r 4096) 8 _ (λ _.
-      then-holds (readList consulted entryBits r ws) _ (entries-left r ws) (λ es vs l.
+      let count = r % 2 ^ countBits in
+      then-holds (readList consulted entryBits count ws) _ (entries-left count ws) (λ es vs l.
       then-holds (p vs) _ (h vs) (λ b us g.
-      let long : pairs es ≡ wordsFor 2 r = ap (wordsFor 2) (l .0) in
+      let long : pairs es ≡ wordsFor 2 count = ap (wordsFor 2) (l .0) in
       let there : drop (1 + pairs es) rec ≡ vs = sym (drop-drop (pairs es) 1 rec) ∙ ap₂ (λ k x. drop k (drop 1 x)) long e ∙ sym (l .1) in
-      fine (record { stands = λ t k. ap (readPolicy true levels) there ∙ g .body-is t k }))))
+      fine (record { stands = λ t k. ap (readPolicy true levels) there ∙ g .body-is t k })))
 
   leads-tree : (k r : ℕ) → Holds (TreeAt rec) (leads k r ws)
   leads-tree zero r = rest-tree parse14 (λ vs. tree-14 (readPolicy true levels vs) vs) r

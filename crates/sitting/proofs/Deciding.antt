@@ -16,6 +16,7 @@ use Rattle.model.specs.Policy.{Policy}
 use Rattle.model.specs.Partial.{resolved}
 use Rattle.model.specs.Consulted.{Consulted}
 use Rattle.model.specs.Record.{Record}
+use Rattle.model.specs.Writing.{numbered}
 use Rattle.model.specs.Reading.{Parsed, refuse, got, unless, sheetLength, whole}
 use Rattle.model.specs.Listing.{refusedText, listing, decided, checked}
 use Rattle.model.specs.Calls as model
@@ -43,7 +44,7 @@ module _ (sheet facts : List ℕ) (room : ℕ) where
   Text = checked (tableFault knownFacts facts) sheet facts
 
   abbrev pub Call : model.Answer
-  Call = model.evaluate productSets sheet facts room
+  Call = model.evaluate productSets 0 sheet facts room
 
   -- The call is refused, and so is what is listed; or the record that it writes is read back, and listed.
   pub data Cases : Type 0 where
@@ -51,29 +52,31 @@ module _ (sheet facts : List ℕ) (room : ℕ) where
     writes : (d : Decision Outcome) (l : Consulted) (ws : List ℕ) → Call ≡ model.wrote ws → readRecord ws ≡ got (record { body = resolved d; log = l }) [] → Text ≡ listing d l → Cases
 
   module _ (some-words : 1 ≤ length sheet) (few : length sheet ≤ 4096) (enough : 3 * length sheet + 513 ≤ room) where
-    past-length : Call ≡ model.unlessFault (tableFault knownFacts facts) (model.onRead (readSheet sheet) (λ t. write room (evaluated (tableOf facts) t)))
+    abbrev Answers : Policy Outcome → model.Answer
+    Answers t = model.under 0 (write room (evaluated (tableOf facts) t))
+
+    past-length : Call ≡ model.unlessFault (tableFault knownFacts facts) (model.onRead (readSheet sheet) Answers)
     past-length =
         let long : sheetLength sheet ≡ true = rw (le-leb 1 (length sheet) some-words, le-leb (length sheet) 4096 few) in
-        ap (λ b. model.unlessLong b (model.unlessFault (tableFault knownFacts facts) (model.onRead (readSheet sheet) (λ t. write room (evaluated (tableOf facts) t))))) long
+        ap (λ b. model.unlessLong b (model.unlessFault (tableFault knownFacts facts) (model.onRead (readSheet sheet) Answers))) long
 
     by-sheet : (q : Parsed (Policy Outcome)) → readSheet sheet ≡ q → tableFault knownFacts facts ≡ none → Cases
     by-sheet (refuse n) e f =
         refuses n
-        (past-length ∙ ap (λ o. model.unlessFault o (model.onRead (readSheet sheet) (λ t. write room (evaluated (tableOf facts) t)))) f
-        ∙ ap (λ q. model.onRead q (λ t. write room (evaluated (tableOf facts) t))) e)
+        (past-length ∙ ap (λ o. model.unlessFault o (model.onRead (readSheet sheet) Answers)) f ∙ ap (λ q. model.onRead q Answers) e)
         (ap (λ o. checked o sheet facts) f ∙ ap (λ q. decided q facts) e)
     by-sheet (got t vs) e f =
         let reads : readSheet sheet ≡ got t [] = e ∙ ap (got t) (sheet-whole sheet t vs e) in
-        writes (evalPolicy (tableOf facts) t) (read (tableOf facts) t []) (encodeR (evaluated (tableOf facts) t))
-        (evaluate-products sheet facts t room reads f enough)
-        (evaluate-products-back sheet (tableOf facts) t reads)
+        let ws = numbered 0 (encodeR (evaluated (tableOf facts) t)) in
+        let wrote = evaluate-products 0 sheet t reads facts room refl f enough in
+        writes (evalPolicy (tableOf facts) t) (read (tableOf facts) t []) ws wrote (evaluate-products-back 0 sheet t reads facts room ws wrote)
         (ap (λ o. checked o sheet facts) f ∙ ap (λ q. decided q facts) e)
 
     by-table : (o : Option ℕ) → tableFault knownFacts facts ≡ o → Cases
     by-table none e = by-sheet (readSheet sheet) refl e
     by-table (some n) e =
         refuses n
-        (past-length ∙ ap (λ o. model.unlessFault o (model.onRead (readSheet sheet) (λ t. write room (evaluated (tableOf facts) t)))) e)
+        (past-length ∙ ap (λ o. model.unlessFault o (model.onRead (readSheet sheet) Answers)) e)
         (ap (λ o. checked o sheet facts) e)
 
     pub cases : Cases

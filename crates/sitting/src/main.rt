@@ -17,13 +17,13 @@ const REQUEST: usize = 2 + 4 * SHEET_WORDS + 2 + facts::TABLE_BYTES;
 // The record of any sheet fits: three times its words plus 513.
 const RECORD: usize = 3 * SHEET_WORDS + 513;
 
-// Lists what is decided of a sheet with a table, each in its range.
+// Lists what is decided of a sheet with a table, each in its range. A listing has no number of a sheet, so the record is without one.
 fn list_decision(sheet: &[u32], facts: &[u8], out: &mut [u8]) -> usize
     requires { ⌜ (1 ≤ length (now sheet)) × (length (now sheet) ≤ sheetWords) × (listingRoom ≤ length (now out)) ⌝ }
     ensures { λ r. ⌜ Wrote (checked (tableFault knownFacts (now (facts .entry))) (now (sheet .entry)) (now (facts .entry))) (now (out .entry)) (now (out .exit)) r ⌝ }
 {
     let mut record = [0u32; RECORD];
-    match calls::evaluate(sheet, facts, &mut record) {
+    match calls::evaluate(sheet, 0, facts, &mut record) {
         Answer::Written(words) => listing::list_record(&record[..words], out),
         Answer::Refused(number) => listing::list_refusal(number, out),
     }

@@ -1,4 +1,4 @@
--- Demand 3 of what the public functions return: whatever list of narrowings a caller runs, of either pair. Assumes nothing.
+-- Demand 3 of what the public functions return: whatever list of narrowings a caller runs under one number, of either pair. Assumes nothing.
 use mathlib.Core.Path.{_≡_, refl, sym, _∙_, ap, ap₂, subst}
 use mathlib.Core.Option.{none}
 use mathlib.Core.List.{List, [], _∷_, map}
@@ -12,7 +12,7 @@ use Rattle.model.specs.Decision.{Decision, products}
 use Rattle.model.specs.Policy.{Policy}
 use Rattle.model.specs.Partial.{Order}
 use Rattle.model.specs.Record.{tree, evaluated, completed}
-use Rattle.model.specs.Reading.{got}
+use Rattle.model.specs.Reading.{got, sheetNumber}
 use Rattle.model.specs.Calls as model
 use Rattle.model.specs.Products.{Outcome, evalPolicy, reduced, readSheet, readRecord, evaluate, narrowResidual, completeResidual}
 use Rattle.answer.specs.declared.Answer.{Answer}
@@ -22,7 +22,7 @@ use Rattle.staging.specs.Bare.{bare}
 use Rattle.staging.specs.Chain.{Step, InOrder, AllOf, run}
 use Rattle.staging.specs.Statement as staging
 use Rattle.staging.specs.Statement.{Call, AgreesOn, Settled, Staged}
-use Rattle.staging.specs.Demand3.{demand3-products, products-kept, evaluate-products-wrote, evaluate-products-back}
+use Rattle.staging.specs.Demand3.{demand3-products, products-kept, evaluate-products-back}
 use Rattle.stages.specs.Runs.{Run, Narrowing, Accepted, handedOn, recordAfter, stepOf, ifAccepted, stepsOf, Evaluated, Reduced, Completed, NarrowedAll, ResolvedWith, Guaranteed}
 
 -- ---- what an answer tells of the call
@@ -55,56 +55,56 @@ same-steps : (a : model.Answer) (s : Step) (ss : List Step) (before after : List
 same-steps (model.refusal n) s ss before after r h = ap (λ x. ifAccepted x s ss) (sym (h .answer-is))
 same-steps (model.wrote ws) s ss before after r h = ap (λ x. ifAccepted x s ss) (sym (h .answer-is))
 
-after-runs : (ns : List Narrowing) (given : List ℕ) → NarrowedAll given ns → staging.after productSets given (map callOf ns) ≡ recordAfter given ns
-after-runs [] given h = refl
-after-runs (n ∷ ns) given h =
-    let s = n .ran in
-    ap (λ v. staging.after productSets v (map callOf ns)) (same-next (narrowResidual (n .order) given (s .facts) (length (s .before))) given (s .before) (s .after) (s .answer) (h .0))
-    ∙ after-runs ns (handedOn given (s .answer) (s .after)) (h .1)
+module _ (number : ℕ) where
+  after-runs : (ns : List Narrowing) (given : List ℕ) → NarrowedAll number given ns → staging.after productSets number given (map callOf ns) ≡ recordAfter given ns
+  after-runs [] given h = refl
+  after-runs (n ∷ ns) given h =
+      let s = n .ran in
+      ap (λ v. staging.after productSets number v (map callOf ns)) (same-next (narrowResidual (n .order) number given (s .facts) (length (s .before))) given (s .before) (s .after) (s .answer) (h .0))
+      ∙ after-runs ns (handedOn given (s .answer) (s .after)) (h .1)
 
-steps-run : (ns : List Narrowing) (given : List ℕ) → NarrowedAll given ns → staging.accepted productSets given (map callOf ns) ≡ stepsOf ns
-steps-run [] given h = refl
-steps-run (n ∷ ns) given h =
-    let s = n .ran in
-    let a = narrowResidual (n .order) given (s .facts) (length (s .before)) in
-    ap (λ v. staging.ifWrote a (stepOf n) (staging.accepted productSets v (map callOf ns))) (same-next a given (s .before) (s .after) (s .answer) (h .0))
-    ∙ ap (staging.ifWrote a (stepOf n)) (steps-run ns (handedOn given (s .answer) (s .after)) (h .1))
-    ∙ same-steps a (stepOf n) (stepsOf ns) (s .before) (s .after) (s .answer) (h .0)
+  steps-run : (ns : List Narrowing) (given : List ℕ) → NarrowedAll number given ns → staging.accepted productSets number given (map callOf ns) ≡ stepsOf ns
+  steps-run [] given h = refl
+  steps-run (n ∷ ns) given h =
+      let s = n .ran in
+      let a = narrowResidual (n .order) number given (s .facts) (length (s .before)) in
+      ap (λ v. staging.ifWrote a (stepOf n) (staging.accepted productSets number v (map callOf ns))) (same-next a given (s .before) (s .after) (s .answer) (h .0))
+      ∙ ap (staging.ifWrote a (stepOf n)) (steps-run ns (handedOn given (s .answer) (s .after)) (h .1))
+      ∙ same-steps a (stepOf n) (stepsOf ns) (s .before) (s .after) (s .answer) (h .0)
 
 -- ---- the theorem
-module _ (sheet known : List ℕ) (t : Policy Outcome) (reads : readSheet sheet ≡ got t []) (knows : tableFault knownFacts known ≡ none) where
-  evaluated-run : (s : Run) (n : ℕ) → s .facts ≡ known → Evaluated sheet s → s .answer ≡ Written n → ResolvedWith (λ d. d ≡ evalPolicy (tableOf known) t) (take n (s .after))
+module _ (number : ℕ) (sheet known : List ℕ) (t : Policy Outcome) (reads : readSheet sheet ≡ got t []) (knows : tableFault knownFacts known ≡ none) where
+  evaluated-run : (s : Run) (n : ℕ) → s .facts ≡ known → Evaluated number sheet s → s .answer ≡ Written n → ResolvedWith (λ d. d ≡ evalPolicy (tableOf known) t) (take n (s .after))
   evaluated-run s n e h q =
-      let wrote : evaluate sheet known (length (s .before)) ≡ model.wrote (take n (s .after)) = ap (λ f. evaluate sheet f (length (s .before))) (sym e) ∙ wrote-words h n q in
       record {
         decided = evaluated productSets (tableOf known) t;
-        reads = ap readRecord (evaluate-products-wrote sheet known t (length (s .before)) (take n (s .after)) reads wrote) ∙ evaluate-products-back sheet (tableOf known) t reads;
+        reads = evaluate-products-back number sheet t reads known (length (s .before)) (take n (s .after)) (ap (λ f. evaluate number sheet f (length (s .before))) (sym e) ∙ wrote-words h n q);
         decision = evalPolicy (tableOf known) t;
         resolves = refl;
         same = refl;
       }
 
-  module _ (o : Order) (first : Run) (n : ℕ) (ns : List Narrowing) (ran : Reduced o sheet first) (took : first .answer ≡ Written n) (later : NarrowedAll (take n (first .after)) ns)
+  module _ (o : Order) (first : Run) (n : ℕ) (ns : List Narrowing) (ran : Reduced o number sheet first) (took : first .answer ≡ Written n) (later : NarrowedAll number (take n (first .after)) ns)
       (agrees : AgreesOn t (tableOf known) (tableOf (first .facts))) (all-agree : AllOf (λ s. AgreesOn t (tableOf known) (s .table)) (stepsOf ns)) where
     abbrev Given : List ℕ
     Given = take n (first .after)
 
-    steps-are : staging.accepted productSets Given (map callOf ns) ≡ stepsOf ns
-    steps-are = steps-run ns Given later
+    steps-are : staging.accepted productSets number Given (map callOf ns) ≡ stepsOf ns
+    steps-are = steps-run number ns Given later
 
-    staged : Staged productSets o sheet known (first .facts) Given (map callOf ns) t
+    staged : Staged productSets number o sheet known (first .facts) Given (map callOf ns) t
     staged =
-        demand3-products o sheet known (first .facts) Given (map callOf ns) t (length (first .before)) reads knows (wrote-words ran n took) agrees
+        demand3-products number o sheet known (first .facts) Given (map callOf ns) t (length (first .before)) reads knows (wrote-words ran n took) agrees
         (subst (AllOf (λ s. AgreesOn t (tableOf known) (s .table))) (sym steps-are) all-agree)
 
     -- The record after the narrowings, as the calls left it.
-    end-is : staging.after productSets Given (map callOf ns) ≡ recordAfter Given ns
-    end-is = after-runs ns Given later
+    end-is : staging.after productSets number Given (map callOf ns) ≡ recordAfter Given ns
+    end-is = after-runs number ns Given later
 
-    completes : (s : Run) → s .facts ≡ known → completeResidual (recordAfter Given ns) (s .facts) (length (s .before)) ≡ completeResidual (staging.after productSets Given (map callOf ns)) known (length (s .before))
-    completes s e = ap₂ (λ v f. completeResidual v f (length (s .before))) (sym end-is) e
+    completes : (s : Run) → s .facts ≡ known → completeResidual number (recordAfter Given ns) (s .facts) (length (s .before)) ≡ completeResidual number (staging.after productSets number Given (map callOf ns)) known (length (s .before))
+    completes s e = ap₂ (λ v f. completeResidual number v f (length (s .before))) (sym end-is) e
 
-    completed-run : (AsSaid : Decision Outcome → Type 0) → AsSaid (staged .decision) → (s : Run) (m : ℕ) → s .facts ≡ known → Completed (recordAfter Given ns) s → s .answer ≡ Written m → ResolvedWith AsSaid (take m (s .after))
+    completed-run : (AsSaid : Decision Outcome → Type 0) → AsSaid (staged .decision) → (s : Run) (m : ℕ) → s .facts ≡ known → Completed number (recordAfter Given ns) s → s .answer ≡ Written m → ResolvedWith AsSaid (take m (s .after))
     completed-run AsSaid is s m e h q =
         record {
           decided = completed productSets (tableOf known) (staged .last);
@@ -114,27 +114,28 @@ module _ (sheet known : List ℕ) (t : Policy Outcome) (reads : readSheet sheet 
           same = is;
         }
 
-    guaranteed-of : Guaranteed o sheet known t first Given ns
+    guaranteed-of : Guaranteed number o sheet known t first Given ns
     guaranteed-of = record {
       residual = staged .last;
       reads = sym (ap readRecord end-is) ∙ staged .read-back;
       by-the-rules = staged .by-the-rules ∙ ap (run productSets (reduced o (tableOf (first .facts)) t)) steps-are;
+      under = sym (ap sheetNumber end-is) ∙ staged .under;
       settled-first = staged .settled-first;
       settled-later = subst (AllOf (λ s. Settled (tree (staged .last)) (s .table))) steps-are (staged .settled-later);
       evaluated = evaluated-run;
       completed = completed-run (λ d. products d ≡ products (evalPolicy (tableOf known) t)) (products-kept staged);
       in-order = λ e es. completed-run (λ d. bare d ≡ bare (evalPolicy (tableOf known) t)) (staged .same-but-facts e (subst (AllOf InOrder) (sym steps-are) es));
-      room-evaluate = λ s e h a. accepted-if a _ (ap (λ f. evaluate sheet f (length (s .before))) e ∙ staged .room-evaluate (length (s .before)) h);
+      room-evaluate = λ s e h a. accepted-if a _ (ap (λ f. evaluate number sheet f (length (s .before))) e ∙ staged .room-evaluate (length (s .before)) h);
       room-reduce = λ by s f h a. accepted-if a _ (staged .room-reduce by (length (s .before)) (s .facts) h f);
-      room-narrow = λ by s f h a. accepted-if a _ (ap (λ v. narrowResidual by v (s .facts) (length (s .before))) (sym end-is) ∙ staged .room-narrow by (length (s .before)) (s .facts) h f);
+      room-narrow = λ by s f h a. accepted-if a _ (ap (λ v. narrowResidual by number v (s .facts) (length (s .before))) (sym end-is) ∙ staged .room-narrow by (length (s .before)) (s .facts) h f);
       room-complete = λ s e h a. accepted-if a _ (completes s e ∙ staged .room-complete (length (s .before)) h);
     }
 
 -- For every accepted sheet and known table, every accepted run of `partial_evaluate` or `partial_evaluate_in_order` on the sheet, and every list of runs of
--- `narrow_residual` and `narrow_residual_in_order` from its record on: if the reduction's table and every accepted one agree with the known table, demand 3
--- and request 8 hold of the words that the calls left.
-pub guaranteed : (sheet known : List ℕ) (t : Policy Outcome) → readSheet sheet ≡ got t [] → tableFault knownFacts known ≡ none
-    → (o : Order) (first : Run) (n : ℕ) (ns : List Narrowing) → Reduced o sheet first → first .answer ≡ Written n → NarrowedAll (take n (first .after)) ns
+-- `narrow_residual` and `narrow_residual_in_order` from its record on, all with one number: if the reduction's table and every accepted one agree with the known
+-- table, demand 3 and requests 6 and 8 hold of the words that the calls left.
+pub guaranteed : (number : ℕ) (sheet known : List ℕ) (t : Policy Outcome) → readSheet sheet ≡ got t [] → tableFault knownFacts known ≡ none
+    → (o : Order) (first : Run) (n : ℕ) (ns : List Narrowing) → Reduced o number sheet first → first .answer ≡ Written n → NarrowedAll number (take n (first .after)) ns
     → AgreesOn t (tableOf known) (tableOf (first .facts)) → AllOf (λ s. AgreesOn t (tableOf known) (s .table)) (stepsOf ns)
-    → Guaranteed o sheet known t first (take n (first .after)) ns
-guaranteed sheet known t reads knows o first n ns ran took later agrees all-agree = guaranteed-of sheet known t reads knows o first n ns ran took later agrees all-agree
+    → Guaranteed number o sheet known t first (take n (first .after)) ns
+guaranteed number sheet known t reads knows o first n ns ran took later agrees all-agree = guaranteed-of number sheet known t reads knows o first n ns ran took later agrees all-agree

@@ -1,4 +1,4 @@
--- Calls that were run one after the other, each answered as its contract says. Document 01, "Stages", and request 8.
+-- Calls that were run one after the other under one number, each answered as its contract says. Document 01, "Stages", and requests 6 and 8.
 use mathlib.Core.Path.{_≡_}
 use mathlib.Core.Option.{none}
 use mathlib.Core.List.{List, [], _∷_}
@@ -10,7 +10,7 @@ use Rattle.model.specs.Decision.{Decision, products}
 use Rattle.model.specs.Policy.{Policy}
 use Rattle.model.specs.Partial.{resolved, Order, sheetOrder}
 use Rattle.model.specs.Record.{Record, tree}
-use Rattle.model.specs.Reading.{got}
+use Rattle.model.specs.Reading.{got, sheetNumber}
 use Rattle.model.specs.Products.{Outcome, evalPolicy, reduced, readRecord, evaluate, partialEvaluate, narrowResidual, completeResidual}
 use Rattle.answer.specs.declared.Answer.{Answer}
 use Rattle.answer.specs.declared.Answer.the-variants.{Written, Refused}
@@ -59,23 +59,23 @@ abbrev pub stepsOf : List Narrowing → List Step
 stepsOf [] = []
 stepsOf (n ∷ ns) = ifAccepted (n .ran .answer) (stepOf n) (stepsOf ns)
 
--- ---- runs of each call: what the contract of the public function says
-abbrev pub Evaluated : List ℕ → Run → Type 0
-Evaluated sheet s = Answered (evaluate sheet (s .facts) (length (s .before))) (s .before) (s .after) (s .answer)
+-- ---- runs of each call, with the sheet's number: what the contract of the public function says
+abbrev pub Evaluated : ℕ → List ℕ → Run → Type 0
+Evaluated number sheet s = Answered (evaluate number sheet (s .facts) (length (s .before))) (s .before) (s .after) (s .answer)
 
-abbrev pub Reduced : Order → List ℕ → Run → Type 0
-Reduced o sheet s = Answered (partialEvaluate o sheet (s .facts) (length (s .before))) (s .before) (s .after) (s .answer)
+abbrev pub Reduced : Order → ℕ → List ℕ → Run → Type 0
+Reduced o number sheet s = Answered (partialEvaluate o number sheet (s .facts) (length (s .before))) (s .before) (s .after) (s .answer)
 
-abbrev pub Narrowed : Order → List ℕ → Run → Type 0
-Narrowed o given s = Answered (narrowResidual o given (s .facts) (length (s .before))) (s .before) (s .after) (s .answer)
+abbrev pub Narrowed : Order → ℕ → List ℕ → Run → Type 0
+Narrowed o number given s = Answered (narrowResidual o number given (s .facts) (length (s .before))) (s .before) (s .after) (s .answer)
 
-abbrev pub Completed : List ℕ → Run → Type 0
-Completed given s = Answered (completeResidual given (s .facts) (length (s .before))) (s .before) (s .after) (s .answer)
+abbrev pub Completed : ℕ → List ℕ → Run → Type 0
+Completed number given s = Answered (completeResidual number given (s .facts) (length (s .before))) (s .before) (s .after) (s .answer)
 
 -- Narrowings one after the other, refused ones included.
-abbrev pub NarrowedAll : List ℕ → List Narrowing → Type 0
-NarrowedAll given [] = Unit {0}
-NarrowedAll given (n ∷ ns) = Narrowed (n .order) given (n .ran) × NarrowedAll (handedOn given (n .ran .answer) (n .ran .after)) ns
+abbrev pub NarrowedAll : ℕ → List ℕ → List Narrowing → Type 0
+NarrowedAll number given [] = Unit {0}
+NarrowedAll number given (n ∷ ns) = Narrowed (n .order) number given (n .ran) × NarrowedAll number (handedOn given (n .ran .answer) (n .ran .after)) ns
 
 -- Words that read as a Resolved record whose decision is as said.
 pub record ResolvedWith (AsSaid : Decision Outcome → Type 0) (ws : List ℕ) : Type 0 where
@@ -85,25 +85,27 @@ pub record ResolvedWith (AsSaid : Decision Outcome → Type 0) (ws : List ℕ) :
   pub resolves : decided .body ≡ resolved decision
   pub same : AsSaid decision
 
--- What is claimed: `given` is the record of the first run, an accepted reduction of the sheet by the order o; then the narrowings were run.
-pub record Guaranteed (o : Order) (sheet known : List ℕ) (t : Policy Outcome) (first : Run) (given : List ℕ) (later : List Narrowing) : Type 0 where
+-- What is claimed: `given` is the record of the first run, an accepted reduction of the sheet by the order o under the number; then the narrowings were run.
+pub record Guaranteed (number : ℕ) (o : Order) (sheet known : List ℕ) (t : Policy Outcome) (first : Run) (given : List ℕ) (later : List Narrowing) : Type 0 where
   -- The record after them is the one that the rules give for the accepted narrowings.
   pub residual : Record Outcome
   pub reads : readRecord (recordAfter given later) ≡ got residual []
   pub by-the-rules : residual ≡ run productSets (reduced o (tableOf (first .facts)) t) (stepsOf later)
+  -- It carries the number.
+  pub under : sheetNumber (recordAfter given later) ≡ number
   -- No condition in it names a fact that one of their tables reads as Present or Absent.
   pub settled-first : Settled (tree residual) (tableOf (first .facts))
   pub settled-later : AllOf (λ s. Settled (tree residual) (s .table)) (stepsOf later)
   -- Accepted direct evaluation with the known table gives the decision that the rules give, and an accepted completion its effect and products;
-  pub evaluated : (s : Run) (n : ℕ) → s .facts ≡ known → Evaluated sheet s → s .answer ≡ Written n
+  pub evaluated : (s : Run) (n : ℕ) → s .facts ≡ known → Evaluated number sheet s → s .answer ≡ Written n
       → ResolvedWith (λ d. d ≡ evalPolicy (tableOf known) t) (take n (s .after))
-  pub completed : (s : Run) (n : ℕ) → s .facts ≡ known → Completed (recordAfter given later) s → s .answer ≡ Written n
+  pub completed : (s : Run) (n : ℕ) → s .facts ≡ known → Completed number (recordAfter given later) s → s .answer ≡ Written n
       → ResolvedWith (λ d. products d ≡ products (evalPolicy (tableOf known) t)) (take n (s .after))
   -- if the reduction and every accepted narrowing are in sheet order, all of it but the fact list.
-  pub in-order : o ≡ sheetOrder → AllOf InOrder (stepsOf later) → (s : Run) (n : ℕ) → s .facts ≡ known → Completed (recordAfter given later) s → s .answer ≡ Written n
+  pub in-order : o ≡ sheetOrder → AllOf InOrder (stepsOf later) → (s : Run) (n : ℕ) → s .facts ≡ known → Completed number (recordAfter given later) s → s .answer ≡ Written n
       → ResolvedWith (λ d. bare d ≡ bare (evalPolicy (tableOf known) t)) (take n (s .after))
   -- With room enough each call is accepted whenever its table is faultless, a reduction and a narrowing by either order.
-  pub room-evaluate : (s : Run) → s .facts ≡ known → Roomy productSets sheet (length (s .before)) → Evaluated sheet s → Accepted (s .answer)
-  pub room-reduce : (by : Order) (s : Run) → tableFault partialFacts (s .facts) ≡ none → Roomy productSets sheet (length (s .before)) → Reduced by sheet s → Accepted (s .answer)
-  pub room-narrow : (by : Order) (s : Run) → tableFault partialFacts (s .facts) ≡ none → Roomy productSets sheet (length (s .before)) → Narrowed by (recordAfter given later) s → Accepted (s .answer)
-  pub room-complete : (s : Run) → s .facts ≡ known → Roomy productSets sheet (length (s .before)) → Completed (recordAfter given later) s → Accepted (s .answer)
+  pub room-evaluate : (s : Run) → s .facts ≡ known → Roomy sheet (length (s .before)) → Evaluated number sheet s → Accepted (s .answer)
+  pub room-reduce : (by : Order) (s : Run) → tableFault partialFacts (s .facts) ≡ none → Roomy sheet (length (s .before)) → Reduced by number sheet s → Accepted (s .answer)
+  pub room-narrow : (by : Order) (s : Run) → tableFault partialFacts (s .facts) ≡ none → Roomy sheet (length (s .before)) → Narrowed by number (recordAfter given later) s → Accepted (s .answer)
+  pub room-complete : (s : Run) → s .facts ≡ known → Roomy sheet (length (s .before)) → Completed number (recordAfter given later) s → Accepted (s .answer)

@@ -1,11 +1,11 @@
--- Demand 3, proved: for every list of narrowings, each by either order, over words and bytes, for any outcomes that are read as they are written.
+-- Demand 3, proved: for every list of narrowings under one number, each by either order, over words and bytes, for any outcomes that are read as they are written.
 use mathlib.Core.Path.{_≡_, refl, sym, _∙_, ap, subst}
 use mathlib.Core.Bool.{Bool, true, false, cond, _&&_}
 use mathlib.Core.Option.{Option, none, some}
 use mathlib.Core.List.{List, [], _∷_}
 use Prim.Native.Nat.{ℕ, _+_, _*_, _^_, _≤_, _<_}
 use native.Mathlib.Omega.{arith}
-use borrow.Author.Tests.{le-leb}
+use borrow.Author.Tests.{le-leb, ltb-true, eq-eqb}
 use lib.Dec.{leb}
 use lib.ListN.{length}
 use Rattle.model.specs.Facts.{unknown, Table, tableOf, partialFacts, knownFacts, tableFault}
@@ -16,17 +16,17 @@ use Rattle.model.specs.Evaluate.{evalPolicy}
 use Rattle.model.specs.Partial.{Order}
 use Rattle.model.specs.Consulted.{Consulted}
 use Rattle.model.specs.Record.{Record, tree, evaluated, reduced, narrowed, completed}
-use Rattle.model.specs.Writing.{encodeR, mostListed, mostHeld, shortD, short, shorts}
-use Rattle.model.specs.Reading.{Parsed, got, unless, levels, sheetLength, recordLength, whole, readPolicy, readSheet, readRecord}
-use Rattle.model.specs.Calls.{Answer, refusal, wrote, unlessLong, unlessFault, onRead, fits, write, evaluate, partialEvaluate, narrowResidual, completeResidual}
+use Rattle.model.specs.Writing.{encodeR, numbered, mostListed, mostHeld, shortD, short, shorts}
+use Rattle.model.specs.Reading.{Parsed, refuse, got, unless, levels, sheetLength, recordLength, sheetNumber, whole, readPolicy, readSheet, readRecord}
+use Rattle.model.specs.Calls.{Answer, refusal, wrote, unlessLong, unlessFault, onRead, unlessOther, hasNumber, isSheetNumber, under, fits, write, evaluate, partialEvaluate, narrowResidual, completeResidual}
 use Rattle.laws.specs.Lists.{Every}
 use Rattle.laws.specs.FieldLaws.{Holds}
 use Rattle.laws.specs.Each.{Each, Agrees}
 use Rattle.laws.specs.Names.{each-of, of-each}
 use Rattle.laws.specs.Form.{FewRepeats, FormD, Form, Forms, depth}
 use Rattle.laws.specs.FormLaws.{few-countable, countable-form}
-use Rattle.laws.specs.Lengths.{length-encodeR}
-use Rattle.laws.specs.ReadBack.{back-R}
+use Rattle.laws.specs.Lengths.{length-encodeR, length-numbered}
+use Rattle.laws.specs.ReadBack.{back-R, back-number}
 use Rattle.laws.specs.ReadForm.{Named, OkSheet, ok-sheet}
 use Rattle.laws.specs.Products.{Written, lawfulProducts, InRange, writtenProducts}
 use Rattle.staging.specs.SizeLaws.{most}
@@ -74,14 +74,20 @@ wrote-what none true u v e = cc
 wrote-what none false u v e = cc
 wrote-what (some n) b u v e = cc
 
+-- What a reduction or an evaluation wrote has a number that a lead can say.
+wrote-numbered : {A : Type 0} (long : Bool) (o : Option ℕ) (q : Parsed A) (b : Bool) (k : A → Answer) (v : List ℕ)
+    → unlessLong long (unlessFault o (onRead q (λ t. unlessOther b (k t)))) ≡ wrote v → b ≡ true
+wrote-numbered long o q true k v e = refl
+wrote-numbered false o q false k v e = cc
+wrote-numbered true (some n) q false k v e = cc
+wrote-numbered true none (refuse n) false k v e = cc
+wrote-numbered true none (got a ws) false k v e = cc
+
 module _ (L : Outcomes) (G : L .O → Type 0) (codec : Written L G) where
   -- A call on words that are read: the table's fault, or what is written.
   module _ {A : Type 0} (long : Bool) (fault : Option ℕ) (k : A → Answer) where
     called : (q : Parsed A) (a : A) (vs : List ℕ) → long ≡ true → q ≡ got a vs → unlessLong long (unlessFault fault (onRead q k)) ≡ unlessFault fault (k a)
     called q a vs h e = ap (λ b. unlessLong b (unlessFault fault (onRead q k))) h ∙ ap (λ p. unlessFault fault (onRead p k)) e
-
-  write-is : (room : ℕ) (r : Record (L .O)) (o : Option ℕ) → o ≡ none → fits L room r ≡ true → unlessFault o (write L room r) ≡ wrote (encodeR (L .number) r)
-  write-is room r o p e = ap (λ x. unlessFault x (write L room r)) p ∙ ap (λ b. cond b (wrote (encodeR (L .number) r)) (refusal 11)) e
 
   -- ---- the sheet
   module _ (sheet : List ℕ) (t : Policy (L .O)) (reads : readSheet (L .value) sheet ≡ got t []) where
@@ -112,6 +118,9 @@ module _ (L : Outcomes) (G : L .O → Type 0) (codec : Written L G) where
         (and-is (leb (length (encodeR (L .number) r)) room) (recordLength (encodeR (L .number) r)) (le-leb (length (encodeR (L .number) r)) room (omega (arith, within-words r h))) (few r h))
         (short-T G (tree r) (h .form))
 
+    within-narrowed : (o : Order) (P : Table) (r : Record (L .O)) → Within r → Within (narrowed L o P r)
+    within-narrowed o P r h = fit-narrowBody L G (codec .meets) (codec .joins) (most t) (depth t) o P (r .body) (r .log) h
+
     -- Request 3: neither a call on the sheet nor a chain of calls that the reduction begins comes to a list over what its count can say.
     pub sheet-countable : (K : Table) → short (tree (evaluated L K t)) ≡ true
     sheet-countable K = short-T G (tree (evaluated L K t)) (fit-evaluate L G (codec .meets) (codec .joins) K t (good .0) .form)
@@ -122,176 +131,215 @@ module _ (L : Outcomes) (G : L .O → Type 0) (codec : Written L G) where
         let h : Within r = fit-run L G (codec .meets) (codec .joins) (most t) (depth t) (reduced L o P t) ss (fit-reduce L G (codec .meets) (codec .joins) o P t (good .0)) in
         (short-T G (tree r) (h .form), short-T G (tree (completed L K r)) (fit-completeBody L G (codec .meets) (codec .joins) (most t) (depth t) K (r .body) (r .log) h .form))
 
-    back : (r : Record (L .O)) → Within r → readRecord (L .value) (encodeR (L .number) r) ≡ got r []
-    back r h =
-        let y = roomy L G (codec .meets) (codec .joins) t r (good .1) h in
-        let n = within-words r h in
-        let m = good .4 in
-        let e = good .2 in
-        back-R G (L .number) (L .value) (codec .small) (codec .again) r (omega (arith, log-length (r .log) (h .consulted))) (facts-of (r .log) (h .consulted .1)) (countable-form G (tree r) (h .form)) (y .nested) (omega arith)
+    -- ---- under a number that a lead can say: a record's words, and what is answered of them
+    module _ (number : ℕ) (said : isSheetNumber number ≡ true) where
+      small : number < 65536
+      small = ltb-true number 65536 said
 
-    -- ---- calls on such a record
-    narrow-is : (o : Order) (room : ℕ) (bs : List ℕ) (r : Record (L .O)) → Within r
-        → narrowResidual L o (encodeR (L .number) r) bs room ≡ unlessFault (tableFault partialFacts bs) (write L room (narrowed L o (tableOf bs) r))
-    narrow-is o room bs r h =
-        called (recordLength (encodeR (L .number) r)) (tableFault partialFacts bs) (λ x. write L room (narrowed L o (tableOf bs) x)) (readRecord (L .value) (encodeR (L .number) r)) r [] (few r h) (back r h)
+      abbrev wordsOf : Record (L .O) → List ℕ
+      wordsOf r = numbered number (encodeR (L .number) r)
 
-    complete-is : (room : ℕ) (bs : List ℕ) (r : Record (L .O)) → Within r
-        → completeResidual L (encodeR (L .number) r) bs room ≡ unlessFault (tableFault knownFacts bs) (write L room (completed L (tableOf bs) r))
-    complete-is room bs r h =
-        called (recordLength (encodeR (L .number) r)) (tableFault knownFacts bs) (λ x. write L room (completed L (tableOf bs) x)) (readRecord (L .value) (encodeR (L .number) r)) r [] (few r h) (back r h)
+      abbrev put : ℕ → Record (L .O) → Answer
+      put room r = cond (fits L room r) (wrote (wordsOf r)) (refusal 11)
 
-    reduce-is : (o : Order) (room : ℕ) (bs : List ℕ) → partialEvaluate L o sheet bs room ≡ unlessFault (tableFault partialFacts bs) (write L room (reduced L o (tableOf bs) t))
-    reduce-is o room bs = called (sheetLength sheet) (tableFault partialFacts bs) (λ x. write L room (reduced L o (tableOf bs) x)) (readSheet (L .value) sheet) t [] long-enough reads
+      put-is : (b : Bool) → b ≡ true → (room : ℕ) (r : Record (L .O)) → unlessOther b (under number (write L room r)) ≡ put room r
+      put-is b e room r = ap (λ x. unlessOther x (under number (write L room r))) e ∙ by (fits L room r)
+        where
+          by : (c : Bool) → under number (cond c (wrote (encodeR (L .number) r)) (refusal 11)) ≡ cond c (wrote (wordsOf r)) (refusal 11)
+          by true = refl
+          by false = refl
 
-    evaluate-is : (room : ℕ) (bs : List ℕ) → evaluate L sheet bs room ≡ unlessFault (tableFault knownFacts bs) (write L room (evaluated L (tableOf bs) t))
-    evaluate-is room bs = called (sheetLength sheet) (tableFault knownFacts bs) (λ x. write L room (evaluated L (tableOf bs) x)) (readSheet (L .value) sheet) t [] long-enough reads
+      write-is : (room : ℕ) (r : Record (L .O)) (o : Option ℕ) → o ≡ none → fits L room r ≡ true → unlessFault o (put room r) ≡ wrote (wordsOf r)
+      write-is room r o p e = ap (λ x. unlessFault x (put room r)) p ∙ ap (λ b. cond b (wrote (wordsOf r)) (refusal 11)) e
 
-    -- Direct evaluation: what it writes, that it has room enough, and that its record reads back.
-    pub evaluate-wrote : (known : List ℕ) (room : ℕ) (ws : List ℕ) → evaluate L sheet known room ≡ wrote ws → ws ≡ encodeR (L .number) (evaluated L (tableOf known) t)
-    evaluate-wrote known room ws e =
-        let r = evaluated L (tableOf known) t in
-        sym (wrote-what (tableFault knownFacts known) (fits L room r) (encodeR (L .number) r) ws (sym (evaluate-is room known) ∙ e))
+      few-words : (r : Record (L .O)) → Within r → recordLength (wordsOf r) ≡ true
+      few-words r h = ap (λ n. leb 1 n && leb n 16384) (length-numbered number (encodeR (L .number) r)) ∙ few r h
 
-    pub evaluate-fits : (known : List ℕ) (room : ℕ) → tableFault knownFacts known ≡ none → Roomy L sheet room → evaluate L sheet known room ≡ wrote (encodeR (L .number) (evaluated L (tableOf known) t))
-    evaluate-fits known room knows h =
-        evaluate-is room known
-        ∙ write-is room (evaluated L (tableOf known) t) (tableFault knownFacts known) knows (fits-within (evaluated L (tableOf known) t) room (fit-evaluate L G (codec .meets) (codec .joins) (tableOf known) t (good .0)) h)
+      number-back : (r : Record (L .O)) → sheetNumber (wordsOf r) ≡ number
+      number-back r = back-number G (L .number) (L .value) (codec .small) (codec .again) number small r
 
-    pub evaluate-back : (K : Table) → readRecord (L .value) (encodeR (L .number) (evaluated L K t)) ≡ got (evaluated L K t) []
-    evaluate-back K = back (evaluated L K t) (fit-evaluate L G (codec .meets) (codec .joins) K t (good .0))
+      back : (r : Record (L .O)) → Within r → readRecord (L .value) (wordsOf r) ≡ got r []
+      back r h =
+          let y = roomy L G (codec .meets) (codec .joins) t r (good .1) h in
+          let n = within-words r h in
+          let m = good .4 in
+          let e = good .2 in
+          back-R G (L .number) (L .value) (codec .small) (codec .again) number small r (omega (arith, log-length (r .log) (h .consulted))) (facts-of (r .log) (h .consulted .1)) (countable-form G (tree r) (h .form)) (y .nested) (omega arith)
 
-    -- ---- the list of calls: the record after it is the record narrowed by the accepted ones
-    within-narrowed : (o : Order) (P : Table) (r : Record (L .O)) → Within r → Within (narrowed L o P r)
-    within-narrowed o P r h = fit-narrowBody L G (codec .meets) (codec .joins) (most t) (depth t) o P (r .body) (r .log) h
+      -- ---- calls on such a record
+      called-on-record : (fault : Option ℕ) (room : ℕ) (f : Record (L .O) → Record (L .O)) (r : Record (L .O)) → Within r
+          → unlessLong (recordLength (wordsOf r)) (unlessFault fault (onRead (readRecord (L .value) (wordsOf r)) (λ x. unlessOther (hasNumber (wordsOf r) number) (under number (write L room (f x))))))
+          ≡ unlessFault fault (put room (f r))
+      called-on-record fault room f r h =
+          called (recordLength (wordsOf r)) fault (λ x. unlessOther (hasNumber (wordsOf r) number) (under number (write L room (f x)))) (readRecord (L .value) (wordsOf r)) r [] (few-words r h) (back r h)
+          ∙ ap (unlessFault fault) (put-is (hasNumber (wordsOf r) number) (eq-eqb (sheetNumber (wordsOf r)) number (number-back r)) room (f r))
 
-    Runs : Record (L .O) → List Call → Type 0
-    Runs r cs = after L (encodeR (L .number) r) cs ≡ encodeR (L .number) (run L r (accepted L (encodeR (L .number) r) cs))
+      called-on-sheet : (fault : Option ℕ) (room : ℕ) (f : Policy (L .O) → Record (L .O))
+          → unlessLong (sheetLength sheet) (unlessFault fault (onRead (readSheet (L .value) sheet) (λ x. unlessOther (isSheetNumber number) (under number (write L room (f x)))))) ≡ unlessFault fault (put room (f t))
+      called-on-sheet fault room f =
+          called (sheetLength sheet) fault (λ x. unlessOther (isSheetNumber number) (under number (write L room (f x)))) (readSheet (L .value) sheet) t [] long-enough reads
+          ∙ ap (unlessFault fault) (put-is (isSheetNumber number) said room (f t))
 
-    runs-by : (s : Step) (r : Record (L .O)) (cs : List Call) (fault : Option ℕ) (b : Bool) (a : Answer) → a ≡ unlessFault fault (cond b (wrote (encodeR (L .number) (narrowed L (s .order) (s .table) r))) (refusal 11))
-        → Runs r cs → Runs (narrowed L (s .order) (s .table) r) cs
-        → after L (handedOn a (encodeR (L .number) r)) cs ≡ encodeR (L .number) (run L r (ifWrote a s (accepted L (handedOn a (encodeR (L .number) r)) cs)))
-    unfolding Runs
-    runs-by s r cs (some n) b a e same more = rw e same
-    runs-by s r cs none false a e same more = rw e same
-    runs-by s r cs none true a e same more = rw e more
+      narrow-is : (o : Order) (room : ℕ) (bs : List ℕ) (r : Record (L .O)) → Within r
+          → narrowResidual L o number (wordsOf r) bs room ≡ unlessFault (tableFault partialFacts bs) (put room (narrowed L o (tableOf bs) r))
+      narrow-is o room bs r h = called-on-record (tableFault partialFacts bs) room (narrowed L o (tableOf bs)) r h
 
-    runs : (cs : List Call) (r : Record (L .O)) → Within r → Runs r cs
-    unfolding Runs
-    runs [] r h = refl
-    runs (c ∷ cs) r h =
-        let n = narrowed L (c .order) (tableOf (c .facts)) r in
-        runs-by (stepOf c) r cs (tableFault partialFacts (c .facts)) (fits L (length (c .out)) n) (answerTo L (encodeR (L .number) r) c) (narrow-is (c .order) (length (c .out)) (c .facts) r h)
-        (runs cs r h) (runs cs n (within-narrowed (c .order) (tableOf (c .facts)) r h))
+      complete-is : (room : ℕ) (bs : List ℕ) (r : Record (L .O)) → Within r
+          → completeResidual L number (wordsOf r) bs room ≡ unlessFault (tableFault knownFacts bs) (put room (completed L (tableOf bs) r))
+      complete-is room bs r h = called-on-record (tableFault knownFacts bs) room (completed L (tableOf bs)) r h
 
-    -- ---- the theorem
-    module _ (o : Order) (known facts given : List ℕ) (calls : List Call) (room₀ : ℕ) (knows : tableFault knownFacts known ≡ none) (wrote-given : partialEvaluate L o sheet facts room₀ ≡ wrote given)
-        (agrees : AgreesOn t (tableOf known) (tableOf facts)) (later : AllOf (λ s. AgreesOn t (tableOf known) (s .table)) (accepted L given calls)) where
-      K : Table
-      K = tableOf known
+      reduce-is : (o : Order) (room : ℕ) (bs : List ℕ) → partialEvaluate L o number sheet bs room ≡ unlessFault (tableFault partialFacts bs) (put room (reduced L o (tableOf bs) t))
+      reduce-is o room bs = called-on-sheet (tableFault partialFacts bs) room (reduced L o (tableOf bs))
 
-      P : Table
-      P = tableOf facts
+      evaluate-is : (room : ℕ) (bs : List ℕ) → evaluate L number sheet bs room ≡ unlessFault (tableFault knownFacts bs) (put room (evaluated L (tableOf bs) t))
+      evaluate-is room bs = called-on-sheet (tableFault knownFacts bs) room (evaluated L (tableOf bs))
 
-      r₀ : Record (L .O)
-      r₀ = reduced L o P t
+      -- Direct evaluation: what it writes, that it has room enough, and that its record reads back.
+      pub evaluate-wrote : (known : List ℕ) (room : ℕ) (ws : List ℕ) → evaluate L number sheet known room ≡ wrote ws → ws ≡ wordsOf (evaluated L (tableOf known) t)
+      evaluate-wrote known room ws e =
+          let r = evaluated L (tableOf known) t in
+          sym (wrote-what (tableFault knownFacts known) (fits L room r) (wordsOf r) ws (sym (evaluate-is room known) ∙ e))
 
-      given-is : encodeR (L .number) r₀ ≡ given
-      unfolding r₀ P
-      given-is = wrote-what (tableFault partialFacts facts) (fits L room₀ r₀) (encodeR (L .number) r₀) given (sym (reduce-is o room₀ facts) ∙ wrote-given)
+      pub evaluate-fits : (known : List ℕ) (room : ℕ) → tableFault knownFacts known ≡ none → Roomy sheet room → evaluate L number sheet known room ≡ wrote (wordsOf (evaluated L (tableOf known) t))
+      evaluate-fits known room knows h =
+          evaluate-is room known
+          ∙ write-is room (evaluated L (tableOf known) t) (tableFault knownFacts known) knows (fits-within (evaluated L (tableOf known) t) room (fit-evaluate L G (codec .meets) (codec .joins) (tableOf known) t (good .0)) h)
 
-      ss : List Step
-      ss = accepted L given calls
+      pub evaluate-back : (K : Table) → readRecord (L .value) (wordsOf (evaluated L K t)) ≡ got (evaluated L K t) []
+      evaluate-back K = back (evaluated L K t) (fit-evaluate L G (codec .meets) (codec .joins) K t (good .0))
 
-      lastly : Record (L .O)
-      lastly = run L r₀ ss
+      -- ---- the list of calls: the record after it is the record narrowed by the accepted ones
+      Runs : Record (L .O) → List Call → Type 0
+      Runs r cs = after L number (wordsOf r) cs ≡ wordsOf (run L r (accepted L number (wordsOf r) cs))
 
-      fit₀ : Within r₀
-      unfolding r₀
-      fit₀ = fit-reduce L G (codec .meets) (codec .joins) o P t (good .0)
+      runs-by : (s : Step) (r : Record (L .O)) (cs : List Call) (fault : Option ℕ) (b : Bool) (a : Answer) → a ≡ unlessFault fault (cond b (wrote (wordsOf (narrowed L (s .order) (s .table) r))) (refusal 11))
+          → Runs r cs → Runs (narrowed L (s .order) (s .table) r) cs
+          → after L number (handedOn a (wordsOf r)) cs ≡ wordsOf (run L r (ifWrote a s (accepted L number (handedOn a (wordsOf r)) cs)))
+      unfolding Runs
+      runs-by s r cs (some n) b a e same more = rw e same
+      runs-by s r cs none false a e same more = rw e same
+      runs-by s r cs none true a e same more = rw e more
 
-      fit : Within lastly
-      unfolding lastly
-      fit = fit-run L G (codec .meets) (codec .joins) (most t) (depth t) r₀ ss fit₀
+      runs : (cs : List Call) (r : Record (L .O)) → Within r → Runs r cs
+      unfolding Runs
+      runs [] r h = refl
+      runs (c ∷ cs) r h =
+          let n = narrowed L (c .order) (tableOf (c .facts)) r in
+          runs-by (stepOf c) r cs (tableFault partialFacts (c .facts)) (fits L (length (c .out)) n) (answerTo L number (wordsOf r) c) (narrow-is (c .order) (length (c .out)) (c .facts) r h)
+          (runs cs r h) (runs cs n (within-narrowed (c .order) (tableOf (c .facts)) r h))
 
-      after-is : after L given calls ≡ encodeR (L .number) lastly
-      unfolding lastly ss Runs
-      after-is = subst (λ v. after L v calls ≡ encodeR (L .number) (run L r₀ (accepted L v calls))) given-is (runs calls r₀ fit₀)
+      -- ---- the theorem
+      module _ (o : Order) (known facts given : List ℕ) (calls : List Call) (room₀ : ℕ) (knows : tableFault knownFacts known ≡ none) (wrote-given : partialEvaluate L o number sheet facts room₀ ≡ wrote given)
+          (agrees : AgreesOn t (tableOf known) (tableOf facts)) (later : AllOf (λ s. AgreesOn t (tableOf known) (s .table)) (accepted L number given calls)) where
+        K : Table
+        K = tableOf known
 
-      steps : TreeStaged L K o P t ss
-      unfolding K P ss
-      steps =
-          staged L K o P t ss (each-of (Agrees K P) t agrees)
-          (all-map (λ s. AgreesOn t K (s .table)) (λ s. Each (Agrees K (s .table)) t) ss (λ s h. each-of (Agrees K (s .table)) t h) later)
+        P : Table
+        P = tableOf facts
 
-      completion-is : (room : ℕ) (ws : List ℕ) → completeResidual L (after L given calls) known room ≡ wrote ws → ws ≡ encodeR (L .number) (completed L K lastly)
-      unfolding K
-      completion-is room ws e =
-          sym (wrote-what (tableFault knownFacts known) (fits L room (completed L K lastly)) (encodeR (L .number) (completed L K lastly)) ws
-          (sym (complete-is room known lastly fit) ∙ sym (ap (λ v. completeResidual L v known room) after-is) ∙ e))
+        r₀ : Record (L .O)
+        r₀ = reduced L o P t
 
-      pub demand3-of : Staged L o sheet known facts given calls t
-      unfolding K P r₀ ss lastly
-      demand3-of = record {
-        last = lastly;
-        by-the-rules = refl;
-        as-words = after-is;
-        read-back = ap (readRecord (L .value)) after-is ∙ back lastly fit;
-        settled-first = of-each (λ n. P n ≡ unknown) (tree lastly) (steps .settled-first);
-        settled-later =
-            all-map (λ s. Each (λ n. s .table n ≡ unknown) (tree lastly)) (λ s. Settled (tree lastly) (s .table)) ss (λ s h. of-each (λ n. s .table n ≡ unknown) (tree lastly) h) (steps .settled-later);
-        decision = steps .decision;
-        completion = completion-is;
-        completion-reads = λ room ws e.
-            ap (readRecord (L .value)) (completion-is room ws e) ∙ back (completed L K lastly) (fit-completeBody L G (codec .meets) (codec .joins) (most t) (depth t) K (lastly .body) (lastly .log) fit);
-        resolves = steps .completes;
-        same-products = steps .same-products;
-        same-but-facts = steps .same-but-facts;
-        room-evaluate = λ room h. evaluate-fits known room knows h;
-        room-reduce = λ by room bs h f.
-            reduce-is by room bs
-            ∙ write-is room (reduced L by (tableOf bs) t) (tableFault partialFacts bs) f (fits-within (reduced L by (tableOf bs) t) room (fit-reduce L G (codec .meets) (codec .joins) by (tableOf bs) t (good .0)) h);
-        room-narrow = λ by room bs h f.
-            ap (λ v. narrowResidual L by v bs room) after-is ∙ narrow-is by room bs lastly fit
-            ∙ write-is room (narrowed L by (tableOf bs) lastly) (tableFault partialFacts bs) f (fits-within (narrowed L by (tableOf bs) lastly) room (within-narrowed by (tableOf bs) lastly fit) h);
-        room-complete = λ room h.
-            ap (λ v. completeResidual L v known room) after-is ∙ complete-is room known lastly fit
-            ∙ write-is room (completed L K lastly) (tableFault knownFacts known) knows (fits-within (completed L K lastly) room (fit-completeBody L G (codec .meets) (codec .joins) (most t) (depth t) K (lastly .body) (lastly .log) fit) h);
-      }
+        given-is : wordsOf r₀ ≡ given
+        unfolding r₀ P
+        given-is = wrote-what (tableFault partialFacts facts) (fits L room₀ r₀) (wordsOf r₀) given (sym (reduce-is o room₀ facts) ∙ wrote-given)
 
--- For every accepted sheet and known table, every reduction of the sheet by either order that was accepted, and every list of narrowings, each by either order:
--- if the reduction's table and every accepted one agree with the known table, the whole list is as document 01's "Stages" and request 8 say.
+        ss : List Step
+        ss = accepted L number given calls
+
+        lastly : Record (L .O)
+        lastly = run L r₀ ss
+
+        fit₀ : Within r₀
+        unfolding r₀
+        fit₀ = fit-reduce L G (codec .meets) (codec .joins) o P t (good .0)
+
+        fit : Within lastly
+        unfolding lastly
+        fit = fit-run L G (codec .meets) (codec .joins) (most t) (depth t) r₀ ss fit₀
+
+        after-is : after L number given calls ≡ wordsOf lastly
+        unfolding lastly ss Runs
+        after-is = subst (λ v. after L number v calls ≡ wordsOf (run L r₀ (accepted L number v calls))) given-is (runs calls r₀ fit₀)
+
+        steps : TreeStaged L K o P t ss
+        unfolding K P ss
+        steps =
+            staged L K o P t ss (each-of (Agrees K P) t agrees)
+            (all-map (λ s. AgreesOn t K (s .table)) (λ s. Each (Agrees K (s .table)) t) ss (λ s h. each-of (Agrees K (s .table)) t h) later)
+
+        completion-is : (room : ℕ) (ws : List ℕ) → completeResidual L number (after L number given calls) known room ≡ wrote ws → ws ≡ wordsOf (completed L K lastly)
+        unfolding K
+        completion-is room ws e =
+            sym (wrote-what (tableFault knownFacts known) (fits L room (completed L K lastly)) (wordsOf (completed L K lastly)) ws
+            (sym (complete-is room known lastly fit) ∙ sym (ap (λ v. completeResidual L number v known room) after-is) ∙ e))
+
+        pub demand3-of : Staged L number o sheet known facts given calls t
+        unfolding K P r₀ ss lastly
+        demand3-of = record {
+          last = lastly;
+          by-the-rules = refl;
+          as-words = after-is;
+          under = ap sheetNumber after-is ∙ number-back lastly;
+          read-back = ap (readRecord (L .value)) after-is ∙ back lastly fit;
+          settled-first = of-each (λ n. P n ≡ unknown) (tree lastly) (steps .settled-first);
+          settled-later =
+              all-map (λ s. Each (λ n. s .table n ≡ unknown) (tree lastly)) (λ s. Settled (tree lastly) (s .table)) ss (λ s h. of-each (λ n. s .table n ≡ unknown) (tree lastly) h) (steps .settled-later);
+          decision = steps .decision;
+          completion = completion-is;
+          completion-reads = λ room ws e.
+              ap (readRecord (L .value)) (completion-is room ws e) ∙ back (completed L K lastly) (fit-completeBody L G (codec .meets) (codec .joins) (most t) (depth t) K (lastly .body) (lastly .log) fit);
+          resolves = steps .completes;
+          same-products = steps .same-products;
+          same-but-facts = steps .same-but-facts;
+          room-evaluate = λ room h. evaluate-fits known room knows h;
+          room-reduce = λ by room bs h f.
+              reduce-is by room bs
+              ∙ write-is room (reduced L by (tableOf bs) t) (tableFault partialFacts bs) f (fits-within (reduced L by (tableOf bs) t) room (fit-reduce L G (codec .meets) (codec .joins) by (tableOf bs) t (good .0)) h);
+          room-narrow = λ by room bs h f.
+              ap (λ v. narrowResidual L by number v bs room) after-is ∙ narrow-is by room bs lastly fit
+              ∙ write-is room (narrowed L by (tableOf bs) lastly) (tableFault partialFacts bs) f (fits-within (narrowed L by (tableOf bs) lastly) room (within-narrowed by (tableOf bs) lastly fit) h);
+          room-complete = λ room h.
+              ap (λ v. completeResidual L number v known room) after-is ∙ complete-is room known lastly fit
+              ∙ write-is room (completed L K lastly) (tableFault knownFacts known) knows (fits-within (completed L K lastly) room (fit-completeBody L G (codec .meets) (codec .joins) (most t) (depth t) K (lastly .body) (lastly .log) fit) h);
+        }
+
+-- For every accepted sheet and known table, every reduction of the sheet by either order that was accepted, and every list of narrowings, each by either order,
+-- all under one number: if the reduction's table and every accepted one agree with the known table, the whole list is as document 01's "Stages" and requests 6
+-- and 8 say.
 pub demand3 : (L : Outcomes) (G : L .O → Type 0) → Written L G
-    → (o : Order) (sheet known facts given : List ℕ) (calls : List Call) (t : Policy (L .O)) (room : ℕ)
+    → (number : ℕ) (o : Order) (sheet known facts given : List ℕ) (calls : List Call) (t : Policy (L .O)) (room : ℕ)
     → readSheet (L .value) sheet ≡ got t [] → tableFault knownFacts known ≡ none
-    → partialEvaluate L o sheet facts room ≡ wrote given
+    → partialEvaluate L o number sheet facts room ≡ wrote given
     → AgreesOn t (tableOf known) (tableOf facts)
-    → AllOf (λ s. AgreesOn t (tableOf known) (s .table)) (accepted L given calls)
-    → Staged L o sheet known facts given calls t
-demand3 L G codec o sheet known facts given calls t room reads knows first agrees later = demand3-of L G codec sheet t reads o known facts given calls room knows first agrees later
+    → AllOf (λ s. AgreesOn t (tableOf known) (s .table)) (accepted L number given calls)
+    → Staged L number o sheet known facts given calls t
+demand3 L G codec number o sheet known facts given calls t room reads knows first agrees later =
+    let said = wrote-numbered (sheetLength sheet) (tableFault partialFacts facts) (readSheet (L .value) sheet) (isSheetNumber number) (λ x. under number (write L room (reduced L o (tableOf facts) x))) given first in
+    demand3-of L G codec sheet t reads number said o known facts given calls room knows first agrees later
 
 -- The same for sets of products.
-pub demand3-products : (o : Order) (sheet known facts given : List ℕ) (calls : List Call) (t : Policy ℕ) (room : ℕ)
+pub demand3-products : (number : ℕ) (o : Order) (sheet known facts given : List ℕ) (calls : List Call) (t : Policy ℕ) (room : ℕ)
     → readSheet (productSets .value) sheet ≡ got t [] → tableFault knownFacts known ≡ none
-    → partialEvaluate productSets o sheet facts room ≡ wrote given
+    → partialEvaluate productSets o number sheet facts room ≡ wrote given
     → AgreesOn t (tableOf known) (tableOf facts)
-    → AllOf (λ s. AgreesOn t (tableOf known) (s .table)) (accepted productSets given calls)
-    → Staged productSets o sheet known facts given calls t
+    → AllOf (λ s. AgreesOn t (tableOf known) (s .table)) (accepted productSets number given calls)
+    → Staged productSets number o sheet known facts given calls t
 demand3-products = demand3 productSets InRange writtenProducts
 
-pub products-kept : {o : Order} {sheet known facts given : List ℕ} {calls : List Call} {t : Policy ℕ} (s : Staged productSets o sheet known facts given calls t)
+pub products-kept : {number : ℕ} {o : Order} {sheet known facts given : List ℕ} {calls : List Call} {t : Policy ℕ} (s : Staged productSets number o sheet known facts given calls t)
     → products (s .decision) ≡ products (evalPolicy productSets (tableOf known) t)
 products-kept s = s .same-products lawfulProducts
 
--- Direct evaluation of an accepted sheet: what it writes, that it is accepted with room enough, and that its record reads back.
-pub evaluate-products-wrote : (sheet known : List ℕ) (t : Policy ℕ) (room : ℕ) (ws : List ℕ) → readSheet (productSets .value) sheet ≡ got t [] → evaluate productSets sheet known room ≡ wrote ws
-    → ws ≡ encodeR (productSets .number) (evaluated productSets (tableOf known) t)
-evaluate-products-wrote sheet known t room ws reads e = evaluate-wrote productSets InRange writtenProducts sheet t reads known room ws e
+-- Direct evaluation of an accepted sheet: that it is accepted with room enough, what it writes, and that its record reads back.
+module _ (number : ℕ) (sheet : List ℕ) (t : Policy ℕ) (reads : readSheet (productSets .value) sheet ≡ got t []) where
+  pub evaluate-products : (known : List ℕ) (room : ℕ) → isSheetNumber number ≡ true → tableFault knownFacts known ≡ none → Roomy sheet room
+      → evaluate productSets number sheet known room ≡ wrote (numbered number (encodeR (productSets .number) (evaluated productSets (tableOf known) t)))
+  evaluate-products known room said knows h = evaluate-fits productSets InRange writtenProducts sheet t reads number said known room knows h
 
-pub evaluate-products : (sheet known : List ℕ) (t : Policy ℕ) (room : ℕ) → readSheet (productSets .value) sheet ≡ got t [] → tableFault knownFacts known ≡ none → Roomy productSets sheet room
-    → evaluate productSets sheet known room ≡ wrote (encodeR (productSets .number) (evaluated productSets (tableOf known) t))
-evaluate-products sheet known t room reads knows h = evaluate-fits productSets InRange writtenProducts sheet t reads known room knows h
-
-pub evaluate-products-back : (sheet : List ℕ) (K : Table) (t : Policy ℕ) → readSheet (productSets .value) sheet ≡ got t []
-    → readRecord (productSets .value) (encodeR (productSets .number) (evaluated productSets K t)) ≡ got (evaluated productSets K t) []
-evaluate-products-back sheet K t reads = evaluate-back productSets InRange writtenProducts sheet t reads K
+  pub evaluate-products-back : (known : List ℕ) (room : ℕ) (ws : List ℕ) → evaluate productSets number sheet known room ≡ wrote ws
+      → readRecord (productSets .value) ws ≡ got (evaluated productSets (tableOf known) t) []
+  evaluate-products-back known room ws e =
+      let said = wrote-numbered (sheetLength sheet) (tableFault knownFacts known) (readSheet (productSets .value) sheet) (isSheetNumber number) (λ x. under number (write productSets room (evaluated productSets (tableOf known) x))) ws e in
+      ap (readRecord (productSets .value)) (evaluate-wrote productSets InRange writtenProducts sheet t reads number said known room ws e)
+      ∙ evaluate-back productSets InRange writtenProducts sheet t reads number said (tableOf known)

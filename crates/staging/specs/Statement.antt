@@ -1,4 +1,5 @@
--- Demand 3: what is claimed of a list of calls, each by either order. Document 01, "Stages", and request 8. The proof is in Demand3.
+-- Demand 3: what is claimed of a list of calls, each by either order, all under one number. Document 01, "Stages", and requests 6 and 8. The proof is in
+-- Demand3.
 use mathlib.Core.Path.{_≡_}
 use mathlib.Core.Logic.{_⊎_}
 use mathlib.Core.Option.{Option, none}
@@ -12,8 +13,8 @@ use Rattle.model.specs.Policy.{Policy}
 use Rattle.model.specs.Evaluate.{evalPolicy}
 use Rattle.model.specs.Partial.{resolved, Order, sheetOrder}
 use Rattle.model.specs.Record.{Record, tree, evaluated, reduced, narrowed, completed}
-use Rattle.model.specs.Writing.{encodeR}
-use Rattle.model.specs.Reading.{got, readRecord}
+use Rattle.model.specs.Writing.{encodeR, numbered}
+use Rattle.model.specs.Reading.{got, sheetNumber, readRecord}
 use Rattle.model.specs.Calls.{Answer, refusal, wrote, evaluate, partialEvaluate, narrowResidual, completeResidual}
 use Rattle.laws.specs.Names.{Names}
 use Rattle.laws.specs.Products.{Lawful}
@@ -46,10 +47,14 @@ AgreesOn t K P = (f : ℕ) → Names f t → (P f ≡ unknown) ⊎ (P f ≡ K f)
 abbrev pub Settled : {O : Type 0} → Policy O → Table → Type 0
 Settled t P = (f : ℕ) → Names f t → P f ≡ unknown
 
-module _ (L : Outcomes) where
+-- Room enough: three times the sheet's words plus 513.
+abbrev pub Roomy : List ℕ → ℕ → Type 0
+Roomy sheet room = 3 * length sheet + 513 ≤ room
+
+module _ (L : Outcomes) (number : ℕ) where
   -- What a narrowing answers; the record after a list of them; and those that were accepted.
   abbrev pub answerTo : List ℕ → Call → Answer
-  answerTo given c = narrowResidual L (c .order) given (c .facts) (length (c .out))
+  answerTo given c = narrowResidual L (c .order) number given (c .facts) (length (c .out))
 
   abbrev pub after : List ℕ → List Call → List ℕ
   after given [] = given
@@ -59,34 +64,32 @@ module _ (L : Outcomes) where
   accepted given [] = []
   accepted given (c ∷ cs) = ifWrote (answerTo given c) (stepOf c) (accepted (handedOn (answerTo given c) given) cs)
 
-  -- Room enough: three times the sheet's words plus 513.
-  abbrev pub Roomy : List ℕ → ℕ → Type 0
-  Roomy sheet room = 3 * length sheet + 513 ≤ room
-
   -- An accepted sheet and known table, the reduction's order and table, the record that it wrote, and the narrowings; t is the sheet's tree.
   pub record Staged (o : Order) (sheet known facts given : List ℕ) (calls : List Call) (t : Policy (L .O)) : Type 0 where
     -- The record after the list is the one that the rules give for the accepted narrowings, one after the other;
     -- so is every record on the way, since this holds of every list.
     pub last : Record (L .O)
     pub by-the-rules : last ≡ run L (reduced L o (tableOf facts) t) (accepted given calls)
-    pub as-words : after given calls ≡ encodeR (L .number) last
+    pub as-words : after given calls ≡ numbered number (encodeR (L .number) last)
+    -- It carries the number.
+    pub under : sheetNumber (after given calls) ≡ number
     pub read-back : readRecord (L .value) (after given calls) ≡ got last []
     -- No condition in the residual names a fact that one of these tables reads as Present or Absent.
     pub settled-first : Settled (tree last) (tableOf facts)
     pub settled-later : AllOf (λ s. Settled (tree last) (s .table)) (accepted given calls)
     -- An accepted completion with the known table is Resolved, with direct evaluation's effect and products if meet and join are lawful.
     pub decision : Decision (L .O)
-    pub completion : (room : ℕ) (ws : List ℕ) → completeResidual L (after given calls) known room ≡ wrote ws → ws ≡ encodeR (L .number) (completed L (tableOf known) last)
-    pub completion-reads : (room : ℕ) (ws : List ℕ) → completeResidual L (after given calls) known room ≡ wrote ws → readRecord (L .value) ws ≡ got (completed L (tableOf known) last) []
+    pub completion : (room : ℕ) (ws : List ℕ) → completeResidual L number (after given calls) known room ≡ wrote ws → ws ≡ numbered number (encodeR (L .number) (completed L (tableOf known) last))
+    pub completion-reads : (room : ℕ) (ws : List ℕ) → completeResidual L number (after given calls) known room ≡ wrote ws → readRecord (L .value) ws ≡ got (completed L (tableOf known) last) []
     pub resolves : completed L (tableOf known) last .body ≡ resolved decision
     pub same-products : Lawful L → products decision ≡ products (evalPolicy L (tableOf known) t)
     -- If the reduction and every accepted narrowing are in sheet order, it is direct evaluation's decision but for the facts, whatever meet and join are.
     pub same-but-facts : o ≡ sheetOrder → AllOf InOrder (accepted given calls) → bare decision ≡ bare (evalPolicy L (tableOf known) t)
     -- With room enough direct evaluation, a reduction of the sheet, a narrowing, these by either order, and the completion are accepted whenever their table
     -- is faultless.
-    pub room-evaluate : (room : ℕ) → Roomy sheet room → evaluate L sheet known room ≡ wrote (encodeR (L .number) (evaluated L (tableOf known) t))
+    pub room-evaluate : (room : ℕ) → Roomy sheet room → evaluate L number sheet known room ≡ wrote (numbered number (encodeR (L .number) (evaluated L (tableOf known) t)))
     pub room-reduce : (by : Order) (room : ℕ) (bs : List ℕ) → Roomy sheet room → tableFault partialFacts bs ≡ none
-        → partialEvaluate L by sheet bs room ≡ wrote (encodeR (L .number) (reduced L by (tableOf bs) t))
+        → partialEvaluate L by number sheet bs room ≡ wrote (numbered number (encodeR (L .number) (reduced L by (tableOf bs) t)))
     pub room-narrow : (by : Order) (room : ℕ) (bs : List ℕ) → Roomy sheet room → tableFault partialFacts bs ≡ none
-        → narrowResidual L by (after given calls) bs room ≡ wrote (encodeR (L .number) (narrowed L by (tableOf bs) last))
-    pub room-complete : (room : ℕ) → Roomy sheet room → completeResidual L (after given calls) known room ≡ wrote (encodeR (L .number) (completed L (tableOf known) last))
+        → narrowResidual L by number (after given calls) bs room ≡ wrote (numbered number (encodeR (L .number) (narrowed L by (tableOf bs) last)))
+    pub room-complete : (room : ℕ) → Roomy sheet room → completeResidual L number (after given calls) known room ≡ wrote (numbered number (encodeR (L .number) (completed L (tableOf known) last)))

@@ -20,7 +20,7 @@ use Rattle.staging.specs.Bare.{bare}
 use Rattle.staging.specs.Statement.{Call, AgreesOn, after, accepted, Staged}
 use Rattle.staging.specs.Demand3.{demand3-products}
 
--- Sheet D, reduced with fact 5 Unknown; then a narrowing refused for a field 3 in its table, one refused for want of room,
+-- Sheet D, reduced under number 7 with fact 5 Unknown; then a narrowing refused for a field 3 in its table, one refused for want of room,
 -- one accepted that leaves 5 open, and one accepted that reads 5 as Present.
 abbrev sheetD : List ℕ
 sheetD = 0x88000003 ∷ 0 ∷ 0x20000005 ∷ []
@@ -35,7 +35,7 @@ abbrev openD : List ℕ
 openD = 0 ∷ 0x20 ∷ []
 
 abbrev givenD : List ℕ
-givenD = 0xF0000000 ∷ 0x88000003 ∷ 0 ∷ 0x20000005 ∷ []
+givenD = 0xF0007000 ∷ 0x88000003 ∷ 0 ∷ 0x20000005 ∷ []
 
 abbrev callsD : List Call
 callsD =
@@ -52,14 +52,14 @@ open-agrees f n = inl (ap (tableOf openD) n)
 known-agrees : AgreesOn treeD (tableOf knownD) (tableOf knownD)
 known-agrees f n = inr refl
 
-pub chainD : Staged productSets permitsFirst sheetD knownD openD givenD callsD treeD
-chainD = demand3-products permitsFirst sheetD knownD openD givenD callsD treeD 4 refl refl refl open-agrees (open-agrees, (known-agrees, tt))
+pub chainD : Staged productSets 7 permitsFirst sheetD knownD openD givenD callsD treeD
+chainD = demand3-products 7 permitsFirst sheetD knownD openD givenD callsD treeD 4 refl refl refl open-agrees (open-agrees, (known-agrees, tt))
 
 -- What the list comes to: two of its calls are refused, and the record after it is Resolved.
-pub acceptedD : length (accepted productSets givenD callsD) ≡ 2
+pub acceptedD : length (accepted productSets 7 givenD callsD) ≡ 2
 acceptedD = refl
 
-pub afterD : after productSets givenD callsD ≡ 0xE0000001 ∷ 0x40050000 ∷ 0xC0000003 ∷ 1 ∷ 0x00050000 ∷ []
+pub afterD : after productSets 7 givenD callsD ≡ 0xE0007001 ∷ 0x40050000 ∷ 0xC0000003 ∷ 1 ∷ 0x00050000 ∷ []
 afterD = refl
 
 -- Any of a grant of product 1 on fact 0 and a grant of product 2 on fact 1: the relay knows neither, the district brings fact 0,
@@ -92,10 +92,10 @@ district-agrees : AgreesOn treeR (tableOf archive) (tableOf district)
 district-agrees f (inl n) = inr (ap (tableOf district) n ∙ sym (ap (tableOf archive) n))
 district-agrees f (inr (inl n)) = inl (ap (tableOf district) n)
 
-pub chainR : Staged productSets permitsFirst sheetR archive relay givenR (record { order = permitsFirst; facts = district; out = replicate 534 0 } ∷ []) treeR
-chainR = demand3-products permitsFirst sheetR archive relay givenR (record { order = permitsFirst; facts = district; out = replicate 534 0 } ∷ []) treeR 8 refl refl refl relay-agrees (district-agrees, tt)
+pub chainR : Staged productSets 0 permitsFirst sheetR archive relay givenR (record { order = permitsFirst; facts = district; out = replicate 534 0 } ∷ []) treeR
+chainR = demand3-products 0 permitsFirst sheetR archive relay givenR (record { order = permitsFirst; facts = district; out = replicate 534 0 } ∷ []) treeR 8 refl refl refl relay-agrees (district-agrees, tt)
 
-pub completedR : completeResidual productSets (after productSets givenR (record { order = permitsFirst; facts = district; out = replicate 534 0 } ∷ [])) archive 534 ≡ wrote (0xE0000002 ∷ 0x40004001 ∷ 0xC0000003 ∷ 0 ∷ [])
+pub completedR : completeResidual productSets 0 (after productSets 0 givenR (record { order = permitsFirst; facts = district; out = replicate 534 0 } ∷ [])) archive 534 ≡ wrote (0xE0000002 ∷ 0x40004001 ∷ 0xC0000003 ∷ 0 ∷ [])
 completedR = refl
 
 -- All of a grant on fact 5, with obligation 7, and a permit of the same product; fact 5 is Unknown at first, then Present. One sitting owes obligation 7: the
@@ -113,30 +113,30 @@ openH-agrees : AgreesOn treeH (tableOf knownD) (tableOf openD)
 openH-agrees f (inl n) = inl (ap (tableOf openD) n)
 openH-agrees f (inr (inr n)) = absurd n
 
-pub sittingH : evaluate productSets sheetH knownD 531 ≡ wrote (0xE0000001 ∷ 0x40050000 ∷ 0xC0100001 ∷ 1 ∷ 0x07000000 ∷ 0x00050000 ∷ [])
+pub sittingH : evaluate productSets 0 sheetH knownD 531 ≡ wrote (0xE0000001 ∷ 0x40050000 ∷ 0xC0100001 ∷ 1 ∷ 0x07000000 ∷ 0x00050000 ∷ [])
 sittingH = refl
 
 -- In sheet order throughout, with a refused narrowing of the first pair between: completed to the clause of one sitting.
 abbrev callsH : List Call
 callsH = record { order = permitsFirst; facts = openD; out = replicate 7 0 } ∷ record { order = sheetOrder; facts = openD; out = replicate 8 0 } ∷ []
 
-pub chainH : Staged productSets sheetOrder sheetH knownD openD givenH callsH treeH
-chainH = demand3-products sheetOrder sheetH knownD openD givenH callsH treeH 8 refl refl refl openH-agrees (openH-agrees, tt)
+pub chainH : Staged productSets 0 sheetOrder sheetH knownD openD givenH callsH treeH
+chainH = demand3-products 0 sheetOrder sheetH knownD openD givenH callsH treeH 8 refl refl refl openH-agrees (openH-agrees, tt)
 
 pub one-sittingH : bare (chainH .decision) ≡ bare (evalPolicy productSets (tableOf knownD) treeH)
 one-sittingH = chainH .same-but-facts refl (refl, tt)
 
-pub completedH : completeResidual productSets (after productSets givenH callsH) knownD 531 ≡ wrote (0xE0000001 ∷ 0x40050000 ∷ 0xC0100001 ∷ 1 ∷ 0x07000000 ∷ 0x00050000 ∷ [])
+pub completedH : completeResidual productSets 0 (after productSets 0 givenH callsH) knownD 531 ≡ wrote (0xE0000001 ∷ 0x40050000 ∷ 0xC0100001 ∷ 1 ∷ 0x07000000 ∷ 0x00050000 ∷ [])
 completedH = refl
 
 -- With an accepted narrowing of the first pair between, the permit moves before the grant, and the completion owes nothing: effect and products alone are kept.
 abbrev mixedH : List Call
 mixedH = record { order = permitsFirst; facts = openD; out = replicate 8 0 } ∷ []
 
-pub chainMixed : Staged productSets sheetOrder sheetH knownD openD givenH mixedH treeH
-chainMixed = demand3-products sheetOrder sheetH knownD openD givenH mixedH treeH 8 refl refl refl openH-agrees (openH-agrees, tt)
+pub chainMixed : Staged productSets 0 sheetOrder sheetH knownD openD givenH mixedH treeH
+chainMixed = demand3-products 0 sheetOrder sheetH knownD openD givenH mixedH treeH 8 refl refl refl openH-agrees (openH-agrees, tt)
 
-pub completedMixed : completeResidual productSets (after productSets givenH mixedH) knownD 531 ≡ wrote (0xE0000001 ∷ 0x40050000 ∷ 0xC0000001 ∷ 0 ∷ [])
+pub completedMixed : completeResidual productSets 0 (after productSets 0 givenH mixedH) knownD 531 ≡ wrote (0xE0000001 ∷ 0x40050000 ∷ 0xC0000001 ∷ 0 ∷ [])
 completedMixed = refl
 
 -- What a decision owes.

@@ -10,20 +10,14 @@ use Rattle.listing.specs.Inputs.{wordsIn}
 use Rattle.vectors.specs.declared.Reply.{Reply}
 use Rattle.vectors.specs.Words.{sameWords, marks}
 use Rattle.vectors.specs.Replies.{Replied, replyTo}
-use Rattle.vectors.specs.Stored.{numberIn, wordsAt, answerAt, expectedIn, repliesIn, Ran, toldIn, answersIn, agreesIn}
+use Rattle.vectors.specs.Stored.{numberBytes, numberIn, wordsAt, answerAt, expectedIn, repliesIn, Ran, toldIn, answersIn, agreesIn}
 
 module _ (bs : List ℕ) where
   -- The call was given what is stored.
-  pub replied-in : (call : ℕ) (words table before after : List ℕ) (r : Reply) →
-      call ≡ numberIn bs 0 → words ≡ wordsIn bs (wordsAt bs) (numberIn bs 3) → table ≡ take (numberIn bs 2) (drop 14 bs) → before ≡ marks (numberIn bs 1) →
-      Replied (replyTo call words table before) after r → Replied (repliesIn bs) after r
-  replied-in call words table before after r c w t b s =
-      subst (λ m. Replied m after r)
-      (ap (λ k. replyTo k words table before) c
-      ∙ ap (λ l. replyTo (numberIn bs 0) l table before) w
-      ∙ ap (λ l. replyTo (numberIn bs 0) (wordsIn bs (wordsAt bs) (numberIn bs 3)) l before) t
-      ∙ ap (λ l. replyTo (numberIn bs 0) (wordsIn bs (wordsAt bs) (numberIn bs 3)) (take (numberIn bs 2) (drop 14 bs)) l) b)
-      s
+  pub replied-in : (call sheet : ℕ) (words table before after : List ℕ) (r : Reply) →
+      call ≡ numberIn bs 0 → sheet ≡ numberIn bs 7 → words ≡ wordsIn bs (wordsAt bs) (numberIn bs 3) → table ≡ take (numberIn bs 2) (drop numberBytes bs) → before ≡ marks (numberIn bs 1) →
+      Replied (replyTo call sheet words table before) after r → Replied (repliesIn bs) after r
+  replied-in call sheet words table before after r c n w t b s = subst (λ m. Replied m after r) (λ i. replyTo (c i) (n i) (w i) (t i) (b i)) s
 
   -- The output that is expected.
   pub expected-same : (at n m : ℕ) (out : List ℕ) → at ≡ answerAt bs → n ≡ numberIn bs 6 → m ≡ numberIn bs 1 →

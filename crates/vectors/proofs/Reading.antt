@@ -11,7 +11,7 @@ use lib.Seq.{drop-length}
 use Rattle.laws.specs.FieldAt.{firsts}
 use Rattle.listing.specs.Inputs.{WordsRead, wordsIn}
 use Rattle.listing.specs.InputLaws.{words-there}
-use Rattle.vectors.specs.Stored.{wholeSize, sizeOf, Whole}
+use Rattle.vectors.specs.Stored.{numberBytes, wholeSize, sizeOf, Whole}
 
 -- A list whose every place was stored.
 pub firsts-all : (f : ℕ → ℕ) (i : ℕ) (out before : List ℕ) → i ≡ length before → out ≡ firsts f i ++ drop i before → out ≡ firsts f (length before)
@@ -44,13 +44,13 @@ words-fill r bs at before after h s =
     ∙ append-nil (wordsIn bs at (length before))
 
 -- ---- the size of a stored answer
-pub size-whole : (bs : List ℕ) → 14 ≤ length bs → wholeSize bs ≤ length bs → sizeOf bs ≡ wholeSize bs
+pub size-whole : (bs : List ℕ) → numberBytes ≤ length bs → wholeSize bs ≤ length bs → sizeOf bs ≡ wholeSize bs
 size-whole bs h k = ap₂ (λ a b. cond (a && b) (wholeSize bs) 0) (le-leb _ _ h) (le-leb _ _ k)
 
-pub size-short : (bs : List ℕ) → 14 ≤ length bs → length bs < wholeSize bs → sizeOf bs ≡ 0
+pub size-short : (bs : List ℕ) → numberBytes ≤ length bs → length bs < wholeSize bs → sizeOf bs ≡ 0
 size-short bs h k = ap₂ (λ a b. cond (a && b) (wholeSize bs) 0) (le-leb _ _ h) (lt-leb _ _ k)
 
-pub size-none : (bs : List ℕ) → length bs < 14 → sizeOf bs ≡ 0
+pub size-none : (bs : List ℕ) → length bs < numberBytes → sizeOf bs ≡ 0
 size-none bs h = ap (λ a. cond (a && leb (wholeSize bs) (length bs)) (wholeSize bs) 0) (lt-leb _ _ h)
 
 both : (a b : Bool) (n : ℕ) → (cond (a && b) n 0 ≡ 0 → ⊥) → (a ≡ true) × (b ≡ true)
@@ -60,10 +60,10 @@ both false b n h = absurd (h refl)
 
 pub whole-of : (bs : List ℕ) → (sizeOf bs ≡ 0 → ⊥) → Whole bs
 whole-of bs h =
-    let tests = both (leb 14 (length bs)) (leb (wholeSize bs) (length bs)) (wholeSize bs) h in
+    let tests = both (leb numberBytes (length bs)) (leb (wholeSize bs) (length bs)) (wholeSize bs) h in
     record { numbers = leb-true _ _ (tests .0); bytes = leb-true _ _ (tests .1) }
 
-pub size-some : (bs : List ℕ) → (sizeOf bs ≡ 0 → ⊥) → 14 ≤ sizeOf bs
+pub size-some : (bs : List ℕ) → (sizeOf bs ≡ 0 → ⊥) → numberBytes ≤ sizeOf bs
 size-some bs h =
     let whole = whole-of bs h in
     omega (arith, size-whole bs (whole .numbers) (whole .bytes))

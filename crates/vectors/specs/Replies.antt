@@ -28,22 +28,30 @@ asking a before = record { number = a .number; value = oneBit (a .yes); output =
 abbrev pub nothing : List ℕ → Replies
 nothing before = record { number = 0; value = 0; output = before }
 
--- The calls, by their number in a stored answer.
-abbrev pub replies : List ℕ → List ℕ → List ℕ → List Replies
-replies words table before =
-    writing (evaluate words table (length before)) before
-    ∷ writing (partialEvaluate permitsFirst words table (length before)) before
-    ∷ writing (narrowResidual permitsFirst words table (length before)) before
-    ∷ writing (completeResidual words table (length before)) before
-    ∷ requiring (requiredFacts words) before
+-- The calls that write no record.
+abbrev pub told : List ℕ → List ℕ → List Replies
+told words before =
+    requiring (requiredFacts words) before
     ∷ requiring (requiredResidualFacts words) before
     ∷ asking (isPermitConstant words) before
     ∷ asking (isDenyConstant words) before
     ∷ asking (carriesObligation words) before
     ∷ []
 
-unfoldable pub replyTo : ℕ → List ℕ → List ℕ → List ℕ → Replies
-replyTo call words table before = getD (replies words table before) call (nothing before)
+unfoldable pub toldBy : ℕ → List ℕ → List ℕ → Replies
+toldBy call words before = getD (told words before) call (nothing before)
+
+-- All calls, by their number in a stored answer, with the sheet's number.
+abbrev pub replies : ℕ → List ℕ → List ℕ → List ℕ → List Replies
+replies sheet words table before =
+    writing (evaluate sheet words table (length before)) before
+    ∷ writing (partialEvaluate permitsFirst sheet words table (length before)) before
+    ∷ writing (narrowResidual permitsFirst sheet words table (length before)) before
+    ∷ writing (completeResidual sheet words table (length before)) before
+    ∷ told words before
+
+unfoldable pub replyTo : ℕ → ℕ → List ℕ → List ℕ → List ℕ → Replies
+replyTo call sheet words table before = getD (replies sheet words table before) call (nothing before)
 
 pub record Replied (m : Replies) (after : List ℕ) (r : Reply) : Type 0 where
   pub number-is : r .number ≡ m .number

@@ -1,4 +1,4 @@
--- A stored answer: seven numbers of 16 bits, the table, the words, and the words that stand first in the output afterwards.
+-- A stored answer: eight numbers of 16 bits, the table, the words, and the words that stand first in the output afterwards.
 use mathlib.Core.Path.{_≡_}
 use mathlib.Core.Bool.{Bool, cond, _&&_}
 use mathlib.Core.List.{List, _++_}
@@ -10,13 +10,16 @@ use Rattle.vectors.specs.Words.{sameWords, marks}
 use Rattle.vectors.specs.declared.Reply.{Reply}
 use Rattle.vectors.specs.Replies.{Replies, Replied, replyTo}
 
--- The seven numbers: call, room, table bytes, words, number, value, answer words.
+-- The eight numbers: call, room, table bytes, words, number, value, answer words, the sheet's number.
+abbrev pub numberBytes : ℕ
+numberBytes = 16
+
 abbrev pub numberIn : List ℕ → ℕ → ℕ
 numberIn bs k = getD bs (2 * k) 0 * 256 + getD bs (2 * k + 1) 0
 
 -- Where the words and the answer's words begin, and where the next stored answer does.
 abbrev pub wordsAt : List ℕ → ℕ
-wordsAt bs = 14 + numberIn bs 2
+wordsAt bs = numberBytes + numberIn bs 2
 
 abbrev pub answerAt : List ℕ → ℕ
 answerAt bs = wordsAt bs + 4 * numberIn bs 3
@@ -26,10 +29,10 @@ wholeSize bs = answerAt bs + 4 * numberIn bs 6
 
 -- The bytes that the stored answer at the front takes, 0 if it is not whole.
 abbrev pub sizeOf : List ℕ → ℕ
-sizeOf bs = cond (leb 14 (length bs) && leb (wholeSize bs) (length bs)) (wholeSize bs) 0
+sizeOf bs = cond (leb numberBytes (length bs) && leb (wholeSize bs) (length bs)) (wholeSize bs) 0
 
 pub record Whole (bs : List ℕ) : Type 0 where
-  pub numbers : 14 ≤ length bs
+  pub numbers : numberBytes ≤ length bs
   pub bytes : wholeSize bs ≤ length bs
 
 -- Buffers of the lengths that it says.
@@ -49,7 +52,7 @@ expectedIn bs = wordsIn bs (answerAt bs) (numberIn bs 6) ++ drop (numberIn bs 6)
 
 -- What the call gives to its words and its table.
 abbrev pub repliesIn : List ℕ → Replies
-repliesIn bs = replyTo (numberIn bs 0) (wordsIn bs (wordsAt bs) (numberIn bs 3)) (take (numberIn bs 2) (drop 14 bs)) (marks (numberIn bs 1))
+repliesIn bs = replyTo (numberIn bs 0) (numberIn bs 7) (wordsIn bs (wordsAt bs) (numberIn bs 3)) (take (numberIn bs 2) (drop numberBytes bs)) (marks (numberIn bs 1))
 
 -- The call ran, and what is expected stands beside its output.
 pub record Ran (bs expected out : List ℕ) (r : Reply) : Type 0 where

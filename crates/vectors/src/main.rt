@@ -1,6 +1,6 @@
 // Replays the original's stored answers on the proved calls, and says how many differ.
-// Standard input: a line that says how they were made, then the stored answers. Of each seven 16-bit numbers (call, room, table bytes, words, number,
-// value, answer words), the table, the words, and the words that stand first in the output afterwards; all most significant byte first.
+// Standard input: a line that says how they were made, then the stored answers. Of each eight 16-bit numbers (call, room, table bytes, words, number,
+// value, answer words, the sheet's number), the table, the words, and the words that stand first in the output afterwards; all most significant byte first.
 use answer::Answer;
 use questions::Told;
 use required::Required;
@@ -15,8 +15,8 @@ ghost use Rattle.required.specs.Answers.{numberOf, countOf};
 ghost use Rattle.questions.specs.Answers.{asked};
 ghost use Rattle.listing.specs.Inputs.{wordsIn};
 ghost use Rattle.vectors.specs.Words.{sameWords, marks, halfOf, setWords};
-ghost use Rattle.vectors.specs.Replies.{Replied, replyTo, requiring};
-ghost use Rattle.vectors.specs.Stored.{numberIn, sizeOf, Whole, Fitted, Ran, toldIn, answersIn, agreesIn};
+ghost use Rattle.vectors.specs.Replies.{Replied, toldBy, replyTo, requiring};
+ghost use Rattle.vectors.specs.Stored.{numberBytes, numberIn, sizeOf, Whole, Fitted, Ran, toldIn, answersIn, agreesIn};
 ghost use Rattle.vectors.specs.Tallies.{notedIn, stepOf, tallyOf};
 
 // What a call returns: the number of the refusal, 0 when accepted, and its value (words written or facts counted).
@@ -154,17 +154,16 @@ fn record_facts(words: &[u32], out: &mut [u32]) -> Reply
     reply
 }
 
-// What a call that writes no record, by its number from 4 on, returns and leaves in the output. A number of no call does nothing.
-fn told_by(call: usize, words: &[u32], table: &[u8], out: &mut [u32]) -> Reply
-    requires { ⌜ 4 ≤ call ⌝ }
-    ensures { λ r. ⌜ Replied (replyTo call (now (words .entry)) (now (table .entry)) (now (out .entry))) (now (out .exit)) r ⌝ }
+// What a call that writes no record, by its number less 4, returns and leaves in the output. A number of no call does nothing.
+fn told_by(call: usize, words: &[u32], out: &mut [u32]) -> Reply
+    ensures { λ r. ⌜ Replied (toldBy call (now (words .entry)) (now (out .entry))) (now (out .exit)) r ⌝ }
 {
     match call {
-        4 => sheet_facts(words, out),
-        5 => record_facts(words, out),
-        6 => said(questions::is_permit_constant(words)),
-        7 => said(questions::is_deny_constant(words)),
-        8 => said(questions::carries_obligation(words)),
+        0 => sheet_facts(words, out),
+        1 => record_facts(words, out),
+        2 => said(questions::is_permit_constant(words)),
+        3 => said(questions::is_deny_constant(words)),
+        4 => said(questions::carries_obligation(words)),
         _ => Reply {
             number: 0,
             value: 0,
@@ -172,24 +171,27 @@ fn told_by(call: usize, words: &[u32], table: &[u8], out: &mut [u32]) -> Reply
     }
 }
 
-// What a proved call, by its number, returns and leaves in the output.
-fn answer_to(call: usize, words: &[u32], table: &[u8], out: &mut [u32]) -> Reply
-    ensures { λ r. ⌜ Replied (replyTo call (now (words .entry)) (now (table .entry)) (now (out .entry))) (now (out .exit)) r ⌝ }
+// What a proved call, by its number, returns and leaves in the output. One that writes no record takes no number of a sheet and no table.
+fn answer_to(call: usize, sheet: u32, words: &[u32], table: &[u8], out: &mut [u32]) -> Reply
+    ensures { λ r. ⌜ Replied (replyTo call sheet (now (words .entry)) (now (table .entry)) (now (out .entry))) (now (out .exit)) r ⌝ }
 {
     match call {
-        0 => written(calls::evaluate(words, table, out)),
-        1 => written(calls::partial_evaluate(words, table, out)),
-        2 => written(calls::narrow_residual(words, table, out)),
-        3 => written(calls::complete_residual(words, table, out)),
-        _ => told_by(call, words, table, out),
+        0 => written(calls::evaluate(words, sheet, table, out)),
+        1 => written(calls::partial_evaluate(words, sheet, table, out)),
+        2 => written(calls::narrow_residual(words, sheet, table, out)),
+        3 => written(calls::complete_residual(words, sheet, table, out)),
+        _ => told_by(call - 4, words, out),
     }
 }
 
 // ---- a stored answer
 
-// One of the seven numbers that a stored answer begins with.
+// A stored answer begins with eight numbers of 16 bits.
+const NUMBERS: usize = 16;
+
+// One of them.
 fn number_in(case: &[u8], place: usize) -> usize
-    requires { ⌜ (place < 7) × (14 ≤ length (now case)) ⌝ }
+    requires { ⌜ (place < 8) × (numberBytes ≤ length (now case)) ⌝ }
     ensures { λ r. ⌜ (r ≡ numberIn (now (case .entry)) place) × (r < 65536) ⌝ }
 {
     listing::number_at(case, 2 * place) as usize
@@ -199,10 +201,10 @@ fn number_in(case: &[u8], place: usize) -> usize
 fn size_of(input: &[u8]) -> usize
     ensures { λ r. ⌜ r ≡ sizeOf (now (input .entry)) ⌝ }
 {
-    if input.len() < 14 {
+    if input.len() < NUMBERS {
         return 0;
     }
-    let size = 14 + number_in(input, 2) + 4 * number_in(input, 3) + 4 * number_in(input, 6);
+    let size = NUMBERS + number_in(input, 2) + 4 * number_in(input, 3) + 4 * number_in(input, 6);
     if input.len() < size { 0 } else { size }
 }
 
@@ -226,7 +228,7 @@ fn expect(case: &[u8], at: usize, count: usize, out: &mut [u32])
 
 // Whether a call returned the stored number and value.
 fn returned(case: &[u8], reply: Reply) -> bool
-    requires { ⌜ 14 ≤ length (now case) ⌝ }
+    requires { ⌜ numberBytes ≤ length (now case) ⌝ }
     ensures { λ r. ⌜ r ≡ toldIn (now (case .entry)) (reply .number) (reply .value) ⌝ }
 {
     if reply.number == number_in(case, 4) {
@@ -241,12 +243,13 @@ fn run(case: &[u8], words: &mut [u32], expected: &mut [u32], out: &mut [u32]) ->
     requires { ⌜ Fitted (now case) (now words) (now expected) (now out) ⌝ }
     ensures { λ r. ⌜ Ran (now (case .entry)) (now (expected .exit)) (now (out .exit)) r ⌝ }
 {
-    let start = 14 + number_in(case, 2);
+    let start = NUMBERS + number_in(case, 2);
     let end = start + 4 * words.len();
     read(case, start, words);
     expect(case, end, number_in(case, 6), expected);
     fill(out);
-    answer_to(number_in(case, 0), words, &case[14..start], out)
+    let sheet = number_in(case, 7) as u32;
+    answer_to(number_in(case, 0), sheet, words, &case[NUMBERS..start], out)
 }
 
 // The same, and whether it answers as stored.

@@ -1,5 +1,5 @@
 -- From a call's answer to the number that is returned. Assumes nothing.
-use mathlib.Core.Path.{_≡_, _∙_, ap, ap₂}
+use mathlib.Core.Path.{_≡_, _∙_, ap, ap₂, subst}
 use mathlib.Core.List.{List}
 use Prim.Native.Nat.{ℕ}
 use Rattle.model.specs.Calls as model
@@ -14,3 +14,8 @@ writes {a} s e =
       answer = e ∙ ap₂ returned (ap numberOf (s .answer-is) ∙ number-of a) (ap writtenOf (s .answer-is) ∙ written-of a);
       output-is = s .output-is;
     }
+
+-- The same of a call that is handed the number of a record.
+pub writes-under : (call : ℕ → model.Answer) {handed number : ℕ} {before after : List ℕ} {r : Answer} {n : ℕ} → handed ≡ number → Answered (call handed) before after r →
+    n ≡ returned (numberOf r) (writtenOf r) → Writes (call number) before after n
+writes-under call {before = before} {after} {n = n} same s e = subst (λ m. Writes (call m) before after n) same (writes s e)

@@ -39,60 +39,82 @@ fn counted(facts: Required) -> u64
     }
 }
 
-// Decides a sheet with a known table, and writes the record.
+// Decides a sheet with a known table, and writes the record, which carries the sheet's number.
 #[no_mangle]
-pub extern "C" fn vierskof_evaluate(sheet: &[u32], facts: &[u8], out: &mut [u32]) -> u64
-    ensures { λ r. ⌜ Writes (evaluate (now (sheet .entry)) (now (facts .entry)) (length (now (out .entry)))) (now (out .entry)) (now (out .exit)) r ⌝ }
+pub extern "C" fn vierskof_evaluate(
+    sheet: &[u32],
+    number: u32,
+    facts: &[u8],
+    out: &mut [u32],
+) -> u64
+    ensures { λ r. ⌜ Writes (evaluate number (now (sheet .entry)) (now (facts .entry)) (length (now (out .entry)))) (now (out .entry)) (now (out .exit)) r ⌝ }
 {
-    written(calls::evaluate(sheet, facts, out))
+    written(calls::evaluate(sheet, number, facts, out))
 }
 
-// Reduces a sheet with a table that may leave facts open, and writes the record.
+// Reduces a sheet with a table that may leave facts open, and writes the record, which carries the sheet's number.
 #[no_mangle]
-pub extern "C" fn vierskof_partial_evaluate(sheet: &[u32], facts: &[u8], out: &mut [u32]) -> u64
-    ensures { λ r. ⌜ Writes (partialEvaluate permitsFirst (now (sheet .entry)) (now (facts .entry)) (length (now (out .entry)))) (now (out .entry)) (now (out .exit)) r ⌝ }
+pub extern "C" fn vierskof_partial_evaluate(
+    sheet: &[u32],
+    number: u32,
+    facts: &[u8],
+    out: &mut [u32],
+) -> u64
+    ensures { λ r. ⌜ Writes (partialEvaluate permitsFirst number (now (sheet .entry)) (now (facts .entry)) (length (now (out .entry)))) (now (out .entry)) (now (out .exit)) r ⌝ }
 {
-    written(calls::partial_evaluate(sheet, facts, out))
+    written(calls::partial_evaluate(sheet, number, facts, out))
 }
 
 // Reduces a sheet, and leaves arms in sheet order.
 #[no_mangle]
 pub extern "C" fn vierskof_partial_evaluate_in_order(
     sheet: &[u32],
+    number: u32,
     facts: &[u8],
     out: &mut [u32],
 ) -> u64
-    ensures { λ r. ⌜ Writes (partialEvaluate sheetOrder (now (sheet .entry)) (now (facts .entry)) (length (now (out .entry)))) (now (out .entry)) (now (out .exit)) r ⌝ }
+    ensures { λ r. ⌜ Writes (partialEvaluate sheetOrder number (now (sheet .entry)) (now (facts .entry)) (length (now (out .entry)))) (now (out .entry)) (now (out .exit)) r ⌝ }
 {
-    written(calls::partial_evaluate_in_order(sheet, facts, out))
+    written(calls::partial_evaluate_in_order(sheet, number, facts, out))
 }
 
-// Narrows a record by a table of further facts, and writes the record that results.
+// Narrows a record of the sheet that has the number by a table of further facts, and writes the record that results.
 #[no_mangle]
-pub extern "C" fn vierskof_narrow_residual(residual: &[u32], facts: &[u8], out: &mut [u32]) -> u64
-    ensures { λ r. ⌜ Writes (narrowResidual permitsFirst (now (residual .entry)) (now (facts .entry)) (length (now (out .entry)))) (now (out .entry)) (now (out .exit)) r ⌝ }
+pub extern "C" fn vierskof_narrow_residual(
+    residual: &[u32],
+    number: u32,
+    facts: &[u8],
+    out: &mut [u32],
+) -> u64
+    ensures { λ r. ⌜ Writes (narrowResidual permitsFirst number (now (residual .entry)) (now (facts .entry)) (length (now (out .entry)))) (now (out .entry)) (now (out .exit)) r ⌝ }
 {
-    written(calls::narrow_residual(residual, facts, out))
+    written(calls::narrow_residual(residual, number, facts, out))
 }
 
 // Narrows a record, and leaves arms in sheet order.
 #[no_mangle]
 pub extern "C" fn vierskof_narrow_residual_in_order(
     residual: &[u32],
+    number: u32,
     facts: &[u8],
     out: &mut [u32],
 ) -> u64
-    ensures { λ r. ⌜ Writes (narrowResidual sheetOrder (now (residual .entry)) (now (facts .entry)) (length (now (out .entry)))) (now (out .entry)) (now (out .exit)) r ⌝ }
+    ensures { λ r. ⌜ Writes (narrowResidual sheetOrder number (now (residual .entry)) (now (facts .entry)) (length (now (out .entry)))) (now (out .entry)) (now (out .exit)) r ⌝ }
 {
-    written(calls::narrow_residual_in_order(residual, facts, out))
+    written(calls::narrow_residual_in_order(residual, number, facts, out))
 }
 
-// Completes a record with a known table, and writes the record that results.
+// Completes a record of the sheet that has the number with a known table, and writes the record that results.
 #[no_mangle]
-pub extern "C" fn vierskof_complete_residual(residual: &[u32], facts: &[u8], out: &mut [u32]) -> u64
-    ensures { λ r. ⌜ Writes (completeResidual (now (residual .entry)) (now (facts .entry)) (length (now (out .entry)))) (now (out .entry)) (now (out .exit)) r ⌝ }
+pub extern "C" fn vierskof_complete_residual(
+    residual: &[u32],
+    number: u32,
+    facts: &[u8],
+    out: &mut [u32],
+) -> u64
+    ensures { λ r. ⌜ Writes (completeResidual number (now (residual .entry)) (now (facts .entry)) (length (now (out .entry)))) (now (out .entry)) (now (out .exit)) r ⌝ }
 {
-    written(calls::complete_residual(residual, facts, out))
+    written(calls::complete_residual(residual, number, facts, out))
 }
 
 // The facts that a sheet names: their count, and their set in `set`, sixteen numbers, fact 0 the top bit of the first.

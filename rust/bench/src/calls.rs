@@ -133,7 +133,7 @@ fn writes(
 fn writing<'a>(proved: Writer, words: &'a [u32], table: &'a [u8]) -> impl FnMut() + 'a {
     let mut out = vec![0; RECORD_WORDS];
     move || {
-        let written = proved(black_box(words), black_box(table), &mut out);
+        let written = proved(black_box(words), 0, black_box(table), &mut out);
         black_box(written).expect("accepted");
     }
 }
@@ -249,6 +249,7 @@ fn same_answers(call: Call, words: &[u32], table: &[u8]) -> Case {
         call,
         table: table.to_vec(),
         words: words.to_vec(),
+        number: 0,
         room: RECORD_WORDS,
     };
     assert!(agrees(&case), "{} differs from the original", call.name());

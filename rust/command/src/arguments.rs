@@ -101,6 +101,11 @@ pub struct Call {
     /// The facts.
     #[command(flatten)]
     pub facts: Facts,
+    /// The sheet's number, 0 to 65535; 0 is that of a sheet without one.
+    ///
+    /// The record that is written carries it. Narrow and complete take only a record that carries it already.
+    #[arg(long, value_name = "NUMBER", default_value = "0", value_parser = sheet)]
+    pub sheet: u16,
     /// The form of the record that is written.
     #[arg(long, value_name = "FORM", default_value = "text")]
     pub to: Form,
@@ -216,6 +221,10 @@ pub struct Facts {
     /// A fact table's bytes in hexadecimal, taken as they are.
     #[arg(long, value_name = "BYTES", conflicts_with = "facts", value_parser = facts::bytes)]
     pub table_hex: Option<Bytes>,
+}
+
+fn sheet(text: &str) -> Result<u16, String> {
+    numbers::sheet(text).map_err(|due| format!("{due} is due"))
 }
 
 fn day(text: &str) -> Result<u32, String> {

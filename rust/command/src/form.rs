@@ -24,7 +24,7 @@ pub enum Form {
 }
 
 impl Form {
-    /// The form of these bytes. Every sheet and record has a zero byte in its binary form, and no node of the text form is a hexadecimal number.
+    /// The form of these bytes. Every sheet and record has a byte below 4 in its binary form, and no node of the text form is a hexadecimal number.
     pub fn of(bytes: &[u8]) -> Self {
         match str::from_utf8(bytes) {
             Ok(text) if is_plain(text) => Self::of_text(text),

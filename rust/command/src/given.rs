@@ -112,8 +112,18 @@ impl Given {
             Refusal::Level | Refusal::Field | Refusal::WordsAfterTree => {
                 Some(self.word(self.stops(refusal, due)))
             }
+            Refusal::SheetNumber => self.sheet(),
             _ => None,
         }
+    }
+
+    /// Which sheet a record is of.
+    fn sheet(&self) -> Option<String> {
+        let number = Record::read(&self.words).ok()?.number();
+        Some(match number {
+            0 => "the record has no sheet number".to_owned(),
+            number => format!("the record is of sheet {number}"),
+        })
     }
 
     /// Why no sheet or record has so many words.

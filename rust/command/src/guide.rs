@@ -33,7 +33,10 @@ What a sheet is
 What a record is
   A record is what facts have made of a sheet. A resolved record holds the
   decision, and why. A pending record holds what is left of the policy, and
-  shows which facts it still needs. Both hold the facts that were consulted.
+  shows which facts it still needs. Both hold the facts that were consulted,
+  and the number of the sheet: --sheet gives it to evaluate and reduce, and
+  narrow and complete take only a record of the sheet that it names. Without
+  it the number is 0, that of a sheet without one.
 
 What a register is
   A register tells which of its numbered sheets is in force for a group on a
@@ -66,8 +69,9 @@ The text form
     not               true if the one condition under it is false
     all, any          true if all are, or any is; false with none under it
     always, never     true, false
-  A record begins with the line resolved or pending and, if facts were
-  consulted, a line such as
+  A record begins with the line resolved or pending, which says the number of
+  its sheet if it has one, and, if facts were consulted, a second line:
+    pending sheet 7
     consulted 5=present,6=absent
   Then comes its tree, in which what is decided stands as
     permit-with-trace 0003 label 4 obligations 7 facts 5,6

@@ -32,6 +32,11 @@ pub fn reason(text: &str) -> Result<Reason, &'static str> {
     reason.ok_or("a reason from 0 to 32767")
 }
 
+/// The number of a sheet.
+pub fn sheet(text: &str) -> Result<u16, &'static str> {
+    number(text).ok_or("a sheet's number from 0 to 65535")
+}
+
 /// A set of products.
 pub fn products(text: &str) -> Result<Products, &'static str> {
     let digits = text.len() == 4 && text.bytes().all(|byte| byte.is_ascii_hexdigit());

@@ -64,7 +64,7 @@ impl Done {
 }
 
 /// A proved call that writes a record.
-type Proved = for<'o> fn(&[u32], &[u8], &'o mut [u32]) -> Result<&'o [u32], Refusal>;
+type Proved = for<'o> fn(&[u32], u16, &[u8], &'o mut [u32]) -> Result<&'o [u32], Refusal>;
 
 /// Carries a command out; what a file is due to hold and none is named comes from `stdin`.
 pub fn run(arguments: &Arguments, stdin: impl Read) -> Result<Done, Failure> {
@@ -113,7 +113,7 @@ fn decide(
     let given = Given::read(&call.input, stdin)?;
     let table = table(&call.facts, rest)?;
     let mut out = vec![0; RECORD_WORDS];
-    let record = proved(&given.words, &table, &mut out).map_err(|refusal| {
+    let record = proved(&given.words, call.sheet, &table, &mut out).map_err(|refusal| {
         let fact = facts::faulty(&table, refusal);
         fact.map_or_else(
             || given.refused(refusal, due),

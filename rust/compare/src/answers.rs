@@ -46,9 +46,9 @@ pub fn joins(made_by: &str, joins: &[Join]) -> Vec<u8> {
     bytes
 }
 
-/// Seven 16-bit numbers: call, room, table bytes, words, number, value, answer words. Then the
-/// table, the words, and the words that stand first in the output afterwards, all most significant
-/// byte first. The rest of the output is as it was.
+/// Eight 16-bit numbers: call, room, table bytes, words, number, value, answer words, sheet number.
+/// Then the table, the words, and the words that stand first in the output afterwards, all most
+/// significant byte first. The rest of the output is as it was.
 pub fn stored(case: &Case, answer: &Result<Answer, Refusal>) -> Vec<u8> {
     let number = answer
         .as_ref()
@@ -67,6 +67,7 @@ pub fn stored(case: &Case, answer: &Result<Answer, Refusal>) -> Vec<u8> {
         usize::from(number),
         value,
         words.len(),
+        case.number as usize,
     ];
     let mut bytes = Vec::new();
     for number in numbers {
@@ -88,7 +89,7 @@ pub fn asked(question: &Question) -> Vec<u8> {
     let value = (returned & 0xFFFF_FFFF) as u32;
     let words = u16::try_from(question.words.len()).expect("a stored number has 16 bits");
     let call = u16::try_from(Call::ALL.len()).expect("few calls");
-    let head = [call, 0, 8, words, number, 0, 1];
+    let head = [call, 0, 8, words, number, 0, 1, 0];
     let mut bytes: Vec<u8> = head.into_iter().flat_map(u16::to_be_bytes).collect();
     let given = [question.group, question.day].into_iter();
     for word in given.chain(question.words.iter().copied()).chain([value]) {
@@ -119,15 +120,16 @@ fn halves(set: &FactSet) -> Vec<u32> {
     set.0.iter().flat_map(halves).collect()
 }
 
-/// `CALL TABLE WORDS ROOM NUMBER ANSWER`.
+/// `CALL SHEET-NUMBER TABLE WORDS ROOM NUMBER ANSWER`.
 pub fn line(case: &Case, answer: &Result<Answer, Refusal>) -> String {
     let (number, answer) = match answer {
         Ok(answer) => (0, shown(answer)),
         Err(refusal) => (refusal.number(), "-".to_owned()),
     };
     format!(
-        "{} {} {} {} {number} {answer}",
+        "{} {} {} {} {} {number} {answer}",
         case.call.name(),
+        case.number,
         or_dash(hex(&case.table, 2)),
         or_dash(hex(&case.words, 8)),
         case.room,

@@ -1,8 +1,9 @@
 //! A call with its input, and its answer.
 
 use crate::narrow::Order;
-use crate::reference::{self, FactSet};
+use crate::reference::{self, FactSet, Writing};
 use crate::refusal::Refusal;
+use crate::words::write;
 
 /// One of document 01's nine calls, or of request 8's two. Stored answers number them in this order.
 #[derive(Clone, Copy, Debug, PartialEq, Eq)]
@@ -100,7 +101,7 @@ impl Call {
     }
 }
 
-/// A call and what it is given. Calls that write nothing have an empty table and no room.
+/// A call and what it is given. Calls that write nothing have number 0, an empty table and no room.
 #[derive(Clone, Debug, PartialEq, Eq)]
 pub struct Case {
     /// Which call.
@@ -109,6 +110,8 @@ pub struct Case {
     pub table: Vec<u8>,
     /// The sheet's or record's words.
     pub words: Vec<u32>,
+    /// The number of the sheet, or of the one that the record is expected to be of.
+    pub number: u32,
     /// The output's length in words.
     pub room: usize,
 }
@@ -127,18 +130,14 @@ pub enum Answer {
 impl Case {
     /// The call's answer, or why it is turned back.
     pub fn answer(&self) -> Result<Answer, Refusal> {
-        let (words, table, room) = (&self.words, &self.table, self.room);
+        let words = &self.words;
+        let written =
+            |call: Writing| call(words, self.number, &self.table, self.room).map(Answer::Record);
         match self.call {
-            Call::Evaluate => reference::evaluate(words, table, room).map(Answer::Record),
-            Call::PartialEvaluate => {
-                reference::partial_evaluate(words, table, room).map(Answer::Record)
-            }
-            Call::NarrowResidual => {
-                reference::narrow_residual(words, table, room).map(Answer::Record)
-            }
-            Call::CompleteResidual => {
-                reference::complete_residual(words, table, room).map(Answer::Record)
-            }
+            Call::Evaluate => written(reference::evaluate),
+            Call::PartialEvaluate => written(reference::partial_evaluate),
+            Call::NarrowResidual => written(reference::narrow_residual),
+            Call::CompleteResidual => written(reference::complete_residual),
             Call::RequiredFacts => reference::required_facts(words).map(Answer::Facts),
             Call::RequiredResidualFacts => {
                 reference::required_residual_facts(words).map(Answer::Facts)
@@ -146,12 +145,23 @@ impl Case {
             Call::IsPermitConstant => reference::is_permit_constant(words).map(Answer::Says),
             Call::IsDenyConstant => reference::is_deny_constant(words).map(Answer::Says),
             Call::CarriesObligation => reference::carries_obligation(words).map(Answer::Says),
-            Call::PartialEvaluateInOrder => {
-                reference::partial_evaluate_in_order(words, table, room).map(Answer::Record)
-            }
-            Call::NarrowResidualInOrder => {
-                reference::narrow_residual_in_order(words, table, room).map(Answer::Record)
-            }
+            Call::PartialEvaluateInOrder => written(reference::partial_evaluate_in_order),
+            Call::NarrowResidualInOrder => written(reference::narrow_residual_in_order),
+        }
+    }
+
+    /// The same of a sheet without a number: the number is 0, and the record, if it is one, has none.
+    #[must_use]
+    pub fn unnumbered(&self) -> Self {
+        let words = self.words.clone();
+        Self {
+            number: 0,
+            words: if self.call.reads_sheet() {
+                words
+            } else {
+                write::numbered(0, words)
+            },
+            ..self.clone()
         }
     }
 }

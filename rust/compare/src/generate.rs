@@ -7,6 +7,7 @@ pub mod exhaustive;
 pub mod grow;
 pub mod joins;
 pub mod limits;
+pub mod numbers;
 pub mod registers;
 pub mod rng;
 pub mod tables;

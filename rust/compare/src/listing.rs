@@ -17,7 +17,7 @@ pub fn listing(input: &[u8]) -> Vec<u8> {
 
 fn decided(input: &[u8]) -> Result<(Vec<Entry>, Decided), Refusal> {
     let (sheet, table) = parts(input)?;
-    let words = reference::evaluate(&sheet, table, RECORD_WORDS)?;
+    let words = reference::evaluate(&sheet, 0, table, RECORD_WORDS)?;
     match read::record(&words)? {
         Record::Resolved { consulted, decided } => Ok((consulted, decided)),
         Record::Pending { .. } => unreachable!("evaluation resolves"),

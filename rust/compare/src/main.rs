@@ -160,17 +160,26 @@ impl Sample {
     }
 }
 
+/// A stored number has 16 bits, so the greatest stands for those that no record carries.
+fn storable(mut cases: Vec<Case>) -> Vec<Case> {
+    for case in &mut cases {
+        case.number = case.number.min(0xFFFF);
+    }
+    cases
+}
+
 fn main() -> io::Result<()> {
     match Arguments::parse().command {
         Command::Answers { sample } => {
             let cases = [worked::cases(), sample.cases(&ANSWERED)].concat();
+            let cases = storable(cases);
             sample.write(&answers::file(&sample.command("answers"), &cases))
         }
         Command::Calls { sample } => {
             let limits = limits::cases(&mut Rng::new(sample.seed));
             let repeating = cases::draw_repeating(sample.seed, sample.count / 10, &Call::ALL);
             let others = cases::draw(sample.seed, sample.count - repeating.len(), &Call::ALL);
-            let cases = [limits, repeating, others].concat();
+            let cases = storable([limits, repeating, others].concat());
             let mut bytes = answers::file(&sample.command("calls"), &cases);
             let questions = registers::draw(sample.seed, sample.count / 10);
             questions.for_each(|question| bytes.extend(answers::asked(&question)));
@@ -198,10 +207,11 @@ fn main() -> io::Result<()> {
 #[cfg(feature = "proved")]
 fn proved(sample: &Sample) -> io::Result<()> {
     use compare::proved;
+    use compare::refusal::Refusal;
     use compare::repeats::Tally;
 
     const BATCH: usize = 20_000;
-    let mut half_known = 0;
+    let [mut half_known, mut numbered, mut of_others] = [0; 3];
     let mut met = Tally::default();
     for (batch, first) in (0..sample.count).step_by(BATCH).enumerate() {
         let count = BATCH.min(sample.count - first);
@@ -214,12 +224,15 @@ fn proved(sample: &Sample) -> io::Result<()> {
         let others = cases::draw(seed, count - drawn, &Call::ALL);
         let batch = [others, wide, several, layered, repeating];
         for case in batch.into_iter().flatten() {
+            let answer = case.answer();
             if !proved::agrees(&case) {
-                let line = answers::line(&case, &case.answer());
+                let line = answers::line(&case, &answer);
                 return Err(io::Error::other(format!(
                     "differs from the original: {line}"
                 )));
             }
+            numbered += usize::from(case.number > 0 && answer.is_ok());
+            of_others += usize::from(answer == Err(Refusal::SheetNumber));
             half_known += usize::from(cases::is_half_known(&case));
             met.add(&case);
         }
@@ -232,7 +245,7 @@ fn proved(sample: &Sample) -> io::Result<()> {
         }
     }
     println!(
-        "{} cases and {0} joins, seed {}: no difference; {half_known} with a known grant whose condition names an Unknown fact; {met}",
+        "{} cases and {0} joins, seed {}: no difference; {numbered} accepted under a number, {of_others} refused by 16; {half_known} with a known grant whose condition names an Unknown fact; {met}",
         sample.count, sample.seed
     );
     Ok(())

@@ -1,14 +1,19 @@
 //! The proved calls against the original, or against the comparison's own where it has no such call: answer, every word of the output before and after, sets and refusals.
 
+mod c;
+
 use crate::case::{Answer, Call, Case};
 use crate::join::Join;
 use crate::narrow::Order;
 use crate::refusal::Refusal;
 use crate::register::Question;
 use crate::windows;
+use crate::words::read::sheet_number;
+use crate::words::write::numbered;
 
-/// A proved call that takes words, a table and an output.
-pub type Writer = for<'o> fn(&[u32], &[u8], &'o mut [u32]) -> Result<&'o [u32], vierskof::Refusal>;
+/// A proved call that takes words, a sheet's number, a table and an output.
+pub type Writer =
+    for<'o> fn(&[u32], u16, &[u8], &'o mut [u32]) -> Result<&'o [u32], vierskof::Refusal>;
 
 /// The proved reduction and narrowing that hold arms in this order.
 pub fn pair(order: Order) -> (Writer, Writer) {
@@ -21,23 +26,36 @@ pub fn pair(order: Order) -> (Writer, Writer) {
     }
 }
 
-/// Whether the proved call answers as the original does, and leaves what it must.
+/// Whether the proved call answers as the original does, and leaves what it must; and whether it answers alike under a number and under 0.
 pub fn agrees(case: &Case) -> bool {
     let expected = case.answer();
     match case.call {
-        Call::Evaluate => writes(case, &expected, vierskof::evaluate),
-        Call::PartialEvaluate => writes(case, &expected, vierskof::partial_evaluate),
-        Call::NarrowResidual => writes(case, &expected, vierskof::narrow_residual),
-        Call::CompleteResidual => writes(case, &expected, vierskof::complete_residual),
+        Call::Evaluate => writes(case, &expected, vierskof::evaluate, c::evaluate),
+        Call::PartialEvaluate => {
+            let call = vierskof::partial_evaluate;
+            writes(case, &expected, call, c::partial_evaluate)
+        }
+        Call::NarrowResidual => {
+            let call = vierskof::narrow_residual;
+            writes(case, &expected, call, c::narrow_residual)
+        }
+        Call::CompleteResidual => {
+            let call = vierskof::complete_residual;
+            writes(case, &expected, call, c::complete_residual)
+        }
         Call::RequiredFacts => requires(case, &expected, vierskof::required_facts),
         Call::RequiredResidualFacts => requires(case, &expected, vierskof::required_residual_facts),
         Call::IsPermitConstant => says(case, &expected, vierskof::is_permit_constant),
         Call::IsDenyConstant => says(case, &expected, vierskof::is_deny_constant),
         Call::CarriesObligation => says(case, &expected, vierskof::carries_obligation),
         Call::PartialEvaluateInOrder => {
-            writes(case, &expected, vierskof::partial_evaluate_in_order)
+            let call = vierskof::partial_evaluate_in_order;
+            writes(case, &expected, call, c::partial_evaluate_in_order)
         }
-        Call::NarrowResidualInOrder => writes(case, &expected, vierskof::narrow_residual_in_order),
+        Call::NarrowResidualInOrder => {
+            let call = vierskof::narrow_residual_in_order;
+            writes(case, &expected, call, c::narrow_residual_in_order)
+        }
     }
 }
 
@@ -51,19 +69,59 @@ pub fn finds(question: &Question) -> bool {
     }
 }
 
-fn writes(case: &Case, expected: &Result<Answer, Refusal>, call: Writer) -> bool {
+fn writes(case: &Case, expected: &Result<Answer, Refusal>, call: Writer, beyond: c::Call) -> bool {
     // Words that no record has at these places, so that one that is wrongly written or left shows.
     let before: Vec<u32> = (0x0F0F_0F0F..).take(case.room).collect();
     let mut out = before.clone();
-    let found = call(&case.words, &case.table, &mut out).map(<[u32]>::to_vec);
-    match expected {
+    let found = match u16::try_from(case.number) {
+        Ok(number) => called(call(&case.words, number, &case.table, &mut out)),
+        Err(_) => told(
+            beyond(&case.words, case.number, &case.table, &mut out),
+            &out,
+        ),
+    };
+    let right = match expected {
         Ok(Answer::Record(record)) => {
             found.as_ref() == Ok(record)
                 && out[..record.len()] == record[..]
                 && out[record.len()..] == before[record.len()..]
         }
         Ok(_) => false,
-        Err(refusal) => refused(&found, *refusal) && out == before,
+        Err(refusal) => found == Err(u32::from(refusal.number())) && out == before,
+    };
+    right && is_masked(case, &found, call)
+}
+
+/// The record that a proved call wrote, or the number of its refusal.
+fn called(found: Result<&[u32], vierskof::Refusal>) -> Result<Vec<u32>, u32> {
+    found
+        .map(<[u32]>::to_vec)
+        .map_err(vierskof::Refusal::number)
+}
+
+/// The same of what the C interface returned.
+fn told(returned: u64, out: &[u32]) -> Result<Vec<u32>, u32> {
+    let (number, words) = ((returned >> 32) as u32, (returned & 0xFFFF_FFFF) as u32);
+    if number == 0 {
+        Ok(out[..words as usize].to_vec())
+    } else {
+        Err(number)
+    }
+}
+
+/// Whether the call answers under 0 as it does under a number, but for the sixteen bits of the number. Where that is another sheet's, there is an answer
+/// under 0, or no room for it.
+fn is_masked(case: &Case, found: &Result<Vec<u32>, u32>, call: Writer) -> bool {
+    let mut out = vec![0; case.room];
+    let plain = called(call(&case.unnumbered().words, 0, &case.table, &mut out));
+    match (found, plain) {
+        (Ok(record), Ok(plain)) => {
+            sheet_number(record) == case.number
+                && sheet_number(&plain) == 0
+                && numbered(0, record.clone()) == plain
+        }
+        (Err(16), plain) => matches!(plain, Ok(_) | Err(11)),
+        (found, plain) => *found == plain,
     }
 }
 

@@ -1,6 +1,6 @@
 //! Document 01's nine calls and request 8's two. All but narrowing, and reduction in sheet order, are answered by the original.
 //!
-//! A call that writes takes the room of its output in words and gives the record's words;
+//! A call that writes takes the number of a sheet, which the original never sees, and the room of its output in words, and gives the record's words;
 //! [`put`] brings them, or a refusal, to an output.
 
 use std::collections::BTreeSet;
@@ -38,8 +38,8 @@ fn place(fact: u16) -> (usize, u64) {
     (usize::from(fact / 64), 1 << (63 - fact % 64))
 }
 
-/// A call that writes: words, a table, and the room of the output in words.
-pub type Writing = fn(&[u32], &[u8], usize) -> Result<Vec<u32>, Refusal>;
+/// A call that writes: words, a sheet's number, a table, and the room of the output in words.
+pub type Writing = fn(&[u32], u32, &[u8], usize) -> Result<Vec<u32>, Refusal>;
 
 /// The reduction and the narrowing that hold arms in this order.
 pub fn pair(order: Order) -> (Writing, Writing) {
@@ -50,56 +50,83 @@ pub fn pair(order: Order) -> (Writing, Writing) {
 }
 
 /// Decides a sheet in one sitting.
-pub fn evaluate(sheet: &[u32], table: &[u8], room: usize) -> Result<Vec<u32>, Refusal> {
+pub fn evaluate(
+    sheet: &[u32],
+    number: u32,
+    table: &[u8],
+    room: usize,
+) -> Result<Vec<u32>, Refusal> {
     read::sheet_length(sheet)?;
     let facts = convert::known_facts(&Table::known(table)?);
     let policy = convert::to_policy(&read::sheet(sheet)?);
+    let number = carried(number)?;
     let decision = gatekeep::evaluate(&policy, &facts);
-    fitted(&convert::from_decision(&decision), room)
+    fitted(&convert::from_decision(&decision), number, room)
 }
 
 /// Decides a sheet as far as a partial table goes.
-pub fn partial_evaluate(sheet: &[u32], table: &[u8], room: usize) -> Result<Vec<u32>, Refusal> {
+pub fn partial_evaluate(
+    sheet: &[u32],
+    number: u32,
+    table: &[u8],
+    room: usize,
+) -> Result<Vec<u32>, Refusal> {
     read::sheet_length(sheet)?;
     let facts = convert::partial_facts(&Table::partial(table)?);
     let policy = convert::to_policy(&read::sheet(sheet)?);
+    let number = carried(number)?;
     let residual = gatekeep::partial_evaluate(&policy, &facts);
-    fitted(&convert::from_residual(&residual), room)
+    fitted(&convert::from_residual(&residual), number, room)
 }
 
 /// Decides a record further, as far as a partial table goes.
-pub fn narrow_residual(record: &[u32], table: &[u8], room: usize) -> Result<Vec<u32>, Refusal> {
-    narrowed(record, table, room, Order::PermitsFirst)
+pub fn narrow_residual(
+    record: &[u32],
+    number: u32,
+    table: &[u8],
+    room: usize,
+) -> Result<Vec<u32>, Refusal> {
+    narrowed(record, number, table, room, Order::PermitsFirst)
 }
 
 /// Decides a sheet as far as a partial table goes, and leaves arms in sheet order.
 pub fn partial_evaluate_in_order(
     sheet: &[u32],
+    number: u32,
     table: &[u8],
     room: usize,
 ) -> Result<Vec<u32>, Refusal> {
     read::sheet_length(sheet)?;
     let table = Table::partial(table)?;
     let tree = read::sheet(sheet)?.into();
-    fitted(&narrow::reduce(&[], &tree, &table, Order::SheetOrder), room)
+    let number = carried(number)?;
+    let reduced = narrow::reduce(&[], &tree, &table, Order::SheetOrder);
+    fitted(&reduced, number, room)
 }
 
 /// Decides a record further, as far as a partial table goes, and leaves arms in the record's order.
 pub fn narrow_residual_in_order(
     record: &[u32],
+    number: u32,
     table: &[u8],
     room: usize,
 ) -> Result<Vec<u32>, Refusal> {
-    narrowed(record, table, room, Order::SheetOrder)
+    narrowed(record, number, table, room, Order::SheetOrder)
 }
 
 /// Decides a record to its end.
-pub fn complete_residual(record: &[u32], table: &[u8], room: usize) -> Result<Vec<u32>, Refusal> {
+pub fn complete_residual(
+    record: &[u32],
+    number: u32,
+    table: &[u8],
+    room: usize,
+) -> Result<Vec<u32>, Refusal> {
     read::record_length(record)?;
     let facts = convert::known_facts(&Table::known(table)?);
     let residual = convert::to_residual(&read::record(record)?);
+    let number = expected(record, number)?;
     let decision = gatekeep::complete_residual(&residual, &facts);
-    fitted(&convert::from_decision(&decision), room)
+    fitted(&convert::from_decision(&decision), number, room)
 }
 
 /// The facts that a sheet's conditions name.
@@ -138,11 +165,32 @@ pub fn put(given: Result<&[u32], Refusal>, output: &mut [u32]) -> Result<usize, 
     Ok(words.len())
 }
 
-fn narrowed(record: &[u32], table: &[u8], room: usize, order: Order) -> Result<Vec<u32>, Refusal> {
-    read::record_length(record)?;
+fn narrowed(
+    words: &[u32],
+    number: u32,
+    table: &[u8],
+    room: usize,
+    order: Order,
+) -> Result<Vec<u32>, Refusal> {
+    read::record_length(words)?;
     let table = Table::partial(table)?;
-    let record = read::record(record)?;
-    fitted(&narrow::narrow(&record, &table, order), room)
+    let record = read::record(words)?;
+    let number = expected(words, number)?;
+    fitted(&narrow::narrow(&record, &table, order), number, room)
+}
+
+/// The number for the record that is to be written, if one can carry it.
+fn carried(number: u32) -> Result<u16, Refusal> {
+    u16::try_from(number).map_err(|_| Refusal::SheetNumber)
+}
+
+/// The number that a record is expected to carry, if it does.
+fn expected(record: &[u32], number: u32) -> Result<u16, Refusal> {
+    if read::sheet_number(record) == number {
+        carried(number)
+    } else {
+        Err(Refusal::SheetNumber)
+    }
 }
 
 /// The record's tree as the original's residual. The original asks its questions of residuals
@@ -154,13 +202,13 @@ fn top(words: &[u32]) -> Result<ResidualPolicy<Products>, Refusal> {
     })
 }
 
-/// The record's words, unless the output or the format has no room for them.
-fn fitted(record: &Record, room: usize) -> Result<Vec<u32>, Refusal> {
+/// The record's words under a number, unless the output or the format has no room for them.
+fn fitted(record: &Record, number: u16, room: usize) -> Result<Vec<u32>, Refusal> {
     // A list that its count can't hold has no words, so this comes before writing.
     if !record.is_countable() {
         return Err(Refusal::Room);
     }
-    let words = write::record(record);
+    let words = write::numbered(number, write::record(record));
     if words.len() > room.min(RECORD_WORDS) {
         return Err(Refusal::Room);
     }

@@ -32,6 +32,8 @@ pub enum Refusal {
     Clash = 14,
     /// Words that are no register of sheets.
     Register = 15,
+    /// Record of another sheet, or a number that no record carries.
+    SheetNumber = 16,
 }
 
 impl Refusal {

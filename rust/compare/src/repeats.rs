@@ -4,6 +4,7 @@ use std::fmt;
 
 use crate::case::Case;
 use crate::narrow::{self, Union};
+use crate::refusal::Refusal;
 use crate::words::table::Table;
 use crate::words::tree::{Decided, Record};
 use crate::words::{TRACE_OBLIGATIONS, read};
@@ -55,13 +56,17 @@ impl Tally {
         self.stored[0] += count((65..126).any(|length| long(&stored, length)));
         self.stored[1] += count(long(&stored, 126));
         self.stored[2] += count(long(&stored, 127));
+        let answer = case.answer();
+        if answer == Err(Refusal::SheetNumber) {
+            return;
+        }
         let Some((resulting, unions)) = walked(case, &record) else {
             return;
         };
         self.appended_before += count(unions.iter().any(appends_once));
         self.onto_repeats += count(unions.iter().any(|union| has_repeat(&union.held)));
         let resulting = self::stored(&resulting);
-        let accepted = case.answer().is_ok();
+        let accepted = answer.is_ok();
         for (at, length) in JOINED.into_iter().enumerate() {
             if unions.iter().any(|union| union.list().len() == length) {
                 let kept = long(&resulting, length);

@@ -6,7 +6,7 @@ use crate::refusal::Refusal;
 const HEAD: &str = "\
 use mathlib.Core.List.{List, [], _∷_}
 use Prim.Native.Nat.{ℕ}
-use Rattle.model.specs.Worked.{Row, evaluates, completes, reduces, narrows, reducesInOrder, narrowsInOrder, row, refuses, writes}
+use Rattle.model.specs.Worked.{Row, evaluates, completes, reduces, narrows, reducesInOrder, narrowsInOrder, rowUnder, refuses, writes}
 
 abbrev pub rows : List Row
 rows =
@@ -22,10 +22,11 @@ pub fn file(made_by: &str, cases: &[Case]) -> String {
     )
 }
 
-/// Call, room, table, given words and answer.
+/// Sheet number, call, room, table, given words and answer.
 fn row(case: &Case) -> String {
     format!(
-        "row {} {} {} {} {}",
+        "rowUnder {} {} {} {} {} {}",
+        case.number,
         constructor(case.call),
         case.room,
         list(&case.table, |byte| format!("0x{byte:02X}")),

@@ -1,7 +1,7 @@
-//! Document 01's worked sheets as cases, and both sides of each limit that its case I names.
+//! Document 01's worked sheets as cases, both sides of each limit that its case I names, and request 6's numbers.
 
 use crate::case::{Call, Case};
-use crate::words::{LEVELS, RECORD_WORDS, SHEET_WORDS, TABLE_BYTES};
+use crate::words::{LEVELS, RECORD_WORDS, SHEET_WORDS, TABLE_BYTES, write};
 
 /// D's sheet: a grant of products 3 to whoever has fact 5.
 const D: [u32; 3] = [0x8800_0003, 0, 0x2000_0005];
@@ -33,9 +33,9 @@ const UNKNOWN: [u8; 2] = [0x00, 0x20];
 /// Room enough for every record.
 const ROOMY: usize = RECORD_WORDS;
 
-/// A to I.
+/// A to I, and D under numbers.
 pub fn cases() -> Vec<Case> {
-    [sheets(), outputs(), limits(), records()].concat()
+    [sheets(), outputs(), limits(), records(), numbers()].concat()
 }
 
 fn case(call: Call, words: &[u32], table: &[u8], room: usize) -> Case {
@@ -43,6 +43,7 @@ fn case(call: Call, words: &[u32], table: &[u8], room: usize) -> Case {
         call,
         table: table.to_vec(),
         words: words.to_vec(),
+        number: 0,
         room,
     }
 }
@@ -127,6 +128,31 @@ fn records() -> Vec<Case> {
     ]
     .map(|tree| case(Call::RequiredResidualFacts, &pending(tree), &[], 0))
     .to_vec()
+}
+
+/// Request 6: records with the number of their sheet, and refusals by 16 with what comes before and after it.
+fn numbers() -> Vec<Case> {
+    let f = &write::numbered(7, F.to_vec());
+    let resolved = [0xE000_7001, 0x4005_0000, 0xC000_0003, 1, 0x0005_0000];
+    let longer = [f.as_slice(), &[0]].concat();
+    let under = |number, case: Case| Case { number, ..case };
+    let completes =
+        |number, words: &[u32], room| under(number, case(Call::CompleteResidual, words, &[], room));
+    vec![
+        under(7, case(Call::Evaluate, &[0x6000_0001], &[], ROOMY)),
+        under(0xFFFF, case(Call::Evaluate, &[0x6000_0001], &[], ROOMY)),
+        under(7, case(Call::Evaluate, &D, &PRESENT, ROOMY)),
+        under(7, case(Call::PartialEvaluate, &D, &UNKNOWN, ROOMY)),
+        completes(7, f, ROOMY),
+        completes(8, f, ROOMY),
+        completes(0, f, 0),
+        completes(0, &longer, 0),
+        completes(7, &resolved, 5),
+        completes(7, &resolved, 4),
+        completes(0, &resolved, 4),
+        case(Call::RequiredResidualFacts, f, &[], 0),
+        case(Call::IsPermitConstant, &resolved, &[], 0),
+    ]
 }
 
 /// Lists within each other, with an empty one at the bottom.

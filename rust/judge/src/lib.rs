@@ -19,6 +19,7 @@ pub unsafe extern "C" fn judge_answer(
     call: usize,
     words: *const u32,
     count: usize,
+    number: u32,
     table: *const u8,
     bytes: usize,
     out: *mut u32,
@@ -39,6 +40,7 @@ pub unsafe extern "C" fn judge_answer(
         call,
         table: table.to_vec(),
         words: words.to_vec(),
+        number,
         room,
     };
     match case.answer() {
@@ -83,7 +85,7 @@ pub unsafe extern "C" fn judge_clause(
             slice::from_raw_parts(record, length),
         )
     };
-    let sitting = evaluate(sheet, known, RECORD_WORDS);
+    let sitting = evaluate(sheet, 0, known, RECORD_WORDS);
     sitting.is_ok_and(|sitting| clause(record).is_some_and(|found| clause(&sitting) == Some(found)))
 }
 

@@ -14,7 +14,7 @@ fn main() -> Result<(), Box<dyn std::error::Error>> {
 
     let facts = FactTable::new().with(LICENCE, Presence::Present);
     let mut out = [0; room(3)];
-    let record = evaluate(sheet.words(), facts.as_bytes(), &mut out)?;
+    let record = evaluate(sheet.words(), 0, facts.as_bytes(), &mut out)?;
     match Record::read(record)?.decision() {
         Some(Decision::Permit(permit)) => println!("permit {}", permit.outcome()),
         Some(Decision::Deny(deny)) => println!("deny, {}", deny.shape()),

@@ -5,26 +5,28 @@
 
 use crate::Date;
 
-/// Calls that write a record: words, a table and an output. The value is the count of words written.
+/// Calls that write a record: words, a sheet's number, a table and an output. The value is the count of words written.
 macro_rules! writes {
     ($($call:ident = $symbol:ident;)*) => {
         unsafe extern "C" {
             $(fn $symbol(
                 words: *const u32,
                 count: usize,
+                number: u32,
                 facts: *const u8,
                 bytes: usize,
                 out: *mut u32,
                 room: usize,
             ) -> u64;)*
         }
-        $(pub fn $call(words: &[u32], facts: &[u8], out: &mut [u32]) -> u64 {
+        $(pub fn $call(words: &[u32], number: u16, facts: &[u8], out: &mut [u32]) -> u64 {
             let room = out.len();
             // SAFETY: each pointer comes from a slice with that slice's length; the proved call reads and writes no further.
             unsafe {
                 $symbol(
                     words.as_ptr(),
                     words.len(),
+                    u32::from(number),
                     facts.as_ptr(),
                     facts.len(),
                     out.as_mut_ptr(),

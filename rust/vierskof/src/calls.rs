@@ -4,7 +4,7 @@ use crate::{Date, FactSet, Refusal, c};
 
 /// Decides a sheet with a known table: the Resolved record is the first words of `out`.
 ///
-/// Later words of `out` are left as they were, and so is all of it when the call is refused.
+/// The record carries the sheet's number, 0 if the sheet has none. Later words of `out` are left as they were, and so is all of it when the call is refused.
 ///
 /// # Errors
 ///
@@ -18,19 +18,25 @@ use crate::{Date, FactSet, Refusal, c};
 /// // Permit the products 0 and 1 if fact 5 is Present; it is.
 /// let sheet = [0x8800_0003, 0x0000_0000, 0x2000_0005];
 /// let mut out = [0; 8];
-/// let record = vierskof::evaluate(&sheet, &[0x00, 0x10], &mut out)?;
-/// assert_eq!(record, [0xE000_0001, 0x4005_0000, 0xC000_0003, 0x0000_0001, 0x0005_0000]);
+/// let record = vierskof::evaluate(&sheet, 7, &[0x00, 0x10], &mut out)?;
+/// assert_eq!(record, [0xE000_7001, 0x4005_0000, 0xC000_0003, 0x0000_0001, 0x0005_0000]);
+/// assert_eq!(Record::read(record)?.number(), 7);
 /// assert!(matches!(Record::read(record)?.decision(), Some(Decision::Permit(_))));
 /// # Ok::<(), vierskof::Refusal>(())
 /// ```
-pub fn evaluate<'o>(sheet: &[u32], facts: &[u8], out: &'o mut [u32]) -> Result<&'o [u32], Refusal> {
-    written(c::evaluate(sheet, facts, out), out)
+pub fn evaluate<'o>(
+    sheet: &[u32],
+    number: u16,
+    facts: &[u8],
+    out: &'o mut [u32],
+) -> Result<&'o [u32], Refusal> {
+    written(c::evaluate(sheet, number, facts, out), out)
 }
 
 /// Reduces a sheet with a table that may leave facts Unknown: the record is the first words of `out`.
 ///
-/// The record is Resolved if what is known decides the sheet; otherwise it is Pending, and its tree is what remains to be decided. The output is as with
-/// [`evaluate`].
+/// The record is Resolved if what is known decides the sheet; otherwise it is Pending, and its tree is what remains to be decided. Number and output are as
+/// with [`evaluate`].
 ///
 /// A relay that holds only some of the facts wants the table [`FactTable::unknown`](crate::FactTable::unknown) with these entered: what a table doesn't
 /// speak of is Absent, and an empty one decides the whole sheet.
@@ -47,43 +53,51 @@ pub fn evaluate<'o>(sheet: &[u32], facts: &[u8], out: &'o mut [u32]) -> Result<&
 /// let sheet = [0x8800_0003, 0x0000_0000, 0x2000_0005];
 /// let mut out = [0; 8];
 /// // Fact 5 is Unknown, so the grant remains.
-/// let record = vierskof::partial_evaluate(&sheet, FactTable::unknown().as_bytes(), &mut out)?;
-/// assert_eq!(record, [0xF000_0000, 0x8800_0003, 0x0000_0000, 0x2000_0005]);
+/// let record = vierskof::partial_evaluate(&sheet, 7, FactTable::unknown().as_bytes(), &mut out)?;
+/// assert_eq!(record, [0xF000_7000, 0x8800_0003, 0x0000_0000, 0x2000_0005]);
 /// # Ok::<(), vierskof::Refusal>(())
 /// ```
 pub fn partial_evaluate<'o>(
     sheet: &[u32],
+    number: u16,
     facts: &[u8],
     out: &'o mut [u32],
 ) -> Result<&'o [u32], Refusal> {
-    written(c::partial_evaluate(sheet, facts, out), out)
+    written(c::partial_evaluate(sheet, number, facts, out), out)
 }
 
 /// Narrows a record with a table of further facts: the new record is the first words of `out`.
 ///
-/// What the table leaves Unknown stays open; a Resolved record comes back equal. Output and table are as with [`partial_evaluate`].
+/// What the table leaves Unknown stays open; a Resolved record comes back equal. The number is that of the sheet that the record has to be of, and the new
+/// record carries it too; 0 is the number of a record without one, and not of any. Output and table are as with [`partial_evaluate`].
 ///
 /// # Errors
 ///
-/// [`Refusal::Length`] to [`Refusal::Room`], but not [`Refusal::UnknownFact`].
+/// [`Refusal::Length`] to [`Refusal::Room`], but not [`Refusal::UnknownFact`]; and [`Refusal::SheetNumber`].
 ///
 /// # Examples
 ///
 /// ```
+/// use vierskof::Refusal;
 /// use vierskof::read::{Record, Status};
 ///
-/// let pending = [0xF000_0000, 0x8800_0003, 0x0000_0000, 0x2000_0005];
+/// // Of sheet 7.
+/// let pending = [0xF000_7000, 0x8800_0003, 0x0000_0000, 0x2000_0005];
 /// let mut out = [0; 8];
-/// let record = vierskof::narrow_residual(&pending, &[0x00, 0x10], &mut out)?;
+/// let record = vierskof::narrow_residual(&pending, 7, &[0x00, 0x10], &mut out)?;
 /// assert_eq!(Record::read(record)?.status(), Status::Resolved);
+/// assert_eq!(Record::read(record)?.number(), 7);
+/// let other = vierskof::narrow_residual(&pending, 8, &[0x00, 0x10], &mut out);
+/// assert_eq!(other, Err(Refusal::SheetNumber));
 /// # Ok::<(), vierskof::Refusal>(())
 /// ```
 pub fn narrow_residual<'o>(
     record: &[u32],
+    number: u16,
     facts: &[u8],
     out: &'o mut [u32],
 ) -> Result<&'o [u32], Refusal> {
-    written(c::narrow_residual(record, facts, out), out)
+    written(c::narrow_residual(record, number, facts, out), out)
 }
 
 /// Reduces a sheet as [`partial_evaluate`] does, but leaves arms in sheet order.
@@ -94,7 +108,7 @@ pub fn narrow_residual<'o>(
 ///
 /// # Errors
 ///
-/// Every [`Refusal`] but [`Refusal::UnknownFact`].
+/// Those of [`partial_evaluate`].
 ///
 /// # Examples
 ///
@@ -102,25 +116,26 @@ pub fn narrow_residual<'o>(
 /// // All of a grant with obligation 7, on fact 5, and a permit.
 /// let sheet = [0x9000_0002, 0x8010_0001, 0, 0x0700_0000, 0x2000_0005, 0x6000_0001];
 /// let mut out = [0; 8];
-/// let record = vierskof::partial_evaluate_in_order(&sheet, &[0x00, 0x20], &mut out)?;
+/// let record = vierskof::partial_evaluate_in_order(&sheet, 0, &[0x00, 0x20], &mut out)?;
 /// // The grant stays before the permit, which is resolved.
 /// assert_eq!(record[2..6], sheet[1..5]);
 /// assert_eq!(record[6..], [0xC000_0001, 0x0000_0000]);
 ///
 /// // So its obligation is owed, as it is in one sitting.
 /// let mut completed = [0; 8];
-/// let completed = vierskof::complete_residual(record, &[0x00, 0x10], &mut completed)?;
+/// let completed = vierskof::complete_residual(record, 0, &[0x00, 0x10], &mut completed)?;
 /// let mut sitting = [0; 8];
-/// assert_eq!(Ok(completed), vierskof::evaluate(&sheet, &[0x00, 0x10], &mut sitting));
+/// assert_eq!(Ok(completed), vierskof::evaluate(&sheet, 0, &[0x00, 0x10], &mut sitting));
 /// assert_eq!(vierskof::carries_obligation(completed), Ok(true));
 /// # Ok::<(), vierskof::Refusal>(())
 /// ```
 pub fn partial_evaluate_in_order<'o>(
     sheet: &[u32],
+    number: u16,
     facts: &[u8],
     out: &'o mut [u32],
 ) -> Result<&'o [u32], Refusal> {
-    written(c::partial_evaluate_in_order(sheet, facts, out), out)
+    written(c::partial_evaluate_in_order(sheet, number, facts, out), out)
 }
 
 /// Narrows a record as [`narrow_residual`] does, but leaves arms in the order that it finds.
@@ -130,7 +145,7 @@ pub fn partial_evaluate_in_order<'o>(
 ///
 /// # Errors
 ///
-/// Every [`Refusal`] but [`Refusal::UnknownFact`].
+/// Those of [`narrow_residual`].
 ///
 /// # Examples
 ///
@@ -138,44 +153,46 @@ pub fn partial_evaluate_in_order<'o>(
 /// // An Any of a stored deny, a grant on fact 0 and a permit: what is resolved stays in its place.
 /// let pending = [0xF000_0000, 0xA000_0003, 0xD000_0000, 0, 0, 0x8000_0001, 0, 0x2000_0000, 0xC000_0001, 0];
 /// let mut out = [0; 16];
-/// let record = vierskof::narrow_residual_in_order(&pending, &[0x80], &mut out)?;
+/// let record = vierskof::narrow_residual_in_order(&pending, 0, &[0x80], &mut out)?;
 /// assert_eq!(record, pending);
 /// # Ok::<(), vierskof::Refusal>(())
 /// ```
 pub fn narrow_residual_in_order<'o>(
     record: &[u32],
+    number: u16,
     facts: &[u8],
     out: &'o mut [u32],
 ) -> Result<&'o [u32], Refusal> {
-    written(c::narrow_residual_in_order(record, facts, out), out)
+    written(c::narrow_residual_in_order(record, number, facts, out), out)
 }
 
 /// Completes a record with a known table: the Resolved record is the first words of `out`.
 ///
-/// A Resolved record comes back equal, whatever the table says. The output is as with [`evaluate`].
+/// A Resolved record comes back equal, whatever the table says. The number is as with [`narrow_residual`], the output as with [`evaluate`].
 ///
 /// # Errors
 ///
-/// [`Refusal::Length`] to [`Refusal::Room`].
+/// [`Refusal::Length`] to [`Refusal::Room`], and [`Refusal::SheetNumber`].
 ///
 /// # Examples
 ///
 /// ```
 /// use vierskof::read::{Decision, Record};
 ///
-/// let pending = [0xF000_0000, 0x8800_0003, 0x0000_0000, 0x2000_0005];
+/// let pending = [0xF000_7000, 0x8800_0003, 0x0000_0000, 0x2000_0005];
 /// let mut out = [0; 8];
 /// // Nothing is Present.
-/// let record = vierskof::complete_residual(&pending, &[], &mut out)?;
+/// let record = vierskof::complete_residual(&pending, 7, &[], &mut out)?;
 /// assert!(matches!(Record::read(record)?.decision(), Some(Decision::Deny(_))));
 /// # Ok::<(), vierskof::Refusal>(())
 /// ```
 pub fn complete_residual<'o>(
     record: &[u32],
+    number: u16,
     facts: &[u8],
     out: &'o mut [u32],
 ) -> Result<&'o [u32], Refusal> {
-    written(c::complete_residual(record, facts, out), out)
+    written(c::complete_residual(record, number, facts, out), out)
 }
 
 /// Joins two tables of one request: the table of what both know is the first bytes of `out`.

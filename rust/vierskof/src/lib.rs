@@ -19,7 +19,8 @@
 //! # In stages
 //!
 //! A field relay reduces the sheet with the facts it has, the district narrows the record with its
-//! own, and the archive completes it.
+//! own, and the archive completes it. The record carries the sheet's number on the way, so that
+//! neither takes it for one of another sheet.
 //!
 //! ```
 //! use vierskof::Presence::{Absent, Present};
@@ -44,6 +45,7 @@
 //! ];
 //! let mut words = [0; 32];
 //! let sheet = Policy::Any(&grants).write(&mut words)?;
+//! const NUMBER: u16 = 7;
 //!
 //! // Enough for every call of the chain.
 //! const ROOM: usize = vierskof::room(32);
@@ -51,18 +53,18 @@
 //! // The relay knows that this is no curator. All else is Unknown to it.
 //! let facts = FactTable::unknown().with(CURATOR, Absent);
 //! let mut out = [0; ROOM];
-//! let relayed = vierskof::partial_evaluate(sheet.words(), facts.as_bytes(), &mut out)?;
+//! let relayed = vierskof::partial_evaluate(sheet.words(), NUMBER, facts.as_bytes(), &mut out)?;
 //!
 //! // The district has the list of members.
 //! let facts = FactTable::unknown().with(MEMBER, Present);
 //! let mut out = [0; ROOM];
-//! let narrowed = vierskof::narrow_residual(relayed, facts.as_bytes(), &mut out)?;
+//! let narrowed = vierskof::narrow_residual(relayed, NUMBER, facts.as_bytes(), &mut out)?;
 //! assert!(vierskof::required_residual_facts(narrowed)?.iter().eq([SIGNED]));
 //!
 //! // The archive has everything. What it doesn't say isn't so.
 //! let facts = FactTable::new().with(MEMBER, Present).with(SIGNED, Present);
 //! let mut out = [0; ROOM];
-//! let completed = vierskof::complete_residual(narrowed, facts.as_bytes(), &mut out)?;
+//! let completed = vierskof::complete_residual(narrowed, NUMBER, facts.as_bytes(), &mut out)?;
 //! let Some(Decision::Permit(permit)) = Record::read(completed)?.decision() else {
 //!     panic!("signed members may read");
 //! };
@@ -71,7 +73,7 @@
 //!
 //! // One sitting with the same facts has the same effect and products.
 //! let mut out = [0; ROOM];
-//! let sitting = vierskof::evaluate(sheet.words(), facts.as_bytes(), &mut out)?;
+//! let sitting = vierskof::evaluate(sheet.words(), NUMBER, facts.as_bytes(), &mut out)?;
 //! let Some(Decision::Permit(direct)) = Record::read(sitting)?.decision() else {
 //!     panic!("signed members may read");
 //! };
@@ -92,7 +94,7 @@
 //! use vierskof::Refusal;
 //!
 //! let mut out = [0; 8];
-//! let refused = vierskof::evaluate(&[], &[], &mut out);
+//! let refused = vierskof::evaluate(&[], 0, &[], &mut out);
 //! assert_eq!(refused, Err(Refusal::Length));
 //! assert_eq!(Refusal::Length.number(), 1);
 //! ```

@@ -108,9 +108,10 @@ pub enum Status {
 /// ```
 /// use vierskof::read::{Decision, Reading, Record, Status};
 ///
-/// let words = [0xE000_0001, 0x4005_0000, 0xC000_0003, 0x0000_0001, 0x0005_0000];
+/// let words = [0xE000_7001, 0x4005_0000, 0xC000_0003, 0x0000_0001, 0x0005_0000];
 /// let record = Record::read(&words)?;
 /// assert_eq!(record.status(), Status::Resolved);
+/// assert_eq!(record.number(), 7);
 /// let read = record.consulted().next().expect("one fact was read");
 /// assert_eq!((read.fact.number(), read.reading), (5, Reading::Present));
 /// let Some(Decision::Permit(permit)) = record.decision() else {
@@ -151,6 +152,12 @@ impl<'w> Record<'w> {
         }
     }
 
+    /// The number of the sheet that the record is of; 0 if it has none.
+    #[must_use]
+    pub fn number(self) -> u16 {
+        (word(self.words, 0) >> 12 & 0xFFFF) as u16
+    }
+
     /// The facts that were read, in the order of reading.
     pub fn consulted(self) -> Consulted<'w> {
         let entries = count(word(self.words, 0));
@@ -179,6 +186,7 @@ impl fmt::Debug for Record<'_> {
     fn fmt(&self, f: &mut fmt::Formatter<'_>) -> fmt::Result {
         f.debug_struct("Record")
             .field("status", &self.status())
+            .field("number", &self.number())
             .field("consulted", &self.consulted())
             .field("tree", &self.tree())
             .finish()
@@ -223,7 +231,7 @@ mod tests {
             let record = Record { words };
             assert!(record.consulted().count() <= 4_095);
             assert!(parts(record.tree()) <= 2 * 4_095);
-            let _ = (record.status(), record.decision());
+            let _ = (record.status(), record.number(), record.decision());
         }
     }
 }

@@ -9,7 +9,7 @@ use crate::OutOfRange;
 ///
 /// The discriminant is the cause's number; 9 is free, and no call returns it. Where there are several causes, the call names the first
 /// that its reading meets: the length of the words, then the table, then the words from the first,
-/// then what follows them, then the room. A register has one cause alone. A join looks at both
+/// then what follows them, then a record's number, then the room. A register has one cause alone. A join looks at both
 /// lengths, both tables' fields, whether they clash, then the room. For windows it is the dates,
 /// the list, the table, the room.
 ///
@@ -55,6 +55,8 @@ pub enum Refusal {
     Clash = 14,
     /// The words are no register of sheets: an odd count of them or over 512, a field that must be 0 and isn't, or one group and number twice.
     Register = 15,
+    /// A record is of another sheet than the one that is expected.
+    SheetNumber = 16,
 }
 
 impl Refusal {
@@ -74,6 +76,7 @@ impl Refusal {
         Self::Windows,
         Self::Clash,
         Self::Register,
+        Self::SheetNumber,
     ];
 
     /// The number of the cause.
@@ -100,6 +103,7 @@ impl Refusal {
             }
             Self::Clash => "a fact is Present in one table and Absent in the other",
             Self::Register => "the words are no register of sheets",
+            Self::SheetNumber => "the record is not of the sheet that is expected",
         }
     }
 }

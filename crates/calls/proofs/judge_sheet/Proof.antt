@@ -18,8 +18,8 @@ returns-2 c = ap refusal (sym (too-many-words (length (c .before .before .before
 table-fault-requires : tie.Need-table-fault-requires
 table-fault-requires c κs = search needs
 
-enum-known-number : tie.Need-enum-known-number
-enum-known-number c = search needs
+enum-known-cause : tie.Need-enum-known-cause
+enum-known-cause c = search needs
 
 enum-told : tie.Need-enum-told
 enum-told c = search needs
@@ -31,7 +31,7 @@ returns-3 : tie.Need-returns-3
 returns-3 c =
     let fault = c .before .before .before in
     let left = fault .before in
-    ap refusal (sym (bad-table (length (left .before .before .before .before .args .sheet .now)) sheetWords _ _ (left .before .if1 .left) (left .if2 .left) _ (ap faultOf (sym (c .before .number .given .1)) ∙ fault .table-fault .ensures)))
+    ap refusal (sym (bad-table (length (left .before .before .before .before .args .sheet .now)) sheetWords _ _ (left .before .if1 .left) (left .if2 .left) _ (ap faultOf (sym (c .before .cause .given .1)) ∙ fault .table-fault .ensures)))
 
 returns-4 : tie.Need-returns-4
 returns-4 c =
@@ -47,7 +47,7 @@ judge-sheet-spec =
     returns
     returns-2
     table-fault-requires
-    enum-known-number
+    enum-known-cause
     enum-told
     check-sheet-requires
     returns-3

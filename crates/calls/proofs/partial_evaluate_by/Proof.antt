@@ -5,7 +5,7 @@ use Rattle.model.specs.Facts.{tableOf}
 use Rattle.policy_model.specs.Answers.{sheetRefusal}
 use Rattle.partial_policy.specs.Reducing.{orderOf}
 use Rattle.partial.specs.Answers.{reducedAfter}
-use Rattle.calls.proofs.Sheets.{sheet-few, sheet-refused, sheet-made}
+use Rattle.calls.proofs.Sheets.{sheet-few, sheet-number, sheet-refused, sheet-made}
 use borrow.Author.Needs.{needs}
 use Rattle.calls.proofs.partial_evaluate_by.Statement.{statement}
 use Rattle.calls.proofs.partial_evaluate_by.Tie as tie
@@ -13,8 +13,8 @@ use Rattle.calls.proofs.partial_evaluate_by.Tie as tie
 judge-sheet-requires : tie.Need-judge-sheet-requires
 judge-sheet-requires c κs = search needs
 
-enum-known-number : tie.Need-enum-known-number
-enum-known-number c = search needs
+enum-known-cause : tie.Need-enum-known-cause
+enum-known-cause c = search needs
 
 enum-told : tie.Need-enum-told
 enum-told c = search needs
@@ -24,13 +24,20 @@ reduce-requires c κs =
     let told = c .before in
     let judge = told .before .before in
     let args = judge .before .before .before .before .args in
-    sheet-few false (args .sheet .now) (args .facts .now) (ap sheetRefusal (sym (told .enum-told .given .1)) ∙ judge .judge-sheet .ensures)
+    sheet-few false (args .number) (args .sheet .now) (args .facts .now) (ap sheetRefusal (sym (told .enum-told .given .1)) ∙ judge .judge-sheet .ensures)
+
+under-number-requires : tie.Need-under-number-requires
+under-number-requires c κs =
+    let told = c .before .before .before .before .before in
+    let judge = told .before .before in
+    let args = judge .before .before .before .before .args in
+    sheet-number false (args .number) (args .sheet .now) (args .facts .now) (ap sheetRefusal (sym (told .enum-told .given .1)) ∙ judge .judge-sheet .ensures)
 
 returns : tie.Need-returns
 returns c =
     let judge = c .before .before .before in
     let args = judge .before .before .before .before .args in
-    sheet-refused false (args .sheet .now) (args .facts .now) (reducedAfter (orderOf (args .in-order)) (tableOf (args .facts .now))) (args .out .now) _ (ap sheetRefusal (sym (c .before .number .given .1)) ∙ judge .judge-sheet .ensures)
+    sheet-refused false (args .number) (args .sheet .now) (args .facts .now) (reducedAfter (orderOf (args .in-order)) (tableOf (args .facts .now))) (args .out .now) _ (ap sheetRefusal (sym (c .before .cause .given .1)) ∙ judge .judge-sheet .ensures)
 
 same-length : tie.Need-same-length
 same-length c = search needs
@@ -38,19 +45,21 @@ same-length c = search needs
 returns-2 : tie.Need-returns-2
 returns-2 c =
     let done = c .before .before in
-    let told = done .before .before in
+    let made = done .before .before .before .before in
+    let told = made .before .before in
     let judge = told .before .before in
     let args = judge .before .before .before .before .args in
-    sheet-made false (args .sheet .now) (args .facts .now) (reducedAfter (orderOf (args .in-order)) (tableOf (args .facts .now))) (args .out .now) (ap sheetRefusal (sym (told .enum-told .given .1)) ∙ judge .judge-sheet .ensures) (done .reduce .ensures)
+    sheet-made false (args .number) (args .sheet .now) (args .facts .now) (reducedAfter (orderOf (args .in-order)) (tableOf (args .facts .now))) (args .out .now) (ap sheetRefusal (sym (told .enum-told .given .1)) ∙ judge .judge-sheet .ensures) (made .reduce .ensures) (done .under-number .ensures)
 
 pub partial-evaluate-by-spec : {M : Type 1} → statement M
 partial-evaluate-by-spec =
     tie.close
     (tie.spec
     judge-sheet-requires
-    enum-known-number
+    enum-known-cause
     enum-told
     reduce-requires
+    under-number-requires
     returns
     same-length
     returns-2)

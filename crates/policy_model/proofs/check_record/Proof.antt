@@ -6,7 +6,7 @@ use denote.Ref.{now}
 use lib.ListN.{getD}
 use borrow.Author.Needs.{needs}
 use Rattle.policy_model.specs.Answers.{recordLead}
-use Rattle.policy_model.proofs.Whole.{no-record, long-record, other-record, record-count, record-entries, record-tree}
+use Rattle.policy_model.proofs.Whole.{no-record, long-record, other-record, record-entries, record-tree}
 use Rattle.policy_model.proofs.check_record.Statement.{statement}
 use Rattle.policy_model.proofs.check_record.Tie as tie
 
@@ -25,12 +25,6 @@ returns-3 c = other-record (now (c .before .before .before .before .before .args
 shared-slice-read-count : tie.Need-shared-slice-read-count
 shared-slice-read-count c = search needs
 
-returns-4 : tie.Need-returns-4
-returns-4 c =
-    let ws = now (c .before .before .before .before .before .before .before .args .words) in
-    let fits : getD ws 0 0 < 4294967296 = omega (arith, c .before .before .before .shared-slice-known2 .given 0) in
-    record-count ws (c .before .before .before .before .before .if1 .left) (c .before .before .before .before .if2 .left) (c .before .before .if3 .left) fits (c .if4 .taken)
-
 check-entries-requires : tie.Need-check-entries-requires
 check-entries-requires c κs = search needs
 
@@ -46,24 +40,24 @@ record-of-requires c κs = search needs
 enum-known-number : tie.Need-enum-known-number
 enum-known-number c = search needs
 
-returns-5 : tie.Need-returns-5
-returns-5 c =
-    let ws = now (c .before .before .before .before .before .before .before .before .before .before .before .before .before .args .words) in
-    let fits : getD ws 0 0 < 4294967296 = omega (arith, c .before .before .before .before .before .before .before .before .before .shared-slice-known2 .given 0) in
+returns-4 : tie.Need-returns-4
+returns-4 c =
+    let ws = now (c .before .before .before .before .before .before .before .before .before .before .before .before .args .words) in
+    let fits : getD ws 0 0 < 4294967296 = omega (arith, c .before .before .before .before .before .before .before .before .shared-slice-known2 .given 0) in
     let entries = c .before .before .before .before .before in
     ap recordLead (c .record-of .ensures)
-    ∙ record-tree ws (entries .before .before .before .before .before .before .if1 .left) (entries .before .before .before .before .before .if2 .left) (entries .before .before .before .if3 .left) fits _ _ (entries .before .if4 .left)
+    ∙ record-tree ws (entries .before .before .before .before .before .if1 .left) (entries .before .before .before .before .if2 .left) (entries .before .before .if3 .left) fits _ _
     (sym (c .before .before .before .tree .given .1) ∙ entries .check-entries .ensures) (c .before .check-body .ensures)
 
-returns-6 : tie.Need-returns-6
-returns-6 c =
-    let ws = now (c .before .before .before .before .before .before .before .before .before .before .before .args .words) in
-    let fits : getD ws 0 0 < 4294967296 = omega (arith, c .before .before .before .before .before .before .before .shared-slice-known2 .given 0) in
+returns-5 : tie.Need-returns-5
+returns-5 c =
+    let ws = now (c .before .before .before .before .before .before .before .before .before .before .args .words) in
+    let fits : getD ws 0 0 < 4294967296 = omega (arith, c .before .before .before .before .before .before .shared-slice-known2 .given 0) in
     let entries = c .before .before .before in
-    record-entries ws (entries .before .before .before .before .before .before .if1 .left) (entries .before .before .before .before .before .if2 .left) (entries .before .before .before .if3 .left) fits _ (entries .before .if4 .left)
+    record-entries ws (entries .before .before .before .before .before .if1 .left) (entries .before .before .before .before .if2 .left) (entries .before .before .if3 .left) fits _
     (sym (c .before .number .given .1) ∙ entries .check-entries .ensures)
 
 pub check-record-spec : {M : Type 1} → statement M
 check-record-spec =
     tie.close
-    (tie.spec returns returns-2 shared-slice-read-kind returns-3 shared-slice-read-count returns-4 check-entries-requires enum-known-tree check-body-requires record-of-requires enum-known-number returns-5 returns-6)
+    (tie.spec returns returns-2 shared-slice-read-kind returns-3 shared-slice-read-count check-entries-requires enum-known-tree check-body-requires record-of-requires enum-known-number returns-4 returns-5)

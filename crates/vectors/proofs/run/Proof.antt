@@ -5,7 +5,7 @@ use native.Mathlib.Omega.{arith}
 use lib.ListN.{length, take, drop}
 use Rattle.listing.specs.Inputs.{wordsIn}
 use Rattle.vectors.specs.Words.{marks}
-use Rattle.vectors.specs.Stored.{numberIn, answerAt}
+use Rattle.vectors.specs.Stored.{numberBytes, numberIn, answerAt}
 use Rattle.vectors.proofs.Agreeing.{replied-in, expected-same}
 use borrow.Author.Needs.{needs}
 use Rattle.vectors.proofs.run.Statement.{statement}
@@ -38,6 +38,12 @@ fill-requires c κs = search needs
 number-in-requires-3 : tie.Need-number-in-requires-3
 number-in-requires-3 c κs = search needs
 
+cast-sheet : tie.Need-cast-sheet
+cast-sheet c = search needs
+
+number-in-requires-4 : tie.Need-number-in-requires-4
+number-in-requires-4 c κs = search needs
+
 sub-answer-to : tie.Need-sub-answer-to
 sub-answer-to c = search needs
 
@@ -63,7 +69,8 @@ returns : tie.Need-returns
 returns c =
     let answer = c .before .before in
     let call = answer .before .before .before .before in
-    let filled = call .before .before .before in
+    let sheet = call .before in
+    let filled = sheet .before .before .before in
     let expected = filled .before .before .before .before in
     let count = expected .before .before in
     let words = count .before .before .before in
@@ -73,14 +80,14 @@ returns c =
     let fitted = begin .pre in
     let bytes = table .number-in .result in
     let start = table .number-in .ensures .0 in
-    let size : 14 + bytes - 14 ≡ numberIn bs 2 = omega (arith, start) in
-    let end : 14 + bytes + 4 * length (begin .args .words .now) ≡ answerAt bs = omega (arith, start, fitted .words-fit) in
+    let size : numberBytes + bytes - numberBytes ≡ numberIn bs 2 = omega (arith, start) in
+    let end : numberBytes + bytes + 4 * length (begin .args .words .now) ≡ answerAt bs = omega (arith, start, fitted .words-fit) in
     record {
       expected-is = expected-same bs _ _ _ _ end (count .number-in2 .ensures .0) (fitted .expected-fits) (expected .expect .ensures);
       given =
-          replied-in bs _ _ _ _ _ _ (call .number-in3 .ensures .0)
-          (words .read .ensures ∙ ap₂ (wordsIn bs) (ap (λ n. 14 + n) start) (fitted .words-fit))
-          (ap (λ n. take n (drop 14 bs)) size)
+          replied-in bs _ _ _ _ _ _ _ (call .number-in4 .ensures .0) (sheet .number-in3 .ensures .0)
+          (words .read .ensures ∙ ap₂ (wordsIn bs) (ap (λ n. numberBytes + n) start) (fitted .words-fit))
+          (ap (λ n. take n (drop numberBytes bs)) size)
           (filled .fill .ensures ∙ ap marks (fitted .out-fits))
           (answer .answer-to .ensures);
     }
@@ -98,6 +105,8 @@ run-spec =
     expect-requires
     fill-requires
     number-in-requires-3
+    cast-sheet
+    number-in-requires-4
     sub-answer-to
     part-answer-to-start
     part-answer-to-end

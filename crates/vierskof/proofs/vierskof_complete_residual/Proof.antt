@@ -1,5 +1,8 @@
 -- `vierskof::vierskof_complete_residual` meets its contract: that of the call. Assumes nothing.
-use Rattle.vierskof.proofs.Writing.{writes}
+use mathlib.Core.Path.{refl}
+use lib.ListN.{length}
+use Rattle.model.specs.Products.{completeResidual}
+use Rattle.vierskof.proofs.Writing.{writes-under}
 use borrow.Author.Needs.{needs}
 use Rattle.vierskof.proofs.vierskof_complete_residual.Statement.{statement}
 use Rattle.vierskof.proofs.vierskof_complete_residual.Tie as tie
@@ -14,7 +17,9 @@ same-length : tie.Need-same-length
 same-length c = search needs
 
 returns : tie.Need-returns
-returns c = writes (c .before .before .before .complete-residual .ensures) (c .written .ensures)
+returns c =
+    let args = c .before .before .before .before .before .before .before .before .args in
+    writes-under (λ n. completeResidual n (args .residual .now) (args .facts .now) (length (args .out .now))) refl (c .before .before .before .complete-residual .ensures) (c .written .ensures)
 
 pub vierskof-complete-residual-spec : {M : Type 1} → statement M
 vierskof-complete-residual-spec =

@@ -80,8 +80,8 @@ impl<'t> Tree<'t> {
 
     fn begin_record(&mut self, kind: u32, line: Line<'t>) -> Result<(), Fault> {
         self.at_margin(line)?;
-        Fields::of(line).end()?;
-        self.put(line, &[pack::lead(kind, 0)]);
+        let sheet = Fields::of(line).sheet()?;
+        self.put(line, &[pack::record(kind, sheet)]);
         self.top = if kind == 14 {
             Place::Decision
         } else {

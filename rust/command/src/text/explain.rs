@@ -17,6 +17,9 @@ pub(super) fn document(document: &Document<'_>, f: &mut Formatter<'_>) -> fmt::R
                 Some(Decision::Deny(deny)) => denied(f, deny)?,
                 None => writeln!(f, "# Pending. Still needed: {}.", set(document.facts()))?,
             }
+            if record.number() > 0 {
+                writeln!(f, "# Sheet: {}.", record.number())?;
+            }
             consulted(f, record)
         }
     }

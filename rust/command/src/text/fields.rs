@@ -74,6 +74,19 @@ impl<'t> Fields<'t> {
         Ok(clause)
     }
 
+    /// The rest of a record's first line: the number of its sheet, 0 if it says none.
+    pub fn sheet(&mut self) -> Result<u16, Fault> {
+        let number = match self.left.next() {
+            None => return Ok(0),
+            Some("sheet") => self.item(numbers::sheet)?,
+            Some(word) => {
+                let due = "the end of the line or sheet";
+                return Err(self.line.fault(&quoted(word), due));
+            }
+        };
+        self.end().map(|()| number)
+    }
+
     /// Nothing may be left.
     pub fn end(&mut self) -> Result<(), Fault> {
         self.clause(&[], 0).map(|_| ())

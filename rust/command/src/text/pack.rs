@@ -4,9 +4,14 @@ use vierskof::{Fact, Label, Obligation, Presence, Products, Reason};
 
 use super::fields::Clause;
 
-/// A node's or lead's first word, with what its low bits say.
+/// A node's first word, with what its low bits say.
 pub const fn lead(kind: u32, low: u32) -> u32 {
     kind << 28 | low
+}
+
+/// A record's first word before its consulted entries are counted.
+pub fn record(kind: u32, sheet: u16) -> u32 {
+    lead(kind, u32::from(sheet) << 12)
 }
 
 /// A count of at most 4,095, which a list's reader has seen to.

@@ -41,9 +41,15 @@ impl<I: Iterator<Item: Display> + Clone> Display for Joined<I> {
 
 fn lead(f: &mut Formatter<'_>, record: Record<'_>) -> fmt::Result {
     f.write_str(match record.status() {
-        Status::Resolved => "resolved\n",
-        Status::Pending => "pending\n",
+        Status::Resolved => "resolved",
+        Status::Pending => "pending",
     })?;
+    part(
+        f,
+        "sheet",
+        Some(record.number()).filter(|number| *number > 0),
+    )?;
+    writeln!(f)?;
     let entries = record.consulted();
     let entries = entries.map(|read| format!("{}={}", read.fact, read.reading));
     if entries.len() > 0 {

@@ -83,6 +83,46 @@ fn policies_may_stay_in_sheet_order() {
 }
 
 #[test]
+fn records_carry_their_sheets_number() {
+    let sheet = "grant 0003 hidden\n  has 5\n";
+    let hex = |arguments: &str, input: &str| answer(&format!("{arguments} --to hex"), input);
+    for order in ["", " --in-order"] {
+        let pending = answer(&format!("reduce --sheet 7{order}"), sheet);
+        assert!(pending.contains("\npending sheet 7\n"), "{pending}");
+        let words = "F0007000 88000003 00000000 20000005\n";
+        assert_eq!(answer("assemble", &pending), words);
+        assert_eq!(answer("show", words), pending);
+        assert_eq!(answer("required", &pending), "5\n");
+        let narrow = format!("narrow --sheet 7{order}");
+        assert_eq!(hex(&narrow, &pending), words);
+        assert_eq!(
+            hex(&format!("{narrow} --facts 5=present"), &pending),
+            "E0007001 40050000 C0000003 00000001 00050000\n"
+        );
+        assert_eq!(
+            hex("complete --sheet 7", &pending),
+            "E0007001 00050000 DC000003 00000000 00000001 00050000\n"
+        );
+    }
+    assert_eq!(
+        hex("evaluate --sheet 65535", "permit 0001"),
+        "EFFFF000 C0000001 00000000\n"
+    );
+    // 0 is the number of a sheet without one, and is left out.
+    let unnumbered = answer("evaluate", sheet);
+    assert_eq!(answer("evaluate --sheet 0", sheet), unnumbered);
+    assert!(unnumbered.contains("\nresolved\n"), "{unnumbered}");
+    for number in ["65536", "-1", "+7", "seven", ""] {
+        let message = failure(2, &format!("evaluate --sheet={number}"), sheet);
+        assert!(message.contains("--sheet"), "{message}");
+    }
+    for other in ["required", "show", "assemble"] {
+        let message = failure(2, &format!("{other} --sheet 7"), sheet);
+        assert!(message.contains("--sheet"), "{message}");
+    }
+}
+
+#[test]
 fn all_facts_can_be_named() {
     let sheet = "grant 0001\n  all\n    has 0\n    has 1023\n";
     let record = answer("reduce --facts 0=present,1023=present --to hex", sheet);

@@ -181,6 +181,33 @@ fn numbers() {
 }
 
 #[test]
+fn sheet_numbers() {
+    for number in ["65536", "-1", "+7", "0x7"] {
+        fault(
+            &format!("pending sheet {number}\ndeny"),
+            &format!("line 1: found `{number}`, but a sheet's number from 0 to 65535 is due"),
+        );
+    }
+    fault(
+        "resolved sheet\ndeny-with-trace",
+        "line 1: found the end of the line, but a sheet's number from 0 to 65535 is due",
+    );
+    fault(
+        "resolved 7\ndeny-with-trace",
+        "line 1: found `7`, but the end of the line or sheet is due",
+    );
+    fault(
+        "pending sheet 7 sheet 7\ndeny",
+        "line 1: found `sheet`, but the end of the line is due",
+    );
+    assert_eq!(
+        assembled("pending sheet 0\ndeny"),
+        assembled("pending\ndeny")
+    );
+    assert_eq!(assembled("pending sheet 007\ndeny")[0], 0xF000_7000);
+}
+
+#[test]
 fn parts_of_a_clause() {
     fault(
         "grant 0001 label 1 label 1\n  always",

@@ -106,6 +106,11 @@ fn the_form_is_told_from_the_bytes() {
         (b"deny\x00", Form::Binary),
         (b"deny\xFF", Form::Binary),
         (b"`\x00\x00\x01", Form::Binary),
+        // The numbers of a record's sheet and of its entries may leave no byte of 0.
+        (
+            b"\xEF\xBF\xB0\x20\x41\x41\x41\x41\xC2\xB0\x41\x41\xC3\x80\x0C\x0C\x03\x03",
+            Form::Binary,
+        ),
     ] {
         assert_eq!(Form::of(bytes), form, "{bytes:?}");
     }

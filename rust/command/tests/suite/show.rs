@@ -61,6 +61,24 @@ fn pending_records() {
 }
 
 #[test]
+fn numbered_records() {
+    let numbered = |words: &str| words.replacen("F0000003", "FFFFF003", 1);
+    let shown = answer("show", numbered(PENDING_WORDS));
+    assert!(
+        shown.starts_with("# Pending. Still needed: fact 9.\n# Sheet: 65535.\n# Facts consulted: "),
+        "{shown}"
+    );
+    let text = PENDING.replacen("pending", "pending sheet 65535", 1);
+    assert!(shown.ends_with(&text), "{shown}");
+    assert_eq!(hex(&assembled(&text)), numbered(PENDING_WORDS));
+    let resolved = answer("show", "E0001000 C0000001 00000000");
+    assert!(
+        resolved.ends_with("\nresolved sheet 1\npermit-with-trace 0001\n"),
+        "{resolved}"
+    );
+}
+
+#[test]
 fn permits() {
     assert_eq!(
         answer(

@@ -29,6 +29,9 @@ fn refusals_say_their_number() {
         ("required", "88000003", 6),
         ("reduce", "70000001", 8),
         ("show", "70000000 70000000", 10),
+        ("narrow", "pending sheet 7\ndeny", 16),
+        ("complete --sheet 8", "pending sheet 7\ndeny", 16),
+        ("narrow --in-order --sheet 7", "pending\ndeny", 16),
     ] {
         let message = failure(1, arguments, input);
         assert!(
@@ -100,6 +103,12 @@ fn refusals_say_where() {
         ("show", "A0000001 70000100 70000000", "word 2, 70000100"),
         ("show", "70000000 70000000 60000001", "word 2, 70000000"),
         ("narrow", "F0000001 C0050000 70000000", "word 2, C0050000"),
+        ("complete", "F0007000 70000000", "the record is of sheet 7"),
+        (
+            "narrow --sheet 7",
+            "E0000000 C0000001 00000000",
+            "the record has no sheet number",
+        ),
     ] {
         let message = failure(1, arguments, input);
         assert!(

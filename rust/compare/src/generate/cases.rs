@@ -3,7 +3,7 @@
 use super::chains::{self, Chain};
 use super::grow::{Alphabet, Grower};
 use super::rng::Rng;
-use super::{damage, tables};
+use super::{damage, numbers, tables};
 use crate::case::{Answer, Call, Case};
 use crate::narrow::{Order, known_by_part};
 use crate::repeats::repeats;
@@ -19,42 +19,45 @@ type Words = fn(&mut Rng, &Alphabet, Call) -> Vec<u32>;
 
 /// This many cases of these calls; a call that is listed twice comes twice as often.
 pub fn draw(seed: u64, count: usize, calls: &[Call]) -> Vec<Case> {
-    draw_of(seed, count, calls, |rng, alphabet, call| {
+    let cases = draw_of(seed, count, calls, |rng, alphabet, call| {
         if call.reads_sheet() {
             grown(rng, |rng| Grower::of_sheets(rng, alphabet))
         } else {
             record(rng, alphabet, call)
         }
-    })
+    });
+    numbers::give(seed, cases)
 }
 
 /// The same with lists of many arms, which the others have too seldom.
 pub fn draw_wide(seed: u64, count: usize, calls: &[Call]) -> Vec<Case> {
-    draw_of(seed, count, calls, |rng, alphabet, call| {
+    let cases = draw_of(seed, count, calls, |rng, alphabet, call| {
         if call.reads_sheet() {
             write::tree(&Grower::of_sheets(rng, alphabet).wide())
         } else {
             let tree = write::tree(&Grower::of_records(rng, alphabet).wide());
             [&[PENDING], tree.as_slice()].concat()
         }
-    })
+    });
+    numbers::give(seed, cases)
 }
 
 /// The same with grants on several facts, which the others have too seldom.
 pub fn draw_half_known(seed: u64, count: usize, calls: &[Call]) -> Vec<Case> {
-    draw_of(seed, count, calls, |rng, alphabet, call| {
+    let cases = draw_of(seed, count, calls, |rng, alphabet, call| {
         if call.reads_sheet() {
             write::tree(&Grower::of_sheets(rng, alphabet).half_known())
         } else {
             let tree = write::tree(&Grower::of_records(rng, alphabet).half_known());
             [&[PENDING], tree.as_slice()].concat()
         }
-    })
+    });
+    numbers::give(seed, cases)
 }
 
 /// The same with lists in lists, for which the two orders differ most, and with records of chains in either order and in both.
 pub fn draw_layered(seed: u64, count: usize, calls: &[Call]) -> Vec<Case> {
-    draw_of(seed, count, calls, |rng, alphabet, call| {
+    let cases = draw_of(seed, count, calls, |rng, alphabet, call| {
         let tree = Grower::of_sheets(rng, alphabet).layered();
         let sheet = write::tree(&tree);
         if call.reads_sheet() {
@@ -70,7 +73,8 @@ pub fn draw_layered(seed: u64, count: usize, calls: &[Call]) -> Vec<Case> {
             }
         });
         records.swap_remove(rng.below(records.len()))
-    })
+    });
+    numbers::give(seed, cases)
 }
 
 /// The same with obligations that repeat, and with joins of such that come to about as many as a node 12 can hold.
@@ -94,7 +98,7 @@ pub fn draw_repeating(seed: u64, count: usize, calls: &[Call]) -> Vec<Case> {
             case.room = around(&mut rng, record.len());
         }
     }
-    cases
+    numbers::give(seed, cases)
 }
 
 /// Whether an accepted reduction or narrowing has a grant that is known, though its condition names an Unknown fact.
@@ -114,6 +118,7 @@ pub fn is_half_known(case: &Case) -> bool {
     known_by_part(&residual, &table) && case.answer().is_ok()
 }
 
+/// Cases under number 0.
 fn draw_of(seed: u64, count: usize, calls: &[Call], words: Words) -> Vec<Case> {
     let mut rng = Rng::new(seed);
     (0..count)
@@ -134,6 +139,7 @@ fn case(rng: &mut Rng, call: Call, words: Words) -> Case {
         call,
         table: Vec::new(),
         words,
+        number: 0,
         room: 0,
     };
     if call.writes() {

@@ -20,6 +20,8 @@ pub struct Chain {
     pub reduction: Vec<u8>,
     /// The narrowings' tables.
     pub narrowings: Vec<Vec<u8>>,
+    /// The sheet's number, which every call of the chain is given.
+    pub number: u16,
 }
 
 impl Chain {
@@ -42,7 +44,15 @@ impl Chain {
             sheet,
             facts,
             known,
+            number: 0,
         }
+    }
+
+    /// The same chain under a number.
+    #[must_use]
+    pub const fn under(mut self, number: u16) -> Self {
+        self.number = number;
+        self
     }
 
     /// The output's length with which each call of the chain is accepted.
@@ -57,14 +67,14 @@ impl Chain {
 
     /// The same, each call in an order of its own.
     pub fn records_by(&self, mut order: impl FnMut() -> Order) -> Vec<Vec<u32>> {
-        let room = self.room();
+        let (room, number) = (self.room(), u32::from(self.number));
         let (reduce, _) = reference::pair(order());
-        let reduced = reduce(&self.sheet, &self.reduction, room);
+        let reduced = reduce(&self.sheet, number, &self.reduction, room);
         let mut records = vec![reduced.expect("room for the reduction")];
         for table in &self.narrowings {
             let given = records.last().expect("the reduction's record");
             let (_, narrow) = reference::pair(order());
-            let narrowed = narrow(given, table, room);
+            let narrowed = narrow(given, number, table, room);
             records.push(narrowed.expect("room for the narrowing"));
         }
         records

@@ -300,6 +300,7 @@ fn case(call: Call, table: &[u8], words: &[u32], room: usize) -> Case {
         call,
         table: table.to_vec(),
         words: words.to_vec(),
+        number: 0,
         room,
     }
 }

@@ -26,10 +26,15 @@ pub fn sheet(words: &[u32]) -> Result<Sheet, Refusal> {
     whole(words, |reader| reader.tree(1))
 }
 
-/// Reads a record.
+/// Reads a record, whatever its sheet's number.
 pub fn record(words: &[u32]) -> Result<Record, Refusal> {
     record_length(words)?;
     whole(words, Reader::record)
+}
+
+/// The number of the sheet that a record is of.
+pub fn sheet_number(record: &[u32]) -> u32 {
+    record.first().map_or(0, |lead| field(*lead, 4, 16))
 }
 
 fn length(words: &[u32], most: usize) -> Result<(), Refusal> {
@@ -104,7 +109,6 @@ impl Reader<'_> {
         if !matches!(kind(word), 14 | 15) {
             return Err(Refusal::Kind);
         }
-        zero(word, 4, 16)?;
         let consulted = self.pairs(count(word), entry)?;
         if kind(word) == 14 {
             let word = self.word()?;

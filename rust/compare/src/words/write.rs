@@ -9,7 +9,15 @@ use gatekeep::{DenyShape, Presence};
 use super::field::place;
 use super::tree::{Condition, Decided, Deny, Entry, Grant, Permit, Record, Tree};
 
-/// The words of a record.
+/// A record's words with this number of its sheet, in place of the one in them.
+pub fn numbered(number: u16, mut record: Vec<u32>) -> Vec<u32> {
+    if let Some(lead) = record.first_mut() {
+        *lead = *lead & !place(0xFFFF, 4, 16) | place(u32::from(number), 4, 16);
+    }
+    record
+}
+
+/// The words of a record of a sheet without a number.
 pub fn record(record: &Record) -> Vec<u32> {
     let mut words = Vec::new();
     match record {

@@ -2,9 +2,16 @@
 
 use compare::generate::damage::damage;
 use compare::generate::grow::{Alphabet, Grower};
+use compare::generate::numbers::SHEETS;
 use compare::generate::rng::Rng;
 use compare::words::tree::Record;
 use compare::words::{convert, read, write};
+
+/// A record's words under its own number.
+fn written(words: &[u32], record: &Record) -> Vec<u32> {
+    let number = u16::try_from(read::sheet_number(words)).expect("sixteen bits");
+    write::numbered(number, write::record(record))
+}
 
 fn record(rng: &mut Rng) -> Record {
     let alphabet = Alphabet::draw(rng);
@@ -22,20 +29,23 @@ fn sheet(rng: &mut Rng) -> Vec<u32> {
 fn written_records_read_back() {
     let mut rng = Rng::new(1);
     for _ in 0..20_000 {
-        let record = record(&mut rng);
-        assert_eq!(read::record(&write::record(&record)), Ok(record));
+        let (record, number) = (record(&mut rng), rng.pick(&SHEETS));
+        let words = write::numbered(number, write::record(&record));
+        assert_eq!(read::sheet_number(&words), u32::from(number));
+        assert_eq!(read::record(&words), Ok(record));
     }
 }
 
 #[test]
 fn read_words_are_written_back() {
     let mut rng = Rng::new(2);
-    let mut accepted = 0;
+    let [mut accepted, mut numbered] = [0; 2];
     for _ in 0..100_000 {
         let mut words = write::record(&record(&mut rng));
         damage(&mut rng, &mut words);
         if let Ok(record) = read::record(&words) {
-            assert_eq!(write::record(&record), words);
+            assert_eq!(written(&words, &record), words);
+            numbered += usize::from(read::sheet_number(&words) > 0);
             accepted += 1;
         }
         let mut words = sheet(&mut rng);
@@ -46,6 +56,7 @@ fn read_words_are_written_back() {
         }
     }
     assert!(accepted > 10_000, "damage that changes numbers only");
+    assert!(numbered > 500, "{numbered} with a damaged lead");
 }
 
 #[test]
@@ -58,7 +69,7 @@ fn any_words_are_read_or_refused() {
             assert_eq!(write::tree(&sheet), words);
         }
         if let Ok(record) = read::record(&words) {
-            assert_eq!(write::record(&record), words);
+            assert_eq!(written(&words, &record), words);
         }
     }
 }

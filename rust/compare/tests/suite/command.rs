@@ -9,6 +9,7 @@ use compare::case::{Answer, Call, Case};
 use compare::generate::cases;
 use compare::generate::chains::Chain;
 use compare::generate::grow::Alphabet;
+use compare::generate::numbers::SHEETS;
 use compare::generate::rng::Rng;
 use compare::narrow::Order;
 use compare::reference;
@@ -44,10 +45,11 @@ fn hex(words: &[u32]) -> String {
     words.join(" ")
 }
 
-/// Runs a call over text with a table's bytes.
-fn staged(name: &str, document: &str, table: &[u8]) -> String {
+/// Runs a call over text with a sheet's number and a table's bytes.
+fn staged(name: &str, document: &str, number: u16, table: &[u8]) -> String {
     let digits = hexadecimal(table);
-    answer(&format!("{name} --table-hex={digits}"), document)
+    let arguments = format!("{name} --sheet {number} --table-hex={digits}");
+    answer(&arguments, document)
 }
 
 /// What a shown document says in words.
@@ -81,7 +83,8 @@ fn subcommand(call: Call) -> &'static str {
 fn found(case: &Case) -> Result<Vec<u32>, u8> {
     let name = subcommand(case.call);
     let arguments = if case.call.writes() {
-        format!("{name} --to hex --table-hex={}", hexadecimal(&case.table))
+        let (number, table) = (case.number, hexadecimal(&case.table));
+        format!("{name} --to hex --sheet {number} --table-hex={table}")
     } else {
         name.to_owned()
     };
@@ -99,7 +102,9 @@ fn drawn_calls() {
     // The kind of the first word tells which facts are required, so only words that have the call's kind are asked.
     let asks = |case: &Case| {
         let record = case.words.first().is_some_and(|word| word >> 28 >= 14);
-        case.call.writes() || record != case.call.reads_sheet()
+        // The command takes no number that no record carries.
+        let number = u16::try_from(case.number).is_ok();
+        number && (case.call.writes() || record != case.call.reads_sheet())
     };
     let calls = Call::ALL.into_iter();
     let calls: Vec<Call> = calls.filter(|call| !is_question(*call)).collect();
@@ -125,26 +130,30 @@ fn chains_of_stages() {
     let mut rng = Rng::new(11);
     for _ in 0..40 {
         let alphabet = Alphabet::draw(&mut rng);
-        let chain = Chain::draw(&mut rng, &alphabet, 40);
+        let chain = Chain::draw(&mut rng, &alphabet, 40).under(rng.pick(&SHEETS));
+        let number = chain.number;
         let sheet = answer("show", &hex(&chain.sheet));
         for (order, option) in [
             (Order::PermitsFirst, ""),
             (Order::SheetOrder, " --in-order"),
         ] {
-            let mut record = staged(&format!("reduce{option}"), &sheet, &chain.reduction);
+            let mut record = staged(&format!("reduce{option}"), &sheet, number, &chain.reduction);
             let mut records = vec![said(&record)];
             for table in &chain.narrowings {
-                record = staged(&format!("narrow{option}"), &record, table);
+                record = staged(&format!("narrow{option}"), &record, number, table);
                 records.push(said(&record));
             }
             assert_eq!(records, chain.records(order));
             let last = records.last().expect("the reduction's record");
-            let completed = reference::complete_residual(last, &chain.known, chain.room());
-            let found = said(&staged("complete", &record, &chain.known));
+            let under = u32::from(number);
+            let completed = reference::complete_residual(last, under, &chain.known, chain.room());
+            let found = said(&staged("complete", &record, number, &chain.known));
             assert_eq!(Ok(found), completed);
         }
-        let direct = reference::evaluate(&chain.sheet, &chain.known, chain.room());
-        assert_eq!(Ok(said(&staged("evaluate", &sheet, &chain.known))), direct);
+        let under = u32::from(number);
+        let direct = reference::evaluate(&chain.sheet, under, &chain.known, chain.room());
+        let found = said(&staged("evaluate", &sheet, number, &chain.known));
+        assert_eq!(Ok(found), direct);
     }
 }
 

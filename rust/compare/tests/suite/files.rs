@@ -51,15 +51,15 @@ struct Stored<'a> {
 
 /// Takes the stored answer at the front.
 fn taken<'a>(rest: &mut &'a [u8]) -> Stored<'a> {
-    let numbers: Vec<u16> = rest[..14]
+    let numbers: Vec<u16> = rest[..16]
         .chunks(2)
         .map(|pair| u16::from_be_bytes([pair[0], pair[1]]))
         .collect();
-    let [call, room, table, given, number, _, answer] = numbers[..] else {
-        unreachable!("seven numbers");
+    let [call, room, table, given, number, _, answer, sheet] = numbers[..] else {
+        unreachable!("eight numbers");
     };
     let call = Call::ALL[usize::from(call)];
-    let words_at = 14 + usize::from(table);
+    let words_at = 16 + usize::from(table);
     let answer_at = words_at + 4 * usize::from(given);
     let (bytes, after) = rest.split_at(answer_at + 4 * usize::from(answer));
     *rest = after;
@@ -69,8 +69,9 @@ fn taken<'a>(rest: &mut &'a [u8]) -> Stored<'a> {
         .collect();
     let case = Case {
         call,
-        table: bytes[14..words_at].to_vec(),
+        table: bytes[16..words_at].to_vec(),
         words,
+        number: u32::from(sheet),
         // A set of facts is stored with the room of its 32 words.
         room: if call.writes() { usize::from(room) } else { 0 },
     };
@@ -154,6 +155,7 @@ fn case(call: Call, table: &str, given: &str, room: usize) -> Case {
         call,
         table: bytes(table),
         words: words(given),
+        number: 0,
         room,
     }
 }
@@ -169,20 +171,32 @@ fn bytes_of_stored_answers() {
             6
         )),
         bytes(
-            "00 00 00 06 00 02 00 03 00 00 00 05 00 05 00 10 \
+            "00 00 00 06 00 02 00 03 00 00 00 05 00 05 00 00 00 10 \
              88 00 00 03 00 00 00 00 20 00 00 05 \
              E0 00 00 01 40 05 00 00 C0 00 00 03 00 00 00 01 00 05 00 00"
         )
     );
     assert_eq!(
         stored(case(Call::PartialEvaluate, "", "70000001", 100)),
-        bytes("00 01 00 64 00 00 00 01 00 08 00 00 00 00 70 00 00 01")
+        bytes("00 01 00 64 00 00 00 01 00 08 00 00 00 00 00 00 70 00 00 01")
+    );
+    let numbered = case(Call::CompleteResidual, "", "FFFFF000 60000001", 3);
+    let numbered = Case {
+        number: 0xFFFF,
+        ..numbered
+    };
+    assert_eq!(
+        stored(numbered),
+        bytes(
+            "00 03 00 03 00 00 00 02 00 00 00 03 00 03 FF FF \
+             FF FF F0 00 60 00 00 01 EF FF F0 00 C0 00 00 01 00 00 00 00"
+        )
     );
     assert_eq!(
         stored(case(Call::IsPermitConstant, "", "F0000000 60000001", 0)),
-        bytes("00 06 00 00 00 00 00 02 00 00 00 01 00 00 F0 00 00 00 60 00 00 01")
+        bytes("00 06 00 00 00 00 00 02 00 00 00 01 00 00 00 00 F0 00 00 00 60 00 00 01")
     );
-    let refused = "00 05 00 20 00 00 00 00 00 01 00 00 00 20";
+    let refused = "00 05 00 20 00 00 00 00 00 01 00 00 00 20 00 00";
     assert_eq!(
         stored(case(Call::RequiredResidualFacts, "", "", 0)),
         [bytes(refused), vec![0; 128]].concat()
@@ -191,10 +205,10 @@ fn bytes_of_stored_answers() {
     let sheet = "80000001 00000000 40000002 20000000 200003FF";
     let found = stored(case(Call::RequiredFacts, "", sheet, 0));
     assert_eq!(
-        found[..14],
-        bytes("00 04 00 20 00 00 00 05 00 00 00 02 00 20")
+        found[..16],
+        bytes("00 04 00 20 00 00 00 05 00 00 00 02 00 20 00 00")
     );
-    assert_eq!(found[34..], set);
+    assert_eq!(found[36..], set);
 }
 
 #[test]
@@ -207,20 +221,20 @@ fn cases_in_one_line() {
             "88000003 00000000 20000005",
             100
         )),
-        "evaluate 0010 880000030000000020000005 100 0 \
+        "evaluate 0 0010 880000030000000020000005 100 0 \
          E000000140050000C00000030000000100050000"
     );
     assert_eq!(
         line(case(Call::PartialEvaluate, "", "70000001", 100)),
-        "partial_evaluate - 70000001 100 8 -"
+        "partial_evaluate 0 - 70000001 100 8 -"
     );
     assert_eq!(
         line(case(Call::CarriesObligation, "", "", 0)),
-        "carries_obligation - - 0 1 -"
+        "carries_obligation 0 - - 0 1 -"
     );
     assert_eq!(
         line(case(Call::IsPermitConstant, "", "F0000000 60000001", 0)),
-        "is_permit_constant - F000000060000001 0 0 1"
+        "is_permit_constant 0 - F000000060000001 0 0 1"
     );
     let set = format!("8{}1", "0".repeat(254));
     let sheet = "80000001 00000000 40000002 20000000 200003FF";
@@ -232,19 +246,22 @@ fn cases_in_one_line() {
 fn rows_of_the_checker() {
     let cases = [
         case(Call::Evaluate, "00 10", "88000003 00000000 20000005", 100),
-        case(Call::PartialEvaluate, "", "70000001", 100),
+        Case {
+            number: 65_536,
+            ..case(Call::PartialEvaluate, "", "70000001", 100)
+        },
     ];
     let expected = "\
 -- Made by: hand
 use mathlib.Core.List.{List, [], _∷_}
 use Prim.Native.Nat.{ℕ}
-use Rattle.model.specs.Worked.{Row, evaluates, completes, reduces, narrows, reducesInOrder, narrowsInOrder, row, refuses, writes}
+use Rattle.model.specs.Worked.{Row, evaluates, completes, reduces, narrows, reducesInOrder, narrowsInOrder, rowUnder, refuses, writes}
 
 abbrev pub rows : List Row
 rows =
-    row evaluates 100 (0x00 ∷ 0x10 ∷ []) (0x88000003 ∷ 0x0 ∷ 0x20000005 ∷ []) \
+    rowUnder 0 evaluates 100 (0x00 ∷ 0x10 ∷ []) (0x88000003 ∷ 0x0 ∷ 0x20000005 ∷ []) \
      (writes (0xE0000001 ∷ 0x40050000 ∷ 0xC0000003 ∷ 0x1 ∷ 0x50000 ∷ []))
-    ∷ row reduces 100 [] (0x70000001 ∷ []) (refuses 8)
+    ∷ rowUnder 65536 reduces 100 [] (0x70000001 ∷ []) (refuses 8)
     ∷ []
 ";
     assert_eq!(rows::file("hand", &cases), expected);

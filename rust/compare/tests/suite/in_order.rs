@@ -8,6 +8,7 @@ use compare::generate::cases::draw_layered;
 use compare::generate::chains::Chain;
 use compare::generate::exhaustive::sheets;
 use compare::generate::grow::{Alphabet, Grower};
+use compare::generate::numbers::SHEETS;
 use compare::generate::rng::Rng;
 use compare::generate::tables;
 use compare::narrow::{Order, reduce};
@@ -194,8 +195,8 @@ pub fn clause(record: &[u32]) -> Decided {
 /// Runs a chain in sheet order with the room that suffices. Each record on the way is completed by the original to the clause that the original gives in one
 /// sitting, facts aside; it comes back equal under a table of Unknown; and an output of its own length is room enough, one word less isn't.
 fn check(chain: &Chain) {
-    let room = chain.room();
-    let sitting = evaluate(&chain.sheet, &chain.known, room).expect("room for it");
+    let (room, number) = (chain.room(), u32::from(chain.number));
+    let sitting = evaluate(&chain.sheet, number, &chain.known, room).expect("room for it");
     let unknown = tables::unknown(&chain.facts);
     let mut accepted: Vec<&[u8]> = vec![&chain.reduction];
     for (stage, record) in chain.records(Order::SheetOrder).iter().enumerate() {
@@ -203,13 +204,14 @@ fn check(chain: &Chain) {
             accepted.push(&chain.narrowings[stage - 1]);
         }
         assert!(settled(record, &accepted), "{chain:X?}");
-        let same = narrow_residual_in_order(record, &unknown, record.len());
+        let same = narrow_residual_in_order(record, number, &unknown, record.len());
         assert_eq!(same.as_ref(), Ok(record), "{chain:X?}");
-        let short = narrow_residual_in_order(record, &unknown, record.len() - 1);
+        let short = narrow_residual_in_order(record, number, &unknown, record.len() - 1);
         assert_eq!(short, Err(Refusal::Room), "{chain:X?}");
-        let completed = complete_residual(record, &chain.known, room).expect("room for it");
+        let completed = complete_residual(record, number, &chain.known, room).expect("room for it");
         assert_eq!(clause(&completed), clause(&sitting), "{chain:X?}");
-        let narrowed = narrow_residual_in_order(record, &chain.known, room).expect("room for it");
+        let narrowed = narrow_residual_in_order(record, number, &chain.known, room);
+        let narrowed = narrowed.expect("room for it");
         assert_eq!(clause(&narrowed), clause(&sitting), "{chain:X?}");
     }
 }
@@ -218,7 +220,7 @@ fn check(chain: &Chain) {
 pub fn layered(rng: &mut Rng) -> Chain {
     let alphabet = Alphabet::draw(rng);
     let tree = Grower::of_sheets(rng, &alphabet).layered();
-    Chain::over(rng, write::tree(&tree))
+    Chain::over(rng, write::tree(&tree)).under(rng.pick(&SHEETS))
 }
 
 #[test]
@@ -227,7 +229,7 @@ fn random_chains() {
     for _ in 0..5_000 {
         let alphabet = Alphabet::draw(&mut rng);
         let words = rng.between(1, 100);
-        check(&Chain::draw(&mut rng, &alphabet, words));
+        check(&Chain::draw(&mut rng, &alphabet, words).under(rng.pick(&SHEETS)));
         check(&layered(&mut rng));
     }
 }
@@ -255,8 +257,8 @@ fn mixed_chains_keep_effect_and_products() {
     let mut other_clauses = 0;
     for _ in 0..10_000 {
         let chain = layered(&mut rng);
-        let room = chain.room();
-        let sitting = evaluate(&chain.sheet, &chain.known, room).expect("room for it");
+        let (room, number) = (chain.room(), u32::from(chain.number));
+        let sitting = evaluate(&chain.sheet, number, &chain.known, room).expect("room for it");
         let mut accepted: Vec<&[u8]> = vec![&chain.reduction];
         let orders = [Order::PermitsFirst, Order::SheetOrder];
         for (stage, record) in chain.records_by(|| rng.pick(&orders)).iter().enumerate() {
@@ -264,7 +266,8 @@ fn mixed_chains_keep_effect_and_products() {
                 accepted.push(&chain.narrowings[stage - 1]);
             }
             assert!(settled(record, &accepted), "{chain:X?}");
-            let completed = complete_residual(record, &chain.known, room).expect("room for it");
+            let completed = complete_residual(record, number, &chain.known, room);
+            let completed = completed.expect("room for it");
             assert_eq!(decided(&completed), decided(&sitting), "{chain:X?}");
             other_clauses += usize::from(clause(&completed) != clause(&sitting));
         }
@@ -296,8 +299,8 @@ fn consulted(record: &[u32]) -> Vec<Entry> {
 /// Both orders of a reduction: the same record if no list has a pending arm. What the first pair consults the second does too.
 fn both_orders(sheet: &[u32], table: &[u8]) -> [bool; 2] {
     const ROOM: usize = 16_384;
-    let first = partial_evaluate(sheet, table, ROOM).expect("room for it");
-    let second = partial_evaluate_in_order(sheet, table, ROOM).expect("room for it");
+    let first = partial_evaluate(sheet, 0, table, ROOM).expect("room for it");
+    let second = partial_evaluate_in_order(sheet, 0, table, ROOM).expect("room for it");
     let tree: Residual = read::sheet(sheet).expect("a sheet").into();
     let waits = waits(&tree, &Table::partial(table).expect("a table"));
     assert!(waits || first == second, "{sheet:X?} {table:X?}");
@@ -305,9 +308,9 @@ fn both_orders(sheet: &[u32], table: &[u8]) -> [bool; 2] {
     let read = |entry: &Entry| found.contains(entry);
     assert!(consulted(&first).iter().all(read), "{sheet:X?} {table:X?}");
     let record = [&[0xF000_0000], sheet].concat();
-    let narrowed = narrow_residual_in_order(&record, table, ROOM);
+    let narrowed = narrow_residual_in_order(&record, 0, table, ROOM);
     assert_eq!(narrowed.as_ref(), Ok(&second), "{sheet:X?} {table:X?}");
-    let narrowed = narrow_residual(&record, table, ROOM);
+    let narrowed = narrow_residual(&record, 0, table, ROOM);
     assert_eq!(narrowed.as_ref(), Ok(&first), "{sheet:X?} {table:X?}");
     [waits, first != second]
 }
@@ -345,15 +348,24 @@ fn chains_with_refused_narrowings() {
     let mut refusals = 0;
     for _ in 0..5_000 {
         let chain = layered(&mut rng);
-        let sitting = evaluate(&chain.sheet, &chain.known, chain.room()).expect("room for it");
-        let mut record = partial_evaluate_in_order(&chain.sheet, &chain.reduction, chain.room())
-            .expect("room for the reduction");
+        let (roomy, number) = (chain.room(), u32::from(chain.number));
+        let sitting = evaluate(&chain.sheet, number, &chain.known, roomy).expect("room for it");
+        let reduced = partial_evaluate_in_order(&chain.sheet, number, &chain.reduction, roomy);
+        let mut record = reduced.expect("room for the reduction");
         let mut accepted: Vec<&[u8]> = vec![&chain.reduction];
         for table in &chain.narrowings {
             let faulty = [table.as_slice(), &[0xFF]].concat();
-            refusals += usize::from(narrow_residual(&record, &faulty, chain.room()).is_err());
-            let room = rng.below(chain.room() / 20);
-            match narrow_residual_in_order(&record, table, room) {
+            let refused = [
+                narrow_residual(&record, number, &faulty, roomy),
+                narrow_residual(&record, number + 1, table, roomy),
+            ];
+            assert_eq!(
+                refused,
+                [Err(Refusal::TableField), Err(Refusal::SheetNumber)]
+            );
+            refusals += refused.len();
+            let room = rng.below(roomy / 20);
+            match narrow_residual_in_order(&record, number, table, room) {
                 Ok(narrowed) => {
                     record = narrowed;
                     accepted.push(table);
@@ -362,7 +374,7 @@ fn chains_with_refused_narrowings() {
             }
         }
         assert!(settled(&record, &accepted), "{chain:X?}");
-        let completed = complete_residual(&record, &chain.known, chain.room());
+        let completed = complete_residual(&record, number, &chain.known, roomy);
         let completed = completed.expect("room for the completion");
         assert_eq!(clause(&completed), clause(&sitting), "{chain:X?}");
     }

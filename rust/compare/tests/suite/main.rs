@@ -9,6 +9,7 @@ mod in_order;
 mod join;
 mod limits;
 mod listing;
+mod numbers;
 mod original;
 #[cfg(feature = "proved")]
 mod proved;
@@ -42,12 +43,24 @@ fn bytes(text: &str) -> Vec<u8> {
         .collect()
 }
 
-/// The number of a call's refusal, or 0 and the record that it writes.
+/// The number of a call's refusal, or 0 and the record that it writes, of a sheet without a number.
 fn written(call: Call, given: &[u32], table: &[u8], room: usize) -> (u8, Vec<u32>) {
+    written_under(0, call, given, table, room)
+}
+
+/// The same of a sheet with a number.
+fn written_under(
+    number: u32,
+    call: Call,
+    given: &[u32],
+    table: &[u8],
+    room: usize,
+) -> (u8, Vec<u32>) {
     let case = Case {
         call,
         table: table.to_vec(),
         words: given.to_vec(),
+        number,
         room,
     };
     match case.answer() {

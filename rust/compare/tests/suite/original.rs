@@ -19,10 +19,14 @@ fn pending(sheet: &[u32]) -> Vec<u32> {
 /// what the original evaluates it to.
 fn agree(sheet: &[u32], table: &[u8]) {
     let record = pending(sheet);
-    let reduced = partial_evaluate(sheet, table, ROOM);
-    assert_eq!(narrow_residual(&record, table, ROOM), reduced, "{sheet:X?}");
-    if let Ok(decided) = evaluate(sheet, table, ROOM) {
-        let completed = complete_residual(&record, table, ROOM);
+    let reduced = partial_evaluate(sheet, 0, table, ROOM);
+    assert_eq!(
+        narrow_residual(&record, 0, table, ROOM),
+        reduced,
+        "{sheet:X?}"
+    );
+    if let Ok(decided) = evaluate(sheet, 0, table, ROOM) {
+        let completed = complete_residual(&record, 0, table, ROOM);
         assert_eq!(completed.as_ref(), Ok(&decided), "{sheet:X?}");
         assert_eq!(reduced, Ok(decided), "{sheet:X?}");
     }
@@ -76,7 +80,7 @@ fn on_records_and_known_tables() {
         let record = Grower::of_records(&mut rng, &alphabet).record(words);
         let record = write::record(&record);
         let table = tables::draw(&mut rng, &alphabet.facts, false);
-        let narrowed = narrow_residual(&record, &table, ROOM);
-        assert_eq!(narrowed, complete_residual(&record, &table, ROOM));
+        let narrowed = narrow_residual(&record, 0, &table, ROOM);
+        assert_eq!(narrowed, complete_residual(&record, 0, &table, ROOM));
     }
 }

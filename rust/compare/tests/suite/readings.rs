@@ -47,6 +47,7 @@ fn answer(call: Call, given: &str) -> Result<Answer, u8> {
         call,
         table: Vec::new(),
         words: words(given),
+        number: 0,
         room: 0,
     };
     case.answer().map_err(Refusal::number)
@@ -118,6 +119,7 @@ fn r7_questions_have_no_table_and_no_output() {
                 call,
                 table: Vec::new(),
                 words: (0..length).map(|_| rng.word() & 0xF303_0303).collect(),
+                number: 0,
                 room: 0,
             };
             if let Err(refusal) = case.answer() {

@@ -8,6 +8,7 @@ use compare::case::{Answer, Case};
 use compare::generate::cases::draw_repeating;
 use compare::generate::chains::Chain;
 use compare::generate::grow::{Alphabet, Grower};
+use compare::generate::numbers::SHEETS;
 use compare::generate::rng::Rng;
 use compare::narrow::{Order, Union};
 use compare::reference;
@@ -15,7 +16,7 @@ use compare::repeats::{Tally, repeats};
 use compare::words::write;
 
 use super::stages::decided;
-use super::{refuses, words, writes, written};
+use super::{refuses, words, writes, written_under};
 
 /// A node 12 with 127 times obligation 5.
 fn full() -> String {
@@ -185,12 +186,12 @@ fn the_original_agrees_on_repeats() {
     let mut accepted = 0;
     for case in &cases {
         let record = [&[0xF000_0000], case.words.as_slice()].concat();
-        let narrowed = reference::narrow_residual(&record, &case.table, case.room);
-        let Ok(Answer::Record(found)) = case.answer() else {
+        let narrowed = reference::narrow_residual(&record, 0, &case.table, case.room);
+        let Ok(Answer::Record(found)) = case.unnumbered().answer() else {
             continue;
         };
         assert_eq!(narrowed.as_ref(), Ok(&found), "{case:X?}");
-        let completed = reference::complete_residual(&record, &case.table, case.room);
+        let completed = reference::complete_residual(&record, 0, &case.table, case.room);
         if case.call == Evaluate {
             assert_eq!(completed, Ok(found), "{case:X?}");
         }
@@ -214,7 +215,8 @@ fn the_original_agrees_on_repeats() {
 fn the_original_agrees_on_long_lists() {
     let cases = draw_repeating(2, 20_000, &[CompleteResidual]);
     for case in &cases {
-        let (number, _) = written(CompleteResidual, &case.words, &case.table, case.room);
+        let Case { words, table, .. } = case;
+        let (number, _) = written_under(case.number, CompleteResidual, words, table, case.room);
         for call in [NarrowResidual, NarrowResidualInOrder] {
             let narrowed = Case {
                 call,
@@ -257,12 +259,13 @@ fn chains_over_repeats() {
         let alphabet = Alphabet::draw(&mut rng).repeating();
         let mut grower = Grower::of_sheets(&mut rng, &alphabet);
         let sheet = write::tree(&grower.layered());
-        let chain = Chain::over(&mut rng, sheet);
-        let room = chain.room();
-        let sitting = reference::evaluate(&chain.sheet, &chain.known, room).expect("room for it");
+        let chain = Chain::over(&mut rng, sheet).under(rng.pick(&SHEETS));
+        let (room, number) = (chain.room(), u32::from(chain.number));
+        let sitting = reference::evaluate(&chain.sheet, number, &chain.known, room);
+        let sitting = sitting.expect("room for it");
         for order in [Order::PermitsFirst, Order::SheetOrder] {
             for record in chain.records(order) {
-                let completed = reference::complete_residual(&record, &chain.known, room);
+                let completed = reference::complete_residual(&record, number, &chain.known, room);
                 let completed = completed.expect("room for the completion");
                 assert_eq!(decided(&completed), decided(&sitting), "{chain:X?}");
                 if order == Order::SheetOrder {
@@ -275,6 +278,7 @@ fn chains_over_repeats() {
             call: Evaluate,
             table: Vec::new(),
             words: chain.sheet,
+            number: 0,
             room: 0,
         }));
     }
@@ -288,6 +292,7 @@ fn a_repeat_is_an_obligation() {
         call: CarriesObligation,
         table: Vec::new(),
         words: words(&record),
+        number: 0,
         room: 0,
     };
     assert_eq!(case.answer(), Ok(Answer::Says(true)));

@@ -3,6 +3,7 @@
 use compare::generate::chains::{Chain, room};
 use compare::generate::exhaustive::sheets;
 use compare::generate::grow::{Alphabet, Grower};
+use compare::generate::numbers::SHEETS;
 use compare::generate::rng::Rng;
 use compare::generate::tables;
 use compare::narrow::Order;
@@ -37,8 +38,8 @@ pub fn settled(record: &[u32], tables: &[&[u8]]) -> bool {
 
 /// Runs a chain with the room that suffices, and checks all that demand 3 promises of it.
 fn check(chain: &Chain) {
-    let room = chain.room();
-    let sitting = evaluate(&chain.sheet, &chain.known, room).expect("room for it");
+    let (room, number) = (chain.room(), u32::from(chain.number));
+    let sitting = evaluate(&chain.sheet, number, &chain.known, room).expect("room for it");
     let unknown = tables::unknown(&chain.facts);
     let mut accepted: Vec<&[u8]> = vec![&chain.reduction];
     for (stage, record) in chain.records(Order::PermitsFirst).iter().enumerate() {
@@ -46,11 +47,12 @@ fn check(chain: &Chain) {
             accepted.push(&chain.narrowings[stage - 1]);
         }
         assert!(settled(record, &accepted), "{chain:X?}");
-        let same = narrow_residual(record, &unknown, room);
+        assert_eq!(read::sheet_number(record), number, "{chain:X?}");
+        let same = narrow_residual(record, number, &unknown, room);
         assert_eq!(same.as_ref(), Ok(record), "{chain:X?}");
-        let completed = complete_residual(record, &chain.known, room).expect("room for it");
+        let completed = complete_residual(record, number, &chain.known, room).expect("room for it");
         assert_eq!(decided(&completed), decided(&sitting), "{chain:X?}");
-        let narrowed = narrow_residual(record, &chain.known, room).expect("room for it");
+        let narrowed = narrow_residual(record, number, &chain.known, room).expect("room for it");
         assert_eq!(decided(&narrowed), decided(&sitting), "{chain:X?}");
     }
 }
@@ -61,7 +63,7 @@ fn random_chains() {
     for _ in 0..10_000 {
         let alphabet = Alphabet::draw(&mut rng);
         let words = rng.between(1, 100);
-        check(&Chain::draw(&mut rng, &alphabet, words));
+        check(&Chain::draw(&mut rng, &alphabet, words).under(rng.pick(&SHEETS)));
     }
 }
 
@@ -90,6 +92,7 @@ pub fn small_chains(words: usize, mut check: impl FnMut(&Chain)) {
                     known: pack(&[first, second]),
                     reduction: pack(&[reading(0, first), reading(1, second)]),
                     narrowings: vec![pack(&[reading(2, first), reading(3, second)])],
+                    number: 7,
                 });
             }
         }
@@ -109,10 +112,11 @@ fn chains_with_refused_narrowings() {
     for _ in 0..5_000 {
         let alphabet = Alphabet::draw(&mut rng);
         let words = rng.between(1, 60);
-        let chain = Chain::draw(&mut rng, &alphabet, words);
-        let sitting = evaluate(&chain.sheet, &chain.known, chain.room()).expect("room for it");
-        let mut record = partial_evaluate(&chain.sheet, &chain.reduction, chain.room())
-            .expect("room for the reduction");
+        let chain = Chain::draw(&mut rng, &alphabet, words).under(rng.pick(&SHEETS));
+        let (roomy, number) = (chain.room(), u32::from(chain.number));
+        let sitting = evaluate(&chain.sheet, number, &chain.known, roomy).expect("room for it");
+        let reduced = partial_evaluate(&chain.sheet, number, &chain.reduction, roomy);
+        let mut record = reduced.expect("room for the reduction");
         let mut accepted: Vec<Vec<u8>> = vec![chain.reduction.clone()];
         for table in &chain.narrowings {
             let mut table = table.clone();
@@ -120,7 +124,9 @@ fn chains_with_refused_narrowings() {
                 table.resize(table.len() + 1, 0xFF);
             }
             let room = rng.below(room(chain.sheet.len()) / 20);
-            match narrow_residual(&record, &table, room) {
+            // One of another sheet is refused as well.
+            let expected = number ^ u32::from(rng.percent(10));
+            match narrow_residual(&record, expected, &table, room) {
                 Ok(narrowed) => {
                     record = narrowed;
                     accepted.push(table);
@@ -130,7 +136,7 @@ fn chains_with_refused_narrowings() {
         }
         let accepted: Vec<&[u8]> = accepted.iter().map(Vec::as_slice).collect();
         assert!(settled(&record, &accepted), "{chain:X?}");
-        let completed = complete_residual(&record, &chain.known, chain.room());
+        let completed = complete_residual(&record, number, &chain.known, roomy);
         let completed = completed.expect("room for the completion");
         assert_eq!(decided(&completed), decided(&sitting), "{chain:X?}");
     }

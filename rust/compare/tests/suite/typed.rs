@@ -141,6 +141,9 @@ fn read_alike(words: &[u32]) -> usize {
     let accepted = usize::from(found.is_ok());
     let (expected, found) = (read::record(words).map_err(number), record(words));
     assert!(expected == found, "seed {SEED}: record {words:X?}");
+    if let Ok(record) = typed::Record::read(words) {
+        assert_eq!(u32::from(record.number()), read::sheet_number(words));
+    }
     accepted + usize::from(found.is_ok())
 }
 

@@ -91,7 +91,7 @@ fn sheet_i_outputs() {
 #[test]
 fn a_refused_call_leaves_the_output() {
     let mut output = [1, 2, 3, 4, 5, 6];
-    let reduce = |room| reference::partial_evaluate(&words(D), &[0x00, 0x20], room);
+    let reduce = |room| reference::partial_evaluate(&words(D), 0, &[0x00, 0x20], room);
     let refused = reduce(3);
     let given = refused.as_deref().map_err(|refusal| *refusal);
     assert!(reference::put(given, &mut output).is_err());

@@ -31,10 +31,10 @@ fn an_unknown_table_leaves_every_fact_open() {
     // A relay that holds nothing leaves the whole sheet open, where an empty table decides it.
     let sheet = [0x8800_0003, 0, 0x2000_03FF];
     let (mut open, mut decided) = ([0; 8], [0; 8]);
-    let open = vierskof::partial_evaluate(&sheet, table.as_bytes(), &mut open);
+    let open = vierskof::partial_evaluate(&sheet, 0, table.as_bytes(), &mut open);
     assert_eq!(open, Ok(&[0xF000_0000, sheet[0], sheet[1], sheet[2]][..]));
     let empty = FactTable::new();
-    let decided = vierskof::partial_evaluate(&sheet, empty.as_bytes(), &mut decided);
+    let decided = vierskof::partial_evaluate(&sheet, 0, empty.as_bytes(), &mut decided);
     assert_eq!(decided.unwrap()[0], 0xE000_0001);
 }
 
@@ -144,7 +144,7 @@ fn known_bytes_are_known_to_the_calls() {
     for fact in [fact(0), fact(3), fact(4), Fact::MAX] {
         for presence in [Presence::Absent, Presence::Present, Presence::Unknown] {
             let table = FactTable::new().with(fact, presence);
-            let evaluated = vierskof::evaluate(&[0x7000_0000], table.as_bytes(), &mut out);
+            let evaluated = vierskof::evaluate(&[0x7000_0000], 0, table.as_bytes(), &mut out);
             assert_eq!(evaluated.is_ok(), table.is_known());
             assert_eq!(table.is_known(), presence != Presence::Unknown);
         }

@@ -19,8 +19,8 @@ fn refused(number: u32, sheet: &[u32], facts: &[u8]) {
     let mut out = [0x5A5A_5A5A; 600];
     let record = [&[PENDING], sheet].concat();
     let found = [
-        evaluate(sheet, facts, &mut out).map(<[u32]>::len),
-        complete_residual(&record, facts, &mut out).map(<[u32]>::len),
+        evaluate(sheet, 0, facts, &mut out).map(<[u32]>::len),
+        complete_residual(&record, 0, facts, &mut out).map(<[u32]>::len),
     ];
     assert_eq!(found, [Err(Refusal::try_from(number).unwrap()); 2]);
     assert_eq!(out, [0x5A5A_5A5A; 600]);
@@ -47,12 +47,12 @@ fn length_is_1() {
     for words in [0, 4_097] {
         let sheet = vec![DENY; words];
         assert_eq!(Sheet::read(&sheet), Err(Refusal::Length));
-        assert_eq!(evaluate(&sheet, &[], &mut out), Err(Refusal::Length));
+        assert_eq!(evaluate(&sheet, 0, &[], &mut out), Err(Refusal::Length));
     }
     for words in [0, 16_385] {
         let record = vec![DENY; words];
         assert_eq!(Record::read(&record), Err(Refusal::Length));
-        let narrowed = narrow_residual(&record, &[], &mut out);
+        let narrowed = narrow_residual(&record, 0, &[], &mut out);
         assert_eq!(narrowed.map_err(Refusal::number), Err(1));
     }
 }
@@ -63,7 +63,7 @@ fn tables_are_2_to_4() {
     refused(3, &[DENY], &[0x00, 0x03]);
     refused(4, &[DENY], &[0x00, 0x02]);
     let mut out = [0; 8];
-    assert!(partial_evaluate(&[DENY], &[0x00, 0x02], &mut out).is_ok());
+    assert!(partial_evaluate(&[DENY], 0, &[0x00, 0x02], &mut out).is_ok());
 }
 
 #[test]
@@ -98,12 +98,18 @@ fn both_pairs_are_refused_alike() {
     for (sheet, facts, number) in cases {
         let refusal = Err(Refusal::try_from(number).unwrap());
         let mut out = [0x5A5A_5A5A; 600];
-        assert_eq!(partial_evaluate(sheet, facts, &mut out), refusal);
-        assert_eq!(partial_evaluate_in_order(sheet, facts, &mut out), refusal);
+        assert_eq!(partial_evaluate(sheet, 0, facts, &mut out), refusal);
+        assert_eq!(
+            partial_evaluate_in_order(sheet, 0, facts, &mut out),
+            refusal
+        );
         if number != 1 {
             let record = [&[PENDING], sheet].concat();
-            assert_eq!(narrow_residual(&record, facts, &mut out), refusal);
-            assert_eq!(narrow_residual_in_order(&record, facts, &mut out), refusal);
+            assert_eq!(narrow_residual(&record, 0, facts, &mut out), refusal);
+            assert_eq!(
+                narrow_residual_in_order(&record, 0, facts, &mut out),
+                refusal
+            );
         }
         assert_eq!(out, [0x5A5A_5A5A; 600]);
     }
@@ -125,14 +131,44 @@ fn kinds_have_their_places() {
 fn room_is_11() {
     let sheet = [0x8800_0003, 0x0000_0000, 0x2000_0005];
     let mut out = [1, 2, 3];
-    let refused = partial_evaluate(&sheet, &[0x00, 0x20], &mut out);
+    let refused = partial_evaluate(&sheet, 0, &[0x00, 0x20], &mut out);
     assert_eq!(refused, Err(Refusal::Room));
     assert_eq!(Refusal::Room.number(), 11);
     assert_eq!(out, [1, 2, 3]);
     let mut out = [9; 6];
-    let accepted = partial_evaluate(&sheet, &[0x00, 0x20], &mut out);
+    let accepted = partial_evaluate(&sheet, 0, &[0x00, 0x20], &mut out);
     assert_eq!(accepted, Ok(&[PENDING, sheet[0], sheet[1], sheet[2]][..]));
     assert_eq!(out[4..], [9, 9]);
+}
+
+/// A record of another sheet, Pending or Resolved: after 10 and before 11. Expected 0 is no wildcard.
+#[test]
+fn another_sheet_is_16() {
+    let calls = [narrow_residual, narrow_residual_in_order, complete_residual];
+    let pending = [0xF000_7000, 0x8800_0003, 0x0000_0000, 0x2000_0005];
+    let resolved = [0xE000_7000, 0xC000_0001, 0x0000_0000];
+    for record in [&pending[..], &resolved] {
+        let longer = [record, &[0]].concat();
+        for call in calls {
+            for room in [0, 8] {
+                let mut out = vec![0x5A5A_5A5A; room];
+                for number in [0, 8, 0x7000, u16::MAX] {
+                    assert_eq!(
+                        call(record, number, &[], &mut out),
+                        Err(Refusal::SheetNumber)
+                    );
+                    let refused = call(&longer, number, &[], &mut out);
+                    assert_eq!(refused, Err(Refusal::WordsAfterTree));
+                    let refused = call(record, number, &[0x03], &mut out);
+                    assert_eq!(refused, Err(Refusal::TableField));
+                }
+                assert_eq!(out, vec![0x5A5A_5A5A; room]);
+            }
+            let mut out = [0; 8];
+            assert!(call(record, 7, &[], &mut out).is_ok());
+            assert_eq!(call(record, 7, &[], &mut out[..2]), Err(Refusal::Room));
+        }
+    }
 }
 
 /// A register at its limit and past it, whatever group is asked for.
@@ -163,14 +199,14 @@ fn no_register_is_15() {
 
 #[test]
 fn numbers_and_refusals_belong_together() {
-    let numbers = [1, 2, 3, 4, 5, 6, 7, 8, 10, 11, 12, 13, 14, 15];
+    let numbers = [1, 2, 3, 4, 5, 6, 7, 8, 10, 11, 12, 13, 14, 15, 16];
     assert_eq!(numbers.len(), Refusal::ALL.len());
     for (number, &refusal) in numbers.into_iter().zip(Refusal::ALL) {
         assert_eq!(refusal.number(), number);
         assert_eq!(u32::from(refusal), number);
         assert_eq!(Refusal::try_from(number), Ok(refusal));
     }
-    for number in [0, 9, 16, u32::MAX] {
+    for number in [0, 9, 17, u32::MAX] {
         assert!(Refusal::try_from(number).is_err());
     }
     let sentences: BTreeSet<String> = Refusal::ALL.iter().map(ToString::to_string).collect();

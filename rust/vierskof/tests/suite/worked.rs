@@ -19,7 +19,7 @@ fn built(policy: &Policy) -> Vec<u32> {
 
 fn sitting(policy: &Policy, facts: &FactTable) -> Vec<u32> {
     let mut out = [0; ROOM];
-    let record = evaluate(&built(policy), facts.as_bytes(), &mut out);
+    let record = evaluate(&built(policy), 0, facts.as_bytes(), &mut out);
     record.expect("a record").to_vec()
 }
 
@@ -101,7 +101,7 @@ fn e_denies_without_it() {
 fn f_stays_pending() {
     let sheet = built(&D);
     let mut out = [0; ROOM];
-    let record = partial_evaluate(&sheet, five(Presence::Unknown).as_bytes(), &mut out).unwrap();
+    let record = partial_evaluate(&sheet, 0, five(Presence::Unknown).as_bytes(), &mut out).unwrap();
     assert_eq!(record, [&[0xF000_0000], &sheet[..]].concat());
     let typed = Record::read(record).unwrap();
     assert_eq!(typed.status(), Status::Pending);
@@ -111,7 +111,7 @@ fn f_stays_pending() {
     let named = vierskof::required_residual_facts(record).unwrap();
     assert!(named.iter().eq([fact(5)]));
     let mut narrowed = [0; ROOM];
-    let narrowed = narrow_residual(record, five(Presence::Present).as_bytes(), &mut narrowed);
+    let narrowed = narrow_residual(record, 0, five(Presence::Present).as_bytes(), &mut narrowed);
     assert_eq!(narrowed, Ok(&sitting(&D, &five(Presence::Present))[..]));
 }
 
@@ -140,10 +140,11 @@ fn h_loses_an_obligation_on_the_way() {
 
     let (mut out, mut completed) = ([0; ROOM], [0; ROOM]);
     let sheet = built(&H);
-    let pending = partial_evaluate(&sheet, five(Presence::Unknown).as_bytes(), &mut out).unwrap();
+    let pending =
+        partial_evaluate(&sheet, 0, five(Presence::Unknown).as_bytes(), &mut out).unwrap();
     assert_eq!(vierskof::carries_obligation(pending), Ok(true));
     let present = five(Presence::Present);
-    let staged = complete_residual(pending, present.as_bytes(), &mut completed).unwrap();
+    let staged = complete_residual(pending, 0, present.as_bytes(), &mut completed).unwrap();
     assert_eq!(vierskof::is_permit_constant(staged), Ok(true));
     assert_eq!(vierskof::is_deny_constant(staged), Ok(false));
     assert_eq!(permit(staged).outcome(), permit(&one).outcome());
@@ -155,19 +156,49 @@ fn h_keeps_it_in_sheet_order() {
     let sheet = built(&H);
     let [mut out, mut again, mut narrowed, mut completed] = [[0; ROOM]; 4];
     let (unknown, present) = (five(Presence::Unknown), five(Presence::Present));
-    let pending = partial_evaluate_in_order(&sheet, unknown.as_bytes(), &mut out).unwrap();
+    let pending = partial_evaluate_in_order(&sheet, 0, unknown.as_bytes(), &mut out).unwrap();
     let permit_node = [0xC000_0001, 0x0000_0000];
     assert_eq!(pending[1..], [&sheet[..5], &permit_node].concat());
-    let same = narrow_residual_in_order(pending, unknown.as_bytes(), &mut again);
+    let same = narrow_residual_in_order(pending, 0, unknown.as_bytes(), &mut again);
     assert_eq!(same, Ok(pending));
     let one = sitting(&H, &present);
-    let staged = narrow_residual_in_order(pending, present.as_bytes(), &mut narrowed);
+    let staged = narrow_residual_in_order(pending, 0, present.as_bytes(), &mut narrowed);
     assert_eq!(staged, Ok(&one[..]));
-    let staged = complete_residual(pending, present.as_bytes(), &mut completed);
+    let staged = complete_residual(pending, 0, present.as_bytes(), &mut completed);
     assert_eq!(staged, Ok(&one[..]));
     // The output as it was, where there is no room.
     let mut short = [9; 7];
-    let refused = partial_evaluate_in_order(&sheet, unknown.as_bytes(), &mut short);
+    let refused = partial_evaluate_in_order(&sheet, 0, unknown.as_bytes(), &mut short);
     assert_eq!(refused, Err(vierskof::Refusal::Room));
     assert_eq!(short, [9; 7]);
+}
+
+/// The number stands in the lead of what a call writes, and nowhere else.
+#[test]
+fn records_carry_their_sheets_number() {
+    let [mut reduced, mut narrowed, mut completed] = [[0; ROOM]; 3];
+    let (unknown, present) = (five(Presence::Unknown), five(Presence::Present));
+    let sheet = built(&D);
+    let pending = partial_evaluate(&sheet, 7, unknown.as_bytes(), &mut reduced).unwrap();
+    assert_eq!(pending, [&[0xF000_7000], &sheet[..]].concat());
+    assert_eq!(Record::read(pending).map(Record::number), Ok(7));
+    let permit = narrow_residual(pending, 7, present.as_bytes(), &mut narrowed).unwrap();
+    let expected = [0xE000_7001, 0x4005_0000, 0xC000_0003, 1, 0x0005_0000];
+    assert_eq!(permit, expected);
+    let deny = complete_residual(pending, 7, &[], &mut completed).unwrap();
+    let expected = [0xE000_7001, 0x0005_0000, 0xDC00_0003, 0, 1, 0x0005_0000];
+    assert_eq!(deny, expected);
+
+    for number in [0, 1, 7, 4_095, 4_096, u16::MAX] {
+        let [mut first, mut second, mut third] = [[0; ROOM]; 3];
+        let lead = |kind: u32| kind << 28 | u32::from(number) << 12;
+        let direct = evaluate(&[0x6000_0001], number, &[], &mut first);
+        assert_eq!(direct, Ok(&[lead(14), 0xC000_0001, 0][..]));
+        let pending = partial_evaluate_in_order(&sheet, number, unknown.as_bytes(), &mut second);
+        let pending = pending.unwrap();
+        assert_eq!(pending[0], lead(15));
+        assert_eq!(Record::read(pending).map(Record::number), Ok(number));
+        let same = narrow_residual_in_order(pending, number, unknown.as_bytes(), &mut third);
+        assert_eq!(same, Ok(pending));
+    }
 }

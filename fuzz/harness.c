@@ -162,6 +162,31 @@ static int presence(const struct given *table, size_t fact) {
     return fact / 4 < table->bytes ? table->table[fact / 4] >> (6 - 2 * (fact % 4)) & 3 : ABSENT;
 }
 
+// A record tells silence where the table ended before the fact, all that a sheet's record tells, and is in all else that of a table that enters every fact.
+static void tells_silence(struct given given, const struct answer *answer) {
+    uint8_t *whole = block(VIERSKOF_TABLE_BYTES);
+    memset(whole, 0, VIERSKOF_TABLE_BYTES);
+    if (given.bytes) memcpy(whole, given.table, given.bytes);
+    struct given entering = given;
+    entering.table = whole;
+    entering.bytes = VIERSKOF_TABLE_BYTES;
+    struct answer entered = call(entering, FIRST);
+    HOLDS(entered.number == 0 && entered.value == answer->value);
+    for (size_t i = 0; i < (answer->out[0] & 0xFFF); i++) {
+        size_t at = 1 + i / 2, shift = i % 2 ? 0 : 16, fact = answer->out[at] >> shift & 0x3FF;
+        uint32_t silent = 3U << (shift + 14);
+        bool tells = (answer->out[at] & silent) == silent;
+        HOLDS(!reads_sheet(given.call) || tells == (fact / 4 >= given.bytes));
+        if (tells && (entered.out[at] & silent) == 0) {
+            HOLDS(fact / 4 >= given.bytes);
+            entered.out[at] |= silent;
+        }
+    }
+    HOLDS(same(answer->out, entered.out, answer->value * sizeof *answer->out));
+    free(entered.out);
+    free(whole);
+}
+
 // Settles those facts that a table leaves Unknown: all of them, or every other one.
 static void settle(const struct given *from, int all, uint8_t *table) {
     memset(table, 0, from->bytes);
@@ -405,6 +430,7 @@ static void hold(struct given given) {
         return;
     }
     if (writes(given.call) && answer.number == 0) {
+        tells_silence(given, &answer);
         free(record_of(answer, given.room).words);
     } else {
         free(answer.out);

@@ -124,14 +124,14 @@ static void change_grant(struct input *input, size_t at, uint32_t word) {
     }
 }
 
-// Two more facts of a node 12 or 13, or two more consulted entries.
+// Two more facts of a node 12 or 13, or two more consulted entries, of any of the four presences.
 static void change_facts(struct input *input, size_t at, uint32_t word) {
     uint32_t kind = word >> 28;
     size_t count = kind == 12 ? at + 4 : kind == 13 ? at + 8 : at;
     size_t facts = count + 4 + (kind == 12 ? ((word >> 20 & 0x7F) + 3) / 4 * 4 : 0);
     if (facts > input->size) return;
     put(input->data + count, number_at(input->data + count, 4) + 2, 4);
-    insert(input, facts, two_facts(input) | (kind > 13 ? draw(input, 3) << 30 | draw(input, 3) << 14 : 0));
+    insert(input, facts, two_facts(input) | (kind > 13 ? draw(input, 4) << 30 | draw(input, 4) << 14 : 0));
 }
 
 static void change_word(struct input *input, size_t at, int sheet) {
@@ -204,12 +204,16 @@ static void change_call(struct input *input, size_t words, enum call call) {
     if (!reads_sheet(call) && reads_sheet(other) && lead) cut(input, words, 4);
 }
 
-// Another reading of a fact, or four more.
+// Another reading of a fact, or four more or fewer.
 static void change_table(struct input *input, size_t bytes) {
-    if (bytes && draw(input, 4)) {
+    uint32_t change = draw(input, 5);
+    if (bytes && change > 1) {
         uint8_t *at = input->data + LEAD + draw(input, (uint32_t)bytes);
         uint32_t shift = 2 * draw(input, 4);
         *at = (uint8_t)((*at & ~(3U << shift)) | draw(input, 3) << shift);
+    } else if (bytes && change) {
+        cut(input, LEAD + bytes - 1, 1);
+        put(input->data + 4, (uint32_t)bytes - 1, 2);
     } else if (gap(input, LEAD + bytes, 1)) {
         put(input->data + 4, (uint32_t)bytes + 1, 2);
     }

@@ -1,6 +1,7 @@
 /*
  * The calls of libvierskof.a, which `rt staticlib vierskof` makes. For C99 and C++11. What sheets, records and tables look
  * like is in docs/RULES.md: a table has two bits for each fact, fact 0 the top two of byte 0; 0 Absent, 1 Present, 2 Unknown.
+ * A fact past its end is Absent; where it is consulted, the record's entry has presence 3, silent, and not 0.
  *
  * A slice passes as a pointer and an element count. A call returns one number: that of the refusal times 2^32, or 0 when
  * it is accepted, and the call's value below. A refused call leaves the output as it was, and its value

@@ -7,11 +7,11 @@ use native.Mathlib.Omega.{arith}
 use lib.ListN.{length, take, drop, getD, length-map, length-append, length-drop}
 use lib.Seq.{take-suc, take-all}
 use Rattle.model.specs.Fields.{pack}
-use Rattle.model.specs.Facts.{Presence, absent, present, unknown, presence, factCount}
+use Rattle.model.specs.Facts.{Presence, absent, factCount}
 use Rattle.model.specs.Consulted.{Entry, Consulted, consult, onceFrom}
-use Rattle.model.specs.Writing.{entryBits, entryField}
+use Rattle.model.specs.Writing.{entryBits, presenceField, seenIn, entryField}
 use Rattle.laws.specs.FieldAt.{fieldAt}
-use Rattle.laws.specs.FieldAtLaws.{entry-field}
+use Rattle.laws.specs.FieldAtLaws.{seen-back, entry-field}
 use Rattle.laws.specs.Lengths.{length-pack}
 use Rattle.laws.specs.ReadForm.{Named}
 use Rattle.condition.specs.Listing.{entryOf, Lent, Consults, Recorded}
@@ -32,15 +32,11 @@ names-fact [] i n h = absurd (omega arith)
 names-fact (e ∷ es) zero n h = n .0
 names-fact (e ∷ es) (suc i) n h = names-fact es i (n .1) (omega arith)
 
-fact-of : (f b : ℕ) (p : Presence) → f < factCount → b ≡ entryField (entryOf f p) → b % 1024 ≡ f
-fact-of f b absent h e = omega arith
-fact-of f b present h e = omega arith
-fact-of f b unknown h e = omega arith
+fact-of : (b : ℕ) (e : Entry) → e .fact < factCount → b ≡ entryField e → b % 1024 ≡ e .fact
+fact-of b e h is = omega arith
 
-presence-of : (f b : ℕ) (p : Presence) → f < factCount → b ≡ entryField (entryOf f p) → presence (b / 16384) ≡ p
-presence-of f b absent h e = ap presence (let k : b / 16384 ≡ 0 = omega arith in k)
-presence-of f b present h e = ap presence (let k : b / 16384 ≡ 1 = omega arith in k)
-presence-of f b unknown h e = ap presence (let k : b / 16384 ≡ 2 = omega arith in k)
+presence-of : (b : ℕ) (e : Entry) → e .fact < factCount → b ≡ entryField e → seenIn (b / 16384) ≡ e .seen
+presence-of b e h is = ap seenIn (let k : b / 16384 ≡ presenceField (e .seen) = omega arith in k) ∙ seen-back (e .seen)
 
 -- ---- one entry more
 once-end : (l es : Consulted) (e : Entry) → onceFrom l (es ++ e ∷ []) ≡ consult (onceFrom l es) (e .fact) (e .seen)
@@ -58,20 +54,20 @@ module _ (words : List ℕ) (count : ℕ) (s : Lent) where
   pub load-none : Loading words count s s 0
   load-none = record { within = omega arith; entries-long = refl; seen-long = refl; log = λ es rest n e were. consults-none }
 
-  entry-listed : (t u : Lent) (i b f : ℕ) (p : Presence) (es : Consulted) → Named es → i < length es → b ≡ getD (map entryField es) i 0 → f ≡ b % 1024 → p ≡ presence (b / 16384) →
+  entry-listed : (t u : Lent) (i b f : ℕ) (p : Presence) (es : Consulted) → Named es → i < length es → b ≡ getD (map entryField es) i 0 → f ≡ b % 1024 → p ≡ seenIn (b / 16384) →
       Recorded f p t u → Consults (λ l. onceFrom l (take i es)) s t → Consults (λ l. onceFrom l (take (i + 1) es)) s u
   entry-listed t u i b f p es n h eb ef ep r k =
       let e = getD es i nothing-yet in
       let is : b ≡ entryField e = eb ∙ field-of es i h in
       let below = names-fact es i n h in
-      let fact : f ≡ e .fact = ef ∙ fact-of (e .fact) b (e .seen) below is in
-      let seen : p ≡ e .seen = ep ∙ presence-of (e .fact) b (e .seen) below is in
+      let fact : f ≡ e .fact = ef ∙ fact-of b e below is in
+      let seen : p ≡ e .seen = ep ∙ presence-of b e below is in
       consults-as (λ l.
       ap (λ j. onceFrom l (take j es)) (add-one i) ∙ ap (onceFrom l) (take-suc es i nothing-yet h) ∙ once-end l (take i es) e
       ∙ ap₂ (λ g q. consult (onceFrom l (take i es)) g q) (sym fact) (sym seen))
       (consults-then k (r .log))
 
-  pub load-more : (t u : Lent) (i b f : ℕ) (p : Presence) → i < count → Loading words count s t i → b ≡ fieldAt entryBits (drop 1 words) i → f ≡ b % 1024 → p ≡ presence (b / 16384) →
+  pub load-more : (t u : Lent) (i b f : ℕ) (p : Presence) → i < count → Loading words count s t i → b ≡ fieldAt entryBits (drop 1 words) i → f ≡ b % 1024 → p ≡ seenIn (b / 16384) →
       Recorded f p t u → length (u .entries) ≡ length (t .entries) → length (u .seen) ≡ length (t .seen) → Loading words count s u (i + 1)
   load-more t u i b f p h k eb ef ep r le ls =
       record {

@@ -9,7 +9,7 @@ use borrow.Author.Tests.{lt-ltb, ltb-true}
 use lib.Dec.{eqb, ltb}
 use lib.ListN.{length, drop, getD, drop-of-length-le}
 use lib.Seq.{drop-cons, drop-at}
-use Rattle.model.specs.Facts.{Presence, absent, present, unknown, Table, factCount}
+use Rattle.model.specs.Facts.{Presence, absent, present, unknown, silent, Table, factCount}
 use Rattle.model.specs.Condition.{Condition, always, never, allC, anyC, cnil, satisfied, unsatisfied, evalHas, flip, evalCondition}
 use Rattle.model.specs.Condition as model
 use Rattle.model.specs.Consulted.{Consulted, readC}
@@ -60,6 +60,7 @@ has-value : (f : ℕ) (p : Presence) → isPresent p ≡ isSatisfied (evalHas f 
 has-value f absent = refl
 has-value f present = refl
 has-value f unknown = refl
+has-value f silent = refl
 
 pub flip-value : (x : model.ConditionEval) → not (isSatisfied x) ≡ isSatisfied (flip x)
 flip-value (satisfied fs) = refl

@@ -5,7 +5,7 @@ use mathlib.Core.List.{List, [], _∷_}
 use Prim.Native.Nat.{ℕ, zero, suc, _+_, _-_, _/_, _%_, _≤_, _<_}
 use native.Mathlib.Omega.{arith}
 use lib.ListN.{length, take, drop, getD, set, length-set}
-use Rattle.model.specs.Facts.{Presence, absent, present, unknown, Table, factCount}
+use Rattle.model.specs.Facts.{Presence, absent, present, unknown, silent, Table, factCount}
 use Rattle.model.specs.Condition.{Condition, always, never, notC, allC, anyC, Conditions, cnil, ccons, evalHas, flip, evalCondition, evalConditionAll}
 use Rattle.model.specs.Reading.{Parsed, got, next, many, readCondition}
 use Rattle.laws.specs.FieldLaws.{Holds, fine, nothing, then-holds, both-hold}
@@ -22,6 +22,7 @@ eval-has : (f : ℕ) (p : Presence) → evalHas f p ≡ evalOf (isPresent p) (f 
 eval-has f absent = refl
 eval-has f present = refl
 eval-has f unknown = refl
+eval-has f silent = refl
 
 flip-of : (b : Bool) (fs : List ℕ) → flip (evalOf b fs) ≡ evalOf (not b) fs
 flip-of true fs = refl

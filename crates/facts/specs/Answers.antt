@@ -7,7 +7,7 @@ use Rattle.model.specs.Facts as model
 use Rattle.model.specs.Consulted.{Entry}
 use Rattle.model.specs.Writing.{presenceField}
 use Rattle.facts.specs.declared.Presence.{Presence}
-use Rattle.facts.specs.declared.Presence.the-variants.{Absent, Present, Unknown}
+use Rattle.facts.specs.declared.Presence.the-variants.{Absent, Present, Unknown, Silent}
 use Rattle.facts.specs.declared.TableFault.{TableFault}
 use Rattle.facts.specs.declared.TableFault.the-variants.{Faultless, Refused}
 use Rattle.facts.specs.declared.TableKind.{TableKind}
@@ -17,12 +17,14 @@ abbrev pub presenceOf : Presence → model.Presence
 presenceOf Absent = model.absent
 presenceOf Present = model.present
 presenceOf Unknown = model.unknown
+presenceOf Silent = model.silent
 
--- Document 01's number.
+-- Its number in a consulted entry.
 abbrev pub presenceNumber : Presence → ℕ
 presenceNumber Absent = 0
 presenceNumber Present = 1
 presenceNumber Unknown = 2
+presenceNumber Silent = 3
 
 -- An answer reads as p: it is that case, and has its number.
 pub record Reads (r : Presence) (p : model.Presence) : Type 0 where
@@ -37,11 +39,13 @@ abbrev pub isPresent : model.Presence → Bool
 isPresent model.absent = false
 isPresent model.present = true
 isPresent model.unknown = false
+isPresent model.silent = false
 
 abbrev pub isSettled : model.Presence → Bool
 isSettled model.absent = true
 isSettled model.present = true
 isSettled model.unknown = false
+isSettled model.silent = true
 
 abbrev pub kindOf : TableKind → model.TableKind
 kindOf Partial = model.partialFacts

@@ -4,20 +4,21 @@ ghost use Prim.Native.Nat.{_/_, _≤_, _<_};
 ghost use lib.Dec.{eqb};
 ghost use lib.ListN.{length, getD};
 ghost use Rattle.model.specs.Fields.{split};
-ghost use Rattle.model.specs.Facts.{factCount, presence, tableFields, tableOf, fieldFault, firstFault, tableBytes, tableFault};
+ghost use Rattle.model.specs.Facts.{factCount, tableFields, tableOf, fieldFault, firstFault, tableBytes, tableFault};
 ghost use Rattle.model.specs.Facts.{partialFacts, knownFacts};
-ghost use Rattle.model.specs.Writing.{entryField};
+ghost use Rattle.model.specs.Writing.{entryField, seenIn};
 ghost use Rattle.facts.specs.Answers.{presenceNumber, Reads, entryOf, isPresent, isSettled, kindOf, faultOf, noFault};
 
-// What a table says of a fact: 0, 1 and 2 in a table and in a consulted entry.
+// What a table says of a fact: 0, 1 and 2 in a table and in a consulted entry. Silent, where the table ended before the fact, is 3 in an entry alone.
 pub enum Presence {
     Absent,
     Present,
     Unknown,
+    Silent,
 }
 
 // How many presences there are.
-pub const PRESENCES: u32 = 3;
+pub const PRESENCES: u32 = 4;
 
 // The presence of a consulted entry stands above its fact and four zero bits.
 pub const ABOVE_FACT: u32 = 16384;
@@ -51,17 +52,6 @@ fn field(facts: &[u8], fact: u32) -> u8
 }
 
 impl Presence {
-    // By its number. 3, which no accepted table or record holds, reads Unknown.
-    fn numbered(number: u32) -> Presence
-        ensures { λ r. ⌜ Reads r (presence number) ⌝ }
-    {
-        match number {
-            0 => Presence::Absent,
-            1 => Presence::Present,
-            _ => Presence::Unknown,
-        }
-    }
-
     // Its number.
     fn number(self) -> u16
         ensures { λ r. ⌜ r ≡ presenceNumber self ⌝ }
@@ -70,14 +60,22 @@ impl Presence {
             Presence::Absent => 0,
             Presence::Present => 1,
             Presence::Unknown => 2,
+            Presence::Silent => 3,
         }
     }
 
-    // What the table says of a fact.
+    // What the table says of a fact. A field of 3, which no accepted table holds, reads Unknown.
     pub fn of(facts: &[u8], fact: u32) -> Presence
         ensures { λ r. ⌜ Reads r (tableOf (now (facts .entry)) fact) ⌝ }
     {
-        Presence::numbered(field(facts, fact) as u32)
+        if facts.len() <= (fact / 4) as usize {
+            return Presence::Silent;
+        }
+        match field(facts, fact) {
+            0 => Presence::Absent,
+            1 => Presence::Present,
+            _ => Presence::Unknown,
+        }
     }
 }
 
@@ -91,9 +89,14 @@ pub fn entry(fact: u32, presence: Presence) -> u16
 
 // The presence in a consulted entry.
 pub fn entry_presence(field: u32) -> Presence
-    ensures { λ r. ⌜ Reads r (presence (field / 16384)) ⌝ }
+    ensures { λ r. ⌜ Reads r (seenIn (field / 16384)) ⌝ }
 {
-    Presence::numbered(field / ABOVE_FACT)
+    match field / ABOVE_FACT {
+        0 => Presence::Absent,
+        1 => Presence::Present,
+        2 => Presence::Unknown,
+        _ => Presence::Silent,
+    }
 }
 
 // Whether the table has the fact as Present.
@@ -103,7 +106,7 @@ pub fn present(facts: &[u8], fact: u32) -> bool
     field(facts, fact) == 1
 }
 
-// Whether the table has the fact as Present or Absent.
+// Whether the table has the fact as Present or Absent, silence being Absent.
 pub fn settled(facts: &[u8], fact: u32) -> bool
     ensures { λ r. ⌜ r ≡ isSettled (tableOf (now (facts .entry)) fact) ⌝ }
 {

@@ -2,7 +2,7 @@
 use mathlib.Core.Path.{_≡_}
 use mathlib.Core.Logic.{_⊎_}
 use Prim.Native.Nat.{ℕ}
-use Rattle.model.specs.Facts.{unknown, Table}
+use Rattle.model.specs.Facts.{unknown, Table, heard}
 use Rattle.model.specs.Condition.{Condition, always, never, has, notC, allC, anyC, Conditions, cnil, ccons}
 use Rattle.model.specs.Policy.{Policy, permit, deny, grant, all, any, orElse, stored, Policies, pnil, pcons}
 
@@ -35,6 +35,6 @@ abbrev mutual
   Eachs Q pnil = Unit {0}
   Eachs Q (pcons t ts) = Each Q t × Eachs Q ts
 
--- The table P reads the fact f as Unknown, or as K does.
+-- The table P reads the fact f as Unknown, or as K does, silence being Absent.
 abbrev pub Agrees : Table → Table → ℕ → Type 0
-Agrees K P f = (P f ≡ unknown) ⊎ (P f ≡ K f)
+Agrees K P f = (P f ≡ unknown) ⊎ (heard (P f) ≡ heard (K f))

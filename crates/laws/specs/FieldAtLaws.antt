@@ -8,9 +8,10 @@ use lib.Pow.{pow-pos, pow-add, field, mod-mod-pow}
 use lib.ListN.{length, take, drop, getD, length-append, length-map, List·getD-append, List·getD-eq-default}
 use lib.Seq.{take-suc, take-length, drop-drop, getD-drop}
 use Rattle.model.specs.Fields.{bits, split, joined, packed, wordsFor, perWord, pack}
-use Rattle.model.specs.Facts.{Presence, absent, present, unknown, factCount, presence}
+use Rattle.model.specs.Facts.{Presence, absent, present, unknown, silent, factCount}
 use Rattle.model.specs.Consulted.{Consulted}
-use Rattle.model.specs.Writing.{entryBits, presenceField, entryField}
+use Rattle.model.specs.Writing.{entryBits, presenceField, seenIn, entryField}
+use Rattle.model.specs.Reading.{presenceCount}
 use Rattle.laws.specs.Lists.{Below}
 use Rattle.laws.specs.FieldAt.{fieldAt, firsts, padded, Narrow}
 use Rattle.laws.specs.FieldLaws.{padded-none, narrow-drop, joined-small, split-nil, split-joined, length-packed}
@@ -147,15 +148,17 @@ pub narrow-below : (width n : ℕ) (vs : List ℕ) → n ≤ 2 ^ width → Below
 narrow-below width n [] h b = tt
 narrow-below width n (v ∷ vs) h b = (let k : v < n = b .0 in le-trans k h, narrow-below width n vs h (b .1))
 
-pub presence-few : (p : Presence) → presenceField p ≤ 2
+pub presence-few : (p : Presence) → presenceField p < presenceCount
 presence-few absent = omega arith
 presence-few present = omega arith
 presence-few unknown = omega arith
+presence-few silent = omega arith
 
-pub presence-back : (p : Presence) → presence (presenceField p) ≡ p
-presence-back absent = refl
-presence-back present = refl
-presence-back unknown = refl
+pub seen-back : (p : Presence) → seenIn (presenceField p) ≡ p
+seen-back absent = refl
+seen-back present = refl
+seen-back unknown = refl
+seen-back silent = refl
 
 pub narrow-entries : (es : Consulted) → Named es → Narrow entryBits (map entryField es)
 narrow-entries [] h = tt

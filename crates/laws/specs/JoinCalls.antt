@@ -1,6 +1,6 @@
 -- The join of tables as a call: the order of the two, and the grouping of three, makes no difference, a clash included; which numbers it is refused
 -- with, 14 exactly for a clash; how long the result is and what it reads of each fact. Request 2.
-use mathlib.Core.Path.{_≡_, refl, sym, _∙_, ap, ap₂}
+use mathlib.Core.Path.{_≡_, refl, sym, _∙_, ap, ap₂, subst₂}
 use mathlib.Core.Bool.{Bool, true, false, cond, _&&_, and-comm, and-eq-true-iff}
 use mathlib.Core.Option.{Option, none, some}
 use mathlib.Core.List.{List, [], _∷_}
@@ -10,11 +10,12 @@ use borrow.Author.Tests.{leb-true, le-leb}
 use lib.Dec.{leb}
 use lib.ListN.{length, getD}
 use Rattle.model.specs.Fields.{packed}
-use Rattle.model.specs.Facts.{partialFacts, presence, tableOf, tableFields, tableBytes, fieldFault, orFault, firstFault, tableFault}
+use Rattle.model.specs.Facts.{partialFacts, presence, tableOf, heard, tableFields, tableBytes, fieldFault, orFault, firstFault, tableFault}
 use Rattle.model.specs.Decision.{held}
 use Rattle.model.specs.Calls.{Answer, refusal, wrote, unlessFault}
 use Rattle.model.specs.Join.{joinField, joinFields, clashes, joinedBytes, clashFault, joinFault, joinTables, onJoined, joinLeft, joinRight}
 use Rattle.laws.specs.FieldLaws.{length-packed}
+use Rattle.laws.specs.SilenceLaws.{heard-field}
 use Rattle.laws.specs.JoinLaws.{fields-comm, fields-assoc, clash-stays, join-at, clean, narrow-join, no-clash, clash-fact, fact-clashes, Opposed, clash-opposed, opposed-clash, below-at, fields-joined}
 
 -- ---- a partial table's fields are turned back with 3 alone
@@ -133,19 +134,19 @@ module _ (a b : List ℕ) (ha : tableFault partialFacts a ≡ none) (hb : tableF
       let q = few-and-clean b hb .1 in
       rw (room-for, fields-joined a b p q) (no-clash fields (narrow-join (tableFields a) (tableFields b) (clean (tableFields a) p) (clean (tableFields b) q)) e)
 
-  -- What the result reads of each fact.
-  pub joined-reads : (f : ℕ) → tableOf (joinedBytes a b) f ≡ presence (joinField (getD (tableFields a) f 0) (getD (tableFields b) f 0))
-  joined-reads f = ap presence (ap (λ fs. getD fs f 0) (fields-joined a b (few-and-clean a ha .1) (few-and-clean b hb .1)) ∙ join-at (tableFields a) (tableFields b) f)
+  -- What the result reads of each fact, silence being Absent.
+  pub joined-reads : (f : ℕ) → heard (tableOf (joinedBytes a b) f) ≡ presence (joinField (getD (tableFields a) f 0) (getD (tableFields b) f 0))
+  joined-reads f = heard-field (joinedBytes a b) f ∙ ap presence (ap (λ fs. getD fs f 0) (fields-joined a b (few-and-clean a ha .1) (few-and-clean b hb .1)) ∙ join-at (tableFields a) (tableFields b) f)
 
--- ---- 14 exactly if some fact is Present in one table and Absent in the other
+-- ---- 14 exactly if some fact is Present in one table and Absent in the other, past its end too
 pub record Clash (a b : List ℕ) : Type 0 where
   pub fact : ℕ
-  pub opposed : Opposed (tableOf a fact) (tableOf b fact)
+  pub opposed : Opposed (heard (tableOf a fact)) (heard (tableOf b fact))
 
 pub clash-clashes : (a b : List ℕ) → Clash a b → clashes (joinFields (tableFields a) (tableFields b)) ≡ true
 clash-clashes a b c =
     fact-clashes (joinFields (tableFields a) (tableFields b)) (c .fact)
-    (join-at (tableFields a) (tableFields b) (c .fact) ∙ opposed-clash (getD (tableFields a) (c .fact) 0) (getD (tableFields b) (c .fact) 0) (c .opposed))
+    (join-at (tableFields a) (tableFields b) (c .fact) ∙ opposed-clash (getD (tableFields a) (c .fact) 0) (getD (tableFields b) (c .fact) 0) (subst₂ Opposed (heard-field a (c .fact)) (heard-field b (c .fact)) (c .opposed)))
 
 module _ (a b : List ℕ) (ha : tableFault partialFacts a ≡ none) (hb : tableFault partialFacts b ≡ none) where
   pub clashes-clash : clashes (joinFields (tableFields a) (tableFields b)) ≡ true → Clash a b
@@ -154,10 +155,11 @@ module _ (a b : List ℕ) (ha : tableFault partialFacts a ≡ none) (hb : tableF
       record {
         fact = c .fact;
         opposed =
-            clash-opposed (getD (tableFields a) (c .fact) 0) (getD (tableFields b) (c .fact) 0)
+            subst₂ Opposed (sym (heard-field a (c .fact))) (sym (heard-field b (c .fact)))
+            (clash-opposed (getD (tableFields a) (c .fact) 0) (getD (tableFields b) (c .fact) 0)
             (below-at (tableFields a) (c .fact) (clean (tableFields a) (few-and-clean a ha .1)))
             (below-at (tableFields b) (c .fact) (clean (tableFields b) (few-and-clean b hb .1)))
-            (sym (join-at (tableFields a) (tableFields b) (c .fact)) ∙ c .written);
+            (sym (join-at (tableFields a) (tableFields b) (c .fact)) ∙ c .written));
       }
 
   pub clash-refused : (room : ℕ) → Clash a b → joinTables a b room ≡ refusal 14

@@ -15,8 +15,11 @@ pub mod Products
 pub mod Folds
 pub mod Deeper
 pub mod Numbers
+pub mod Alike
 pub mod PartialTable
 pub mod PartialTableLaws
+pub mod Silence
+pub mod SilenceLaws
 pub mod InForce
 pub mod InForceLaws
 pub mod UnpackedLaws

@@ -17,8 +17,8 @@ use Rattle.model.specs.Policy.{Policy, deny, grant, all, any, orElse, permit, s
 use Rattle.model.specs.Partial.{ReducedPolicy, resolved, pending, Order}
 use Rattle.model.specs.Consulted.{Consulted}
 use Rattle.model.specs.Record.{Record, evaluated, reduced, narrowed, completed}
-use Rattle.model.specs.Writing.{encodeR, countBits, markBits, obligationBits, entryBits}
-use Rattle.model.specs.Reading.{Parsed, refuse, got, next, unless, another, Fields, bad, ok, put, takeField, takeFields, readWords, readList, obligation, fewObligations, listed, entry, consulted, kindOf, restOf, plain, counted, many, nodeC, readCondition, levels, sheetLength, recordLength, whole, mark, shapeOf, outcomeOf, deniedOf, grantMore, parseGrant, grantAt, more12, parse12, at12, more13, parse13, at13, asStored, inResidual, nodeP, lastKind, readPolicy, readSheet, node14, parse14, parse15, rest, leads, readLead, readRecord, obligationCount}
+use Rattle.model.specs.Writing.{encodeR, countBits, markBits, obligationBits, entryBits, seenIn}
+use Rattle.model.specs.Reading.{Parsed, refuse, got, next, unless, another, Fields, bad, ok, put, takeField, takeFields, readWords, readList, obligation, fewObligations, listed, consulted, kindOf, restOf, plain, counted, many, nodeC, readCondition, levels, sheetLength, recordLength, whole, mark, shapeOf, outcomeOf, deniedOf, grantMore, parseGrant, grantAt, more12, parse12, at12, more13, parse13, at13, asStored, inResidual, nodeP, lastKind, readPolicy, readSheet, node14, parse14, parse15, rest, leads, readLead, readRecord, obligationCount, presenceCount}
 use Rattle.model.specs.Calls.{Answer, refusal, wrote, unlessLong, unlessFault, onRead, unlessOther, hasNumber, isSheetNumber, under, fits, write, evaluate, partialEvaluate, narrowResidual, completeResidual}
 
 -- A number of the table. There is no 9: obligations may repeat.
@@ -121,16 +121,11 @@ obligation-numbered os b = unless-numbered (ltb b obligationCount) 8 (got b []) 
 listed-numbered : (fs : List ℕ) (b : ℕ) → Numbered (listed fs b)
 listed-numbered fs b = unless-numbered (ltb b factCount) 8 (got b []) eight tt
 
-entry-numbered : (k f : ℕ) → Numbered (entry k f)
-entry-numbered zero f = tt
-entry-numbered (suc zero) f = tt
-entry-numbered (suc (suc zero)) f = tt
-entry-numbered (suc (suc (suc n))) f = eight
-
 consulted-numbered : (es : Consulted) (b : ℕ) → Numbered (consulted es b)
 consulted-numbered es b =
+    let presence = b / 2 ^ (4 + factBits) in
     let fact = b % 2 ^ (4 + factBits) in
-    unless-numbered (ltb fact factCount) 8 (entry (b / 2 ^ (4 + factBits)) fact) eight (entry-numbered (b / 2 ^ (4 + factBits)) fact)
+    unless-numbered (ltb presence presenceCount && ltb fact factCount) 8 (got (record { fact = fact; seen = seenIn presence }) []) eight tt
 
 obligations-numbered : (k : ℕ) (ws : List ℕ) → Numbered (readList obligation obligationBits k ws)
 obligations-numbered k ws = list-numbered obligation obligation-numbered obligationBits k ws

@@ -1,7 +1,7 @@
 -- Reduction with Unknown turned to Absent before a known grant, and a list without pending arms, is evaluated. Document 01, "Reducing": "re-evaluated with Unknown
 -- read as Absent". That is the former rule: request 4 reads the partial table itself, and PartialTableLaws shows that both give every record alike, under either order.
 use mathlib.Core.List.{List, [], _∷_}
-use Rattle.model.specs.Facts.{Presence, absent, present, unknown, Table}
+use Rattle.model.specs.Facts.{Presence, absent, present, unknown, silent, Table}
 use Rattle.model.specs.Outcome.{Outcomes}
 use Rattle.model.specs.Condition.{evalCondition}
 use Rattle.model.specs.Decision.{permits, denies, combined, genericDeny}
@@ -15,6 +15,7 @@ abbrev pub settle : Presence → Presence
 settle absent = absent
 settle present = present
 settle unknown = absent
+settle silent = silent
 
 abbrev pub asKnown : Table → Table
 asKnown T f = settle (T f)

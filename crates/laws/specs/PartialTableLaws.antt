@@ -1,80 +1,38 @@
 -- A partial table read as it is gives what it gives with Unknown turned to Absent: for every table, whether or not bytes give it, every condition, policy and record.
 use mathlib.Core.Path.{_≡_, refl, _∙_, ap, ap₂}
-use mathlib.Core.Bool.{cond}
-use mathlib.Core.Option.{none}
 use mathlib.Core.List.{List, [], _∷_}
 use Prim.Native.Nat.{ℕ}
-use Rattle.model.specs.Facts.{Presence, absent, present, unknown, Table}
+use Rattle.model.specs.Facts.{Presence, absent, present, unknown, silent, Table}
 use Rattle.model.specs.Outcome.{Outcomes}
-use Rattle.model.specs.Condition.{Condition, always, never, has, notC, allC, anyC, Conditions, cnil, ccons, unsatisfied, evalHas, flip, both, either, unlessNone, evalCondition, evalConditionAll, evalConditionAny}
+use Rattle.model.specs.Condition.{Condition, evalHas, evalCondition}
 use Rattle.model.specs.Policy.{Grant, Policy, permit, deny, grant, all, any, orElse, stored, Policies, pnil, pcons}
-use Rattle.model.specs.Evaluate.{evalGrant, firstOf, allFrom, anyFrom, evalPolicy, evalPolicies}
-use Rattle.model.specs.Partial.{reduceCondition, ReducedPolicy, resolved, pending, arms, kept, AllWalk, stop, go, AnyWalk, parts, walkedAll, walkedAny, upToDeny, inOrder, anyPending, reduceGrant, reduceOrElse, endAll, endAny, endInOrder, Order, permitsFirst, sheetOrder, allOf, anyOf, reducePolicy, reduceArms}
+use Rattle.model.specs.Evaluate.{evalGrant, evalPolicy}
+use Rattle.model.specs.Partial.{reduceCondition, ReducedPolicy, resolved, pending, reduceGrant, reduceOrElse, Order, allOf, anyOf, reducePolicy, reduceArms}
 use Rattle.model.specs.Consulted.{Consulted, once, unlessDenied, unlessPermitted, walk, walkAll, walkAny}
 use Rattle.model.specs.Record.{Record, reduced, narrowedFrom, narrowed}
+use Rattle.laws.specs.Alike.{eval-alike, policy-alike, all-of, any-of}
 use Rattle.laws.specs.PartialTable.{settle, asKnown, reduceSettled, armsSettled, walkSettled, walkAllSettled, walkAnySettled, reducedSettled, narrowedFromSettled, narrowedSettled}
 
 has-settled : (f : ℕ) (p : Presence) → evalHas f (settle p) ≡ evalHas f p
 has-settled f absent = refl
 has-settled f present = refl
 has-settled f unknown = refl
+has-settled f silent = refl
 
-mutual
-  -- A condition's value and the facts that it names.
-  pub eval-settled : (P : Table) (c : Condition) → evalCondition (asKnown P) c ≡ evalCondition P c
-  eval-settled P always = refl
-  eval-settled P never = refl
-  eval-settled P (has f) = has-settled f (P f)
-  eval-settled P (notC c) = ap flip (eval-settled P c)
-  eval-settled P (allC cs) = ap (unlessNone cs (unsatisfied [])) (all-settled P cs)
-  eval-settled P (anyC cs) = any-settled P cs
+module _ (P : Table) where
+  has-alike : (f : ℕ) → evalHas f (asKnown P f) ≡ evalHas f (P f)
+  has-alike f = has-settled f (P f)
 
-  all-settled : (P : Table) (cs : Conditions) → evalConditionAll (asKnown P) cs ≡ evalConditionAll P cs
-  all-settled P cnil = refl
-  all-settled P (ccons c cs) = ap₂ both (eval-settled P c) (all-settled P cs)
+  -- A condition's value and the facts that it names, and a grant's clause.
+  pub eval-settled : (c : Condition) → evalCondition (asKnown P) c ≡ evalCondition P c
+  eval-settled c = eval-alike (asKnown P) P has-alike c
 
-  any-settled : (P : Table) (cs : Conditions) → evalConditionAny (asKnown P) cs ≡ evalConditionAny P cs
-  any-settled P cnil = refl
-  any-settled P (ccons c cs) = ap₂ either (eval-settled P c) (any-settled P cs)
-
--- A grant's clause.
-pub grant-settled : {O : Type 0} (P : Table) (g : Grant O) (c : Condition) → evalGrant g (evalCondition (asKnown P) c) ≡ evalGrant g (evalCondition P c)
-grant-settled P g c = ap (evalGrant g) (eval-settled P c)
+  pub grant-settled : {O : Type 0} (g : Grant O) (c : Condition) → evalGrant g (evalCondition (asKnown P) c) ≡ evalGrant g (evalCondition P c)
+  grant-settled g c = ap (evalGrant g) (eval-settled c)
 
 module _ (L : Outcomes) where
-  mutual
-    pub policy-settled : (P : Table) (t : Policy (L .O)) → evalPolicy L (asKnown P) t ≡ evalPolicy L P t
-    policy-settled P (permit o) = refl
-    policy-settled P deny = refl
-    policy-settled P (grant g c) = grant-settled P g c
-    policy-settled P (all ts) = ap (allFrom L none) (policies-settled P ts)
-    policy-settled P (any ts) = ap (anyFrom L none none) (policies-settled P ts)
-    policy-settled P (orElse a b) = ap₂ firstOf (policy-settled P a) (policy-settled P b)
-    policy-settled P (stored d) = refl
-
-    policies-settled : (P : Table) (ts : Policies (L .O)) → evalPolicies L (asKnown P) ts ≡ evalPolicies L P ts
-    policies-settled P pnil = refl
-    policies-settled P (pcons t ts) = ap₂ _∷_ (policy-settled P t) (policies-settled P ts)
-
-  end-all : (P : Table) (w : AllWalk (L .O)) → endAll L (asKnown P) w ≡ endAll L P w
-  end-all P (stop d) = refl
-  end-all P (go ps pnil) = ap resolved (policy-settled P (all (arms ps pnil)))
-  end-all P (go ps (pcons q qs)) = refl
-
-  end-any : (P : Table) (w : AnyWalk (L .O)) → endAny L (asKnown P) w ≡ endAny L P w
-  end-any P (parts ps first pnil) = ap resolved (policy-settled P (any (kept ps first pnil)))
-  end-any P (parts ps first (pcons q qs)) = refl
-
-  end-order : (list : Policies (L .O) → Policy (L .O)) (P : Table) (rs : List (ReducedPolicy (L .O))) → endInOrder L list (asKnown P) rs ≡ endInOrder L list P rs
-  end-order list P rs = ap (λ d. cond (anyPending rs) (pending (list (inOrder rs))) (resolved d)) (policy-settled P (list (inOrder rs)))
-
-  all-of : (o : Order) (P : Table) (rs : List (ReducedPolicy (L .O))) → allOf L o (asKnown P) rs ≡ allOf L o P rs
-  all-of permitsFirst P rs = end-all P (walkedAll rs)
-  all-of sheetOrder P rs = end-order all P (upToDeny rs)
-
-  any-of : (o : Order) (P : Table) (rs : List (ReducedPolicy (L .O))) → anyOf L o (asKnown P) rs ≡ anyOf L o P rs
-  any-of permitsFirst P rs = end-any P (walkedAny rs)
-  any-of sheetOrder P rs = end-order any P rs
+  pub policy-settled : (P : Table) (t : Policy (L .O)) → evalPolicy L (asKnown P) t ≡ evalPolicy L P t
+  policy-settled P t = policy-alike (asKnown P) P (has-alike P) L t
 
   -- Every record: the tree and the consulted facts.
   abbrev recordOf : ReducedPolicy (L .O) → Consulted → Record (L .O)
@@ -86,8 +44,8 @@ module _ (L : Outcomes) where
       reduction-settled P (permit x) = refl
       reduction-settled P deny = refl
       reduction-settled P (grant g c) = ap (λ v. reduceGrant g v (reduceCondition P c)) (eval-settled P c)
-      reduction-settled P (all ts) = all-of o P (armsSettled L o P ts) ∙ ap (allOf L o P) (arms-settled P ts)
-      reduction-settled P (any ts) = any-of o P (armsSettled L o P ts) ∙ ap (anyOf L o P) (arms-settled P ts)
+      reduction-settled P (all ts) = all-of (asKnown P) P (has-alike P) L o (armsSettled L o P ts) ∙ ap (allOf L o P) (arms-settled P ts)
+      reduction-settled P (any ts) = any-of (asKnown P) P (has-alike P) L o (armsSettled L o P ts) ∙ ap (anyOf L o P) (arms-settled P ts)
       reduction-settled P (orElse a b) = ap₂ reduceOrElse (reduction-settled P a) (reduction-settled P b)
       reduction-settled P (stored d) = refl
 

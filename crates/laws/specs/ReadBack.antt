@@ -9,7 +9,7 @@ use borrow.Author.Tests.{lt-ltb, le-ltb, le-leb}
 use lib.Dec.{eqb, ltb, leb}
 use lib.ListN.{length}
 use Rattle.model.specs.Fields.{pack}
-use Rattle.model.specs.Facts.{Presence, absent, present, unknown}
+use Rattle.model.specs.Facts.{Presence}
 use Rattle.model.specs.Condition.{Condition, always, never, has, notC, allC, anyC, Conditions, cnil, ccons}
 use Rattle.model.specs.Decision.{Shape, forbidden, hidden, Permit, Denial, Decision, permits, denies}
 use Rattle.model.specs.Policy.{Grant, Policy, permit, deny, grant, all, any, orElse, stored, Policies, pnil, pcons}
@@ -17,11 +17,11 @@ use Rattle.model.specs.Partial.{ReducedPolicy, resolved, pending, asResidual}
 use Rattle.model.specs.Consulted.{Entry, Consulted}
 use Rattle.model.specs.Record.{Record, tree}
 use Rattle.model.specs.Writing.{obligationBits, entryBits, word, shapeBit, marked, presenceField, entryField, countC, count, encodeC, encodeCs, deniedField, encodeD, encode, encodes, leadKind, encodeR, numbered}
-use Rattle.model.specs.Reading.{Parsed, got, next, unless, readList, obligation, listed, entry, consulted, many, nodeC, readCondition, whole, mark, shapeOf, outcomeOf, deniedOf, grantMore, parseGrant, grantAt, more12, parse12, at12, more13, parse13, at13, asStored, node, readPolicy, readSheet, node14, parse14, parse15, rest, leads, readLead, readRecord, sheetNumber, obligationCount, mostObligations}
+use Rattle.model.specs.Reading.{Parsed, got, next, unless, readList, obligation, listed, consulted, many, nodeC, readCondition, whole, mark, shapeOf, outcomeOf, deniedOf, grantMore, parseGrant, grantAt, more12, parse12, at12, more13, parse13, at13, asStored, node, readPolicy, readSheet, node14, parse14, parse15, rest, leads, readLead, readRecord, sheetNumber, obligationCount, mostObligations}
 use Rattle.laws.specs.Lists.{Below}
 use Rattle.laws.specs.FieldAt.{Narrow}
 use Rattle.laws.specs.FieldLaws.{Passes, back-list}
-use Rattle.laws.specs.FieldAtLaws.{narrow-below, narrow-entries}
+use Rattle.laws.specs.FieldAtLaws.{narrow-below, presence-few, seen-back, narrow-entries}
 use Rattle.laws.specs.Size.{IsSheet, SheetIf, SheetsIf}
 use Rattle.laws.specs.Form.{FormC, FormCs, IfThere, FormL, Countable, FormP, FormN, FormD, FormG, FormOf, FormsOf, Few, depthC, depthCs, depth, depths}
 use Rattle.laws.specs.ReadForm.{Named}
@@ -99,18 +99,11 @@ back-facts fs ws f =
     ap (λ l. readList listed entryBits (length fs) (pack entryBits l ++ ws)) (sym (map-id fs))
     ∙ back-list self listed entryBits 1 fs ws refl (narrow entryBits 1024 fs (omega arith) f) (passes-facts fs [] f)
 
-seen-back : (p : Presence) (f : ℕ) → entry (presenceField p) f ≡ got (record { fact = f; seen = p }) []
-seen-back absent f = refl
-seen-back present f = refl
-seen-back unknown f = refl
+entry-at : (es : Consulted) (b f : ℕ) (p : Presence) → b % 16384 ≡ f → b / 16384 ≡ presenceField p → f < 1024 → consulted es b ≡ got (record { fact = f; seen = p }) []
+entry-at es b f p lo hi h = rw (lo, hi, lt-ltb (presenceField p) 4 (presence-few p), lt-ltb f 1024 h, seen-back p)
 
 entry-passes : (es : Consulted) (x : Entry) → x .fact < 1024 → consulted es (entryField x) ≡ got x []
-entry-passes es x h =
-    let lo : entryField x % 16384 ≡ x .fact = omega arith in
-    let hi : entryField x / 16384 ≡ presenceField (x .seen) = omega arith in
-    (λ i. unless (ltb (lo i) 1024) 8 (entry (hi i) (lo i)))
-    ∙ unless-is 8 (entry (presenceField (x .seen)) (x .fact)) (lt-ltb (x .fact) 1024 h)
-    ∙ seen-back (x .seen) (x .fact)
+entry-passes es x h = entry-at es (entryField x) (x .fact) (x .seen) (omega arith) (omega arith) h
 
 passes-entries : (es sofar : Consulted) → Named es → Passes entryField consulted sofar es
 passes-entries [] sofar b = tt

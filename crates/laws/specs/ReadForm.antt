@@ -1,7 +1,7 @@
 -- What is read is of good form: a sheet or record that is accepted has fields that fit,
 -- the nesting that was allowed, and as many words as were read.
 use mathlib.Core.Path.{_≡_, refl, sym, _∙_, ap, ap₂, subst}
-use mathlib.Core.Bool.{Bool, true, false, cond, _&&_}
+use mathlib.Core.Bool.{Bool, true, false, cond, _&&_, and-eq-true-iff}
 use mathlib.Core.Option.{Option, none, some}
 use mathlib.Core.List.{List, [], _∷_, _++_}
 use Prim.Native.Nat.{ℕ, zero, suc, _+_, _-_, _*_, _/_, _%_, _≤_, _<_, max}
@@ -10,24 +10,20 @@ use borrow.Author.Tests.{ltb-true, leb-true, eqb-true, not-true, lt-ltb, le-ltb,
 use lib.Dec.{eqb, ltb, leb, ltb→lt, leb→le, eqb→eq, T}
 use lib.ListN.{length, length-append}
 use Rattle.model.specs.Fields.{wordsFor, perWord}
-use Rattle.model.specs.Facts.{absent, present, unknown, factCount}
+use Rattle.model.specs.Facts.{factCount}
 use Rattle.model.specs.Condition.{Condition, always, never, has, notC, allC, anyC, Conditions, cnil, ccons}
 use Rattle.model.specs.Decision.{Decision, permits, denies}
 use Rattle.model.specs.Policy.{Policy, permit, deny, grant, all, any, orElse, stored, Policies, pnil, pcons}
 use Rattle.model.specs.Partial.{ReducedPolicy, resolved, pending, asResidual}
 use Rattle.model.specs.Consulted.{Entry, Consulted}
 use Rattle.model.specs.Record.{Record, tree}
-use Rattle.model.specs.Writing.{obligationBits, entryBits, entryField, countC, count, mostListed}
-use Rattle.model.specs.Reading.{Parsed, refuse, got, next, unless, another, readList, obligation, listed, entry, consulted, kindOf, restOf, counted, many, nodeC, readCondition, recordLength, whole, mark, shapeOf, outcomeOf, deniedOf, grantMore, parseGrant, more12, at12, more13, at13, asStored, inResidual, nodeP, lastKind, readPolicy, readSheet, node14, parse14, parse15, rest, leads, readLead, readRecord, obligationCount, mostObligations}
+use Rattle.model.specs.Writing.{obligationBits, entryBits, presenceField, seenIn, entryField, countC, count, mostListed}
+use Rattle.model.specs.Reading.{Parsed, refuse, got, next, unless, another, readList, obligation, listed, presenceCount, consulted, kindOf, restOf, counted, many, nodeC, readCondition, recordLength, whole, mark, shapeOf, outcomeOf, deniedOf, grantMore, parseGrant, more12, at12, more13, at13, asStored, inResidual, nodeP, lastKind, readPolicy, readSheet, node14, parse14, parse15, rest, leads, readLead, readRecord, obligationCount, mostObligations}
 use Rattle.model.specs.Calls.{fits}
 use Rattle.laws.specs.Lists.{Below, every-end}
 use Rattle.laws.specs.FieldLaws.{Holds, fine, nothing, if-holds, weaker, then-holds, both-hold, same-list, kept-list}
 use Rattle.laws.specs.Size.{wordsC, wordsCs, wordsD, words, wordss, wordsR, IsSheet, AreSheets, SheetIf, SheetsIf}
 use Rattle.laws.specs.Form.{FormC, FormCs, IfThere, FormL, Countable, FewRepeats, FormD, FormOf, FormsOf, Few, Free, Form, depthC, depthCs, depth, depths}
-
-and-right : (a b : Bool) → (a && b) ≡ true → b ≡ true
-and-right true b e = e
-and-right false b e = cc
 
 -- ---- conditions: the form, the levels left, the words there were
 abbrev OkC : ℕ → ℕ → Condition → List ℕ → Type 0
@@ -104,23 +100,26 @@ named-end : (es : Consulted) (e : Entry) → Named es → e .fact < factCount �
 named-end [] e h k = (k, tt)
 named-end (x ∷ es) e h k = (h .0, named-end es e (h .1) k)
 
-entry-keeps : (es : Consulted) (k f : ℕ) → Named es → f < factCount → Holds (λ a _. Named (es ++ a ∷ [])) (entry k f)
-entry-keeps es zero f h n = fine (named-end es (record { fact = f; seen = absent }) h n)
-entry-keeps es (suc zero) f h n = fine (named-end es (record { fact = f; seen = present }) h n)
-entry-keeps es (suc (suc zero)) f h n = fine (named-end es (record { fact = f; seen = unknown }) h n)
-entry-keeps es (suc (suc (suc k))) f h n = nothing
+-- A presence is written as the number that it was read from.
+seen-field : (k : ℕ) → k < presenceCount → presenceField (seenIn k) ≡ k
+seen-field zero h = refl
+seen-field (suc zero) h = refl
+seen-field (suc (suc zero)) h = refl
+seen-field (suc (suc (suc zero))) h = refl
+seen-field (suc (suc (suc (suc k)))) h = absurd (omega arith)
 
-consulted-keeps : (es : Consulted) (b : ℕ) → Named es → Holds (λ a _. Named (es ++ a ∷ [])) (consulted es b)
-consulted-keeps es b h = if-holds (ltb (b % 16384) 1024) 8 (entry (b / 16384) (b % 16384)) (λ e. entry-keeps es (b / 16384) (b % 16384) h (ltb-true (b % 16384) 1024 e))
+module _ (es : Consulted) (b : ℕ) where
+  abbrev in-range : Bool
+  in-range = ltb (b / 16384) 4 && ltb (b % 16384) 1024
 
-same-entry : (k f b : ℕ) → k * 16384 + f ≡ b → Holds (λ a _. entryField a ≡ b) (entry k f)
-same-entry zero f b h = fine h
-same-entry (suc zero) f b h = fine h
-same-entry (suc (suc zero)) f b h = fine h
-same-entry (suc (suc (suc k))) f b h = nothing
+  abbrev it : Entry
+  it = record { fact = b % 16384; seen = seenIn (b / 16384) }
 
-pub same-consulted : (es : Consulted) (b : ℕ) → Holds (λ a _. entryField a ≡ b) (consulted es b)
-same-consulted es b = if-holds (ltb (b % 16384) 1024) 8 (entry (b / 16384) (b % 16384)) (λ _. same-entry (b / 16384) (b % 16384) b (omega arith))
+  consulted-keeps : Named es → Holds (λ a _. Named (es ++ a ∷ [])) (consulted es b)
+  consulted-keeps h = if-holds in-range 8 (got it []) (λ e. fine (named-end es it h (ltb-true (b % 16384) 1024 (and-eq-true-iff (ltb (b / 16384) 4) (ltb (b % 16384) 1024) .0 e .1))))
+
+  pub same-consulted : Holds (λ a _. entryField a ≡ b) (consulted es b)
+  same-consulted = if-holds in-range 8 (got it []) (λ e. fine (omega (arith, seen-field (b / 16384) (ltb-true (b / 16384) 4 (and-eq-true-iff (ltb (b / 16384) 4) (ltb (b % 16384) 1024) .0 e .0)))))
 
 abbrev OkEs : ℕ → ℕ → Consulted → List ℕ → Type 0
 OkEs n l es vs = Named es × (length es ≡ n) × (wordsFor (perWord entryBits) n + length vs ≡ l)
@@ -333,7 +332,7 @@ module _ {O : Type 0} (G : O → Type 0) (value : ℕ → Option O) (sound : (n 
   pub ok-sheet : (ws : List ℕ) → Holds (OkSheet ws) (readSheet value ws)
   ok-sheet ws =
       if-holds (leb 1 (length ws) && leb (length ws) 4096) 1 (whole (readPolicy value false 32 ws)) (λ e.
-      let room : length ws ≤ 4096 = leb-true (length ws) 4096 (and-right (leb 1 (length ws)) (leb (length ws) 4096) e) in
+      let room : length ws ≤ 4096 = leb-true (length ws) 4096 (and-eq-true-iff (leb 1 (length ws)) (leb (length ws) 4096) .0 e .1) in
       whole-holds (readPolicy value false 32 ws) (λ t h. (sheet-form Few Countable FewRepeats t (h .3) (h .0), h .1, omega arith, h .3, omega arith)) (ok-T false Few 4095 (λ c h. h) 32 ws room))
 
   -- ---- records

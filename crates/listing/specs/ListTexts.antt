@@ -7,7 +7,8 @@ use native.Mathlib.Nat.{mul-one, mul-suc}
 use native.Mathlib.Omega.{arith}
 use lib.Dec.{ltb}
 use lib.ListN.{length, drop, length-append, length-map}
-use Rattle.model.specs.Facts.{Presence, absent, present, unknown, presence}
+use Rattle.model.specs.Facts.{Presence, absent, present, unknown, silent}
+use Rattle.model.specs.Writing.{seenIn}
 use Rattle.model.specs.Listing.{text, digits, decimal, commas, listOf, presenceText}
 use Rattle.laws.specs.FieldAt.{fieldAt, firsts}
 use Rattle.laws.specs.FieldAtLaws.{length-firsts}
@@ -63,6 +64,7 @@ pub length-presence : (p : Presence) → length (presenceText p) ≤ 7
 length-presence absent = omega arith
 length-presence present = omega arith
 length-presence unknown = omega arith
+length-presence silent = omega arith
 
 pub least-most : (kind : Listed) → (5 ≤ mostOf kind) × (mostOf kind ≤ 13)
 least-most Obligations = (omega arith, omega arith)
@@ -74,7 +76,7 @@ unfolding fieldText
 length-field Obligations b = omega (arith, length-decimal b)
 length-field Facts b = omega (arith, length-decimal b)
 length-field Entries b =
-    omega (arith, length-append (decimal (b % 16384)) (61 ∷ presenceText (presence (b / 16384))), length-decimal (b % 16384), length-presence (presence (b / 16384)))
+    omega (arith, length-append (decimal (b % 16384)) (61 ∷ presenceText (seenIn (b / 16384))), length-decimal (b % 16384), length-presence (seenIn (b / 16384)))
 
 pub length-fields : (kind : Listed) (ws : List ℕ) (at n : ℕ) → length (fieldsText kind ws at n) ≤ 1 + mostOf kind * n
 length-fields kind ws at zero = omega (arith, ap length (fields-none kind ws at))

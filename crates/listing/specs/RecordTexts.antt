@@ -10,20 +10,20 @@ use lib.Dec.{eqb}
 use lib.ListN.{length, drop, getD, length-append, length-map}
 use lib.Seq.{getD-drop, drop-drop, drop-at}
 use Rattle.model.specs.Fields.{wordsFor, pack}
-use Rattle.model.specs.Facts.{presence, factCount}
+use Rattle.model.specs.Facts.{factCount}
 use Rattle.model.specs.Outcome.{productSets}
 use Rattle.model.specs.Decision.{Shape, forbidden, hidden, Permit, Denial, Decision, permits, denies}
 use Rattle.model.specs.Partial.{ReducedPolicy, resolved, pending}
 use Rattle.model.specs.Consulted.{Entry, Consulted}
 use Rattle.model.specs.Record.{Record}
-use Rattle.model.specs.Writing.{word, marked, shapeBit, presenceField, entryField, obligationBits, entryBits, numbered, mostListed, mostHeld}
-use Rattle.model.specs.Reading.{Parsed, refuse, got, shapeOf, sheetNumber, obligationCount}
+use Rattle.model.specs.Writing.{word, marked, shapeBit, presenceField, seenIn, entryField, obligationBits, entryBits, mostListed, mostHeld, numbered}
+use Rattle.model.specs.Reading.{Parsed, refuse, got, shapeOf, obligationCount, sheetNumber}
 use Rattle.model.specs.Listing.{text, newline, digits, decimal, listOf, line, shapeName, presenceText, entryText, listing}
 use Rattle.model.specs.Products.{Outcome, deniedField, encodeD, encodeR, readRecord}
 use Rattle.laws.specs.Lists.{Below}
 use Rattle.laws.specs.FieldAt.{fieldAt, firsts}
 use Rattle.laws.specs.FieldLaws.{Holds}
-use Rattle.laws.specs.FieldAtLaws.{fields-held, narrow-below, narrow-entries, presence-few, presence-back}
+use Rattle.laws.specs.FieldAtLaws.{fields-held, narrow-below, narrow-entries, presence-few, seen-back}
 use Rattle.laws.specs.Lengths.{length-pack}
 use Rattle.laws.specs.Form.{IfThere, Countable, FormP, FormN, FormD}
 use Rattle.laws.specs.Products.{InRange, writtenProducts}
@@ -41,7 +41,7 @@ unfolding fieldText
 entry-same e h =
     let f : entryField e % 16384 ≡ e .fact = omega (arith, presence-few (e .seen)) in
     let p : entryField e / 16384 ≡ presenceField (e .seen) = omega (arith, presence-few (e .seen)) in
-    ap₂ (λ x y. decimal x ++ (61 ∷ presenceText y)) f (ap presence p ∙ presence-back (e .seen))
+    ap₂ (λ x y. decimal x ++ (61 ∷ presenceText y)) f (ap seenIn p ∙ seen-back (e .seen))
 
 entries-same : (es : Consulted) → Named es → map (fieldText Entries) (map entryField es) ≡ map entryText es
 entries-same [] h = refl

@@ -6,13 +6,13 @@ use Prim.Native.Nat.{ℕ, _+_, _/_, _%_, _^_}
 use lib.Dec.{eqb}
 use lib.ListN.{length, drop, getD}
 use Rattle.model.specs.Fields.{bits, wordsFor}
-use Rattle.model.specs.Facts.{factBits, presence}
+use Rattle.model.specs.Facts.{factBits}
 use Rattle.model.specs.Outcome.{outcomeBits}
 use Rattle.model.specs.Decision.{Shape, forbidden, hidden}
 use Rattle.model.specs.Partial.{ReducedPolicy, resolved, pending}
 use Rattle.model.specs.Consulted.{Consulted}
 use Rattle.model.specs.Record.{Record}
-use Rattle.model.specs.Writing.{obligationBits, entryBits, countBits}
+use Rattle.model.specs.Writing.{obligationBits, entryBits, seenIn, countBits}
 use Rattle.model.specs.Reading.{Parsed, refuse, got, kindOf, shapeOf}
 use Rattle.model.specs.Listing.{text, newline, digits, decimal, listOf, presenceText, listing}
 use Rattle.model.specs.Products.{Outcome}
@@ -55,7 +55,7 @@ mostOf Entries = 13
 unfoldable pub fieldText : Listed → ℕ → List ℕ
 fieldText Obligations b = decimal b
 fieldText Facts b = decimal b
-fieldText Entries b = decimal (b % 2 ^ (4 + factBits)) ++ (text "=" ++ presenceText (presence (b / 2 ^ (4 + factBits))))
+fieldText Entries b = decimal (b % 2 ^ (4 + factBits)) ++ (text "=" ++ presenceText (seenIn (b / 2 ^ (4 + factBits))))
 
 unfoldable pub fieldsText : Listed → List ℕ → ℕ → ℕ → List ℕ
 fieldsText kind ws at n = listOf (map (fieldText kind) (firsts (fieldAt (widthOf kind) (drop at ws)) n))

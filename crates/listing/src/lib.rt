@@ -104,6 +104,7 @@ fn put_presence(presence: Presence, out: &mut [u8]) -> usize
         Presence::Absent => bytes::copy(b"=absent", out),
         Presence::Present => bytes::copy(b"=present", out),
         Presence::Unknown => bytes::copy(b"=unknown", out),
+        Presence::Silent => bytes::copy(b"=silent", out),
     }
 }
 

@@ -3,7 +3,7 @@ use mathlib.Core.Bool.{Bool, true, false, _||_}
 use mathlib.Core.List.{List, [], _∷_, _++_}
 use Prim.Native.Nat.{ℕ}
 use lib.Dec.{eqb}
-use Rattle.model.specs.Facts.{Presence, absent, present, unknown, Table}
+use Rattle.model.specs.Facts.{Presence, absent, present, unknown, silent, Table}
 
 -- A condition, and a list of conditions.
 mutual
@@ -26,6 +26,7 @@ abbrev pub evalHas : ℕ → Presence → ConditionEval
 evalHas f absent = unsatisfied (f ∷ [])
 evalHas f present = satisfied (f ∷ [])
 evalHas f unknown = unsatisfied (f ∷ [])
+evalHas f silent = unsatisfied (f ∷ [])
 
 -- Not flips, and keeps the names.
 abbrev pub flip : ConditionEval → ConditionEval

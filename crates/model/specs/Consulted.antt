@@ -3,7 +3,7 @@ use mathlib.Core.Bool.{Bool, true, false, cond, _||_}
 use mathlib.Core.List.{List, [], _∷_, _++_}
 use Prim.Native.Nat.{ℕ}
 use lib.Dec.{eqb}
-use Rattle.model.specs.Facts.{Presence, absent, present, unknown, Table}
+use Rattle.model.specs.Facts.{Presence, absent, present, unknown, silent, Table}
 use Rattle.model.specs.Outcome.{Outcomes}
 use Rattle.model.specs.Condition.{Condition, always, never, has, notC, allC, anyC, Conditions, cnil, ccons, ConditionEval, satisfied, unsatisfied, evalCondition}
 use Rattle.model.specs.Decision.{Decision, permits, denies}
@@ -32,6 +32,7 @@ abbrev pub consultKnown : Consulted → ℕ → Presence → Consulted
 consultKnown l f absent = consult l f absent
 consultKnown l f present = consult l f present
 consultKnown l f unknown = l
+consultKnown l f silent = consult l f silent
 
 -- Prior consulted facts, once each, the first entry kept.
 abbrev pub onceFrom : Consulted → Consulted → Consulted

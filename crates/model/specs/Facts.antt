@@ -4,12 +4,12 @@ use mathlib.Core.Option.{Option, none, some}
 use mathlib.Core.List.{List, [], _∷_, _++_}
 use Prim.Native.Nat.{ℕ, zero, suc, _^_}
 use lib.Dec.{leb}
-use lib.ListN.{length, getD}
+use lib.ListN.{length}
 use Rattle.model.specs.Fields.{split}
 
--- What a table says of a fact.
+-- What a table says of a fact. Silent: the table ended before it, so that it was never entered (request 9).
 pub data Presence : Type 0 where
-  absent present unknown : Presence
+  absent present unknown silent : Presence
 
 -- A table gives each fact a reading.
 abbrev pub Table : Type 0
@@ -33,9 +33,21 @@ presence zero = absent
 presence (suc zero) = present
 presence (suc (suc n)) = unknown
 
--- A fact past the end reads Absent, never Unknown.
+-- What the fields say of a fact. A fact is entered where the table has its byte; past the end the table is silent.
+abbrev pub observed : List ℕ → Table
+observed [] f = silent
+observed (q ∷ qs) zero = presence q
+observed (q ∷ qs) (suc f) = observed qs f
+
 abbrev pub tableOf : List ℕ → Table
-tableOf bs f = presence (getD (tableFields bs) f 0)
+tableOf bs f = observed (tableFields bs) f
+
+-- Silence read as Absent, never Unknown: what decisions and stages go by.
+abbrev pub heard : Presence → Presence
+heard absent = absent
+heard present = present
+heard unknown = unknown
+heard silent = absent
 
 -- A call takes a partial table, or a known one, which holds no Unknown.
 pub data TableKind : Type 0 where

@@ -25,3 +25,4 @@ pub mod Calendar
 pub mod Windows
 pub mod WorkedWindows
 pub mod WorkedRepeats
+pub mod WorkedSilence

@@ -7,7 +7,7 @@ use Prim.Native.Char.{Char, code}
 use Prim.Native.String as Text
 use lib.Dec.{ltb, leb}
 use lib.ListN.{length, take, drop}
-use Rattle.model.specs.Facts.{Presence, absent, present, unknown, tableOf, knownFacts, tableBytes, tableFault}
+use Rattle.model.specs.Facts.{Presence, absent, present, unknown, silent, tableOf, knownFacts, tableBytes, tableFault}
 use Rattle.model.specs.Outcome.{productSets}
 use Rattle.model.specs.Decision.{Shape, forbidden, hidden, Decision, permits, denies, products}
 use Rattle.model.specs.Policy.{Policy, permit, deny}
@@ -77,11 +77,12 @@ abbrev pub factsOf : {O : Type 0} → Decision O → List ℕ
 factsOf (permits p) = p .facts
 factsOf (denies d) = d .facts
 
--- A fact, `=`, `present` or `absent`. (A known table gives no Unknown.)
+-- A fact, `=`, `present`, `absent` or `silent`. (A known table gives no Unknown.)
 abbrev pub presenceText : Presence → List ℕ
 presenceText absent = text "absent"
 presenceText present = text "present"
 presenceText unknown = text "unknown"
+presenceText silent = text "silent"
 
 abbrev pub entryText : Entry → List ℕ
 entryText e = decimal (e .fact) ++ (text "=" ++ presenceText (e .seen))

@@ -3,7 +3,7 @@ use mathlib.Core.Bool.{Bool, true, false, not, cond}
 use mathlib.Core.Option.{Option, none, some}
 use mathlib.Core.List.{List, [], _∷_}
 use Prim.Native.Nat.{ℕ}
-use Rattle.model.specs.Facts.{Presence, absent, present, unknown, Table}
+use Rattle.model.specs.Facts.{Presence, absent, present, unknown, silent, Table}
 use Rattle.model.specs.Outcome.{Outcomes}
 use Rattle.model.specs.Condition.{Condition, always, never, has, notC, allC, anyC, Conditions, cnil, ccons, ConditionEval, unlessNone, evalCondition}
 use Rattle.model.specs.Decision.{Permit, Denial, Decision, permits, denies, combined, genericDeny}
@@ -22,6 +22,7 @@ abbrev pub reduceHas : ℕ → Presence → ReducedCondition
 reduceHas f absent = known false
 reduceHas f present = known true
 reduceHas f unknown = pendingC (has f)
+reduceHas f silent = known false
 
 -- Not flips a known condition and wraps a pending one.
 abbrev pub flipR : ReducedCondition → ReducedCondition

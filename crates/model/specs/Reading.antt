@@ -9,7 +9,7 @@ use Prim.Native.Nat.{ℕ, zero, suc, _+_, _-_, _/_, _%_, _^_}
 use lib.Dec.{eqb, ltb, leb}
 use lib.ListN.{length, getD}
 use Rattle.model.specs.Fields.{bits, split, perWord}
-use Rattle.model.specs.Facts.{absent, present, unknown, factBits, factCount}
+use Rattle.model.specs.Facts.{factBits, factCount}
 use Rattle.model.specs.Outcome.{outcomeBits}
 use Rattle.model.specs.Condition.{Condition, always, never, has, notC, allC, anyC, cnil, ccons}
 use Rattle.model.specs.Decision.{Shape, forbidden, hidden, Decision, permits, denies}
@@ -17,7 +17,7 @@ use Rattle.model.specs.Policy.{Policy, permit, deny, grant, all, any, or
 use Rattle.model.specs.Partial.{ReducedPolicy, resolved, pending}
 use Rattle.model.specs.Consulted.{Entry, Consulted}
 use Rattle.model.specs.Record.{Record}
-use Rattle.model.specs.Writing.{restBits, countBits, sheetBits, markBits, obligationBits, entryBits}
+use Rattle.model.specs.Writing.{restBits, countBits, sheetBits, markBits, obligationBits, entryBits, seenIn}
 
 -- What reading gives: a refusal's number, or a value and the words after it.
 pub data Parsed (A : Type 0) : Type 0 where
@@ -89,15 +89,15 @@ fewObligations n = leb n mostObligations
 abbrev pub listed : List ℕ → ℕ → Parsed ℕ
 listed fs b = unless (ltb b factCount) 8 (got b [])
 
--- A consulted entry: presence (2; 3 gives 8), zero (4), fact (10). Duplicates are allowed.
-abbrev pub entry : ℕ → ℕ → Parsed Entry
-entry zero f = got (record { fact = f; seen = absent }) []
-entry (suc zero) f = got (record { fact = f; seen = present }) []
-entry (suc (suc zero)) f = got (record { fact = f; seen = unknown }) []
-entry (suc (suc (suc n))) f = refuse 8
+-- A consulted entry: presence (2), zero (4), fact (10). Every presence is accepted, and duplicates are allowed.
+abbrev pub presenceCount : ℕ
+presenceCount = 4
 
 abbrev pub consulted : Consulted → ℕ → Parsed Entry
-consulted es b = unless (ltb (b % 2 ^ (4 + factBits)) factCount) 8 (entry (b / 2 ^ (4 + factBits)) (b % 2 ^ (4 + factBits)))
+consulted es b =
+    let presence = b / 2 ^ (4 + factBits) in
+    let fact = b % 2 ^ (4 + factBits) in
+    unless (ltb presence presenceCount && ltb fact factCount) 8 (got (record { fact = fact; seen = seenIn presence }) [])
 
 -- ---- words
 

@@ -66,8 +66,8 @@ starred =
     ∷ row evaluates 16384 [] (0xA0000000 ∷ []) (writes (0xE0000000 ∷ 0xD0000000 ∷ 0x0 ∷ 0x0 ∷ []))
     -- D
     ∷ row evaluates 16384 (0x0 ∷ 0x10 ∷ []) (0x88000003 ∷ 0x0 ∷ 0x20000005 ∷ []) (writes (0xE0000001 ∷ 0x40050000 ∷ 0xC0000003 ∷ 0x1 ∷ 0x50000 ∷ []))
-    -- E: a missing fact is Absent
-    ∷ row evaluates 16384 [] (0x88000003 ∷ 0x0 ∷ 0x20000005 ∷ []) (writes (0xE0000001 ∷ 0x50000 ∷ 0xDC000003 ∷ 0x0 ∷ 0x1 ∷ 0x50000 ∷ []))
+    -- E: a missing fact is Absent, by silence
+    ∷ row evaluates 16384 [] (0x88000003 ∷ 0x0 ∷ 0x20000005 ∷ []) (writes (0xE0000001 ∷ 0xC0050000 ∷ 0xDC000003 ∷ 0x0 ∷ 0x1 ∷ 0x50000 ∷ []))
     -- F
     ∷ row reduces 16384 (0x0 ∷ 0x20 ∷ []) (0x88000003 ∷ 0x0 ∷ 0x20000005 ∷ []) (writes (0xF0000000 ∷ 0x88000003 ∷ 0x0 ∷ 0x20000005 ∷ []))
     -- G
@@ -90,7 +90,7 @@ turns =
     -- an empty condition Any is false too: Not makes it true
     ∷ row evaluates 100 [] (0x80000001 ∷ 0x0 ∷ 0x30000000 ∷ 0x50000000 ∷ []) (writes (0xE0000000 ∷ 0xC0000001 ∷ 0x0 ∷ []))
     -- a missing fact is Absent in a partial table too, so nothing is pending
-    ∷ row reduces 100 [] (0x88000003 ∷ 0x0 ∷ 0x20000005 ∷ []) (writes (0xE0000001 ∷ 0x50000 ∷ 0xDC000003 ∷ 0x0 ∷ 0x1 ∷ 0x50000 ∷ []))
+    ∷ row reduces 100 [] (0x88000003 ∷ 0x0 ∷ 0x20000005 ∷ []) (writes (0xE0000001 ∷ 0xC0050000 ∷ 0xDC000003 ∷ 0x0 ∷ 0x1 ∷ 0x50000 ∷ []))
     -- All unites no obligations
     ∷ row evaluates 100 (0x54 ∷ []) (0x90000002 ∷ 0x80100003 ∷ 0x0 ∷ 0x7000000 ∷ 0x20000001 ∷ 0x80100006 ∷ 0x0 ∷ 0x8000000 ∷ 0x20000002 ∷ []) (writes (0xE0000002 ∷ 0x40014002 ∷ 0xC0000002 ∷ 0x0 ∷ []))
     -- a meet equal to the earlier outcome keeps the earlier permit whole
@@ -118,7 +118,7 @@ turns =
     -- arms after a policy All's deny are not read
     ∷ row evaluates 100 (0x10 ∷ []) (0x90000003 ∷ 0x60000001 ∷ 0x70000000 ∷ 0x80000001 ∷ 0x0 ∷ 0x20000001 ∷ []) (writes (0xE0000000 ∷ 0xD0000000 ∷ 0x0 ∷ 0x0 ∷ []))
     -- Any denies with the first deny's clause
-    ∷ row evaluates 100 [] (0xA0000002 ∷ 0x80000001 ∷ 0x0 ∷ 0x20000000 ∷ 0x80000002 ∷ 0x0 ∷ 0x20000001 ∷ []) (writes (0xE0000002 ∷ 0x1 ∷ 0xD4000001 ∷ 0x0 ∷ 0x1 ∷ 0x0 ∷ []))
+    ∷ row evaluates 100 [] (0xA0000002 ∷ 0x80000001 ∷ 0x0 ∷ 0x20000000 ∷ 0x80000002 ∷ 0x0 ∷ 0x20000001 ∷ []) (writes (0xE0000002 ∷ 0xC000C001 ∷ 0xD4000001 ∷ 0x0 ∷ 0x1 ∷ 0x0 ∷ []))
     -- OrElse takes the fallback on deny
     ∷ row evaluates 100 (0x10 ∷ []) (0xB0000000 ∷ 0x70000000 ∷ 0x80000001 ∷ 0x80058007 ∷ 0x20000001 ∷ []) (writes (0xE0000001 ∷ 0x40010000 ∷ 0xC0000001 ∷ 0x80050001 ∷ 0x10000 ∷ []))
     -- and the primary on permit
@@ -155,7 +155,7 @@ refusals =
     ∷ row evaluates 100 [] (0x80200001 ∷ 0x0 ∷ 0x7070001 ∷ 0x0 ∷ []) (refuses 8)
     ∷ row evaluates 100 [] (0x80200001 ∷ 0x0 ∷ 0x7080001 ∷ 0x0 ∷ []) (refuses 8)
     -- a count says nothing of presence in advance
-    ∷ row narrows 100 [] (0xF0000FFF ∷ 0xC0000000 ∷ []) (refuses 8)
+    ∷ row narrows 100 [] (0xF0000FFF ∷ 0x4000000 ∷ []) (refuses 8)
     ∷ row evaluates 100 [] (0x80500001 ∷ 0x0 ∷ 0x7074000 ∷ []) (refuses 8)
     -- an obligation count over 64 is a field of word one
     ∷ row evaluates 100 [] (0x84100001 ∷ []) (refuses 8)
@@ -271,7 +271,7 @@ pub listing-D : sitting inputD ≡ text "effect permit\nproducts 0003\nshape -\n
 listing-D = refl
 
 -- case E: an empty table
-pub listing-E : sitting (take 14 inputD ++ 0 ∷ 0 ∷ []) ≡ text "effect deny\nproducts ----\nshape hidden\nobligations -\nfacts 5\nconsulted 5=absent\n"
+pub listing-E : sitting (take 14 inputD ++ 0 ∷ 0 ∷ []) ≡ text "effect deny\nproducts ----\nshape hidden\nobligations -\nfacts 5\nconsulted 5=silent\n"
 listing-E = refl
 
 -- Any of two grants (outcome 0x00AF; obligations 7, 63 and 10; facts 1,000 and 0)
@@ -280,7 +280,7 @@ inputLong =
     0 ∷ 10 ∷ 0xA0 ∷ 0 ∷ 0 ∷ 2 ∷ 0x80 ∷ 0x20 ∷ 0 ∷ 0xAF ∷ 0 ∷ 0 ∷ 0 ∷ 0 ∷ 7 ∷ 63 ∷ 0 ∷ 0 ∷ 0x30 ∷ 0 ∷ 0 ∷ 0 ∷ 0x20 ∷ 0 ∷ 3 ∷ 0xE8
     ∷ 0x80 ∷ 0x10 ∷ 0 ∷ 0xAF ∷ 0 ∷ 0 ∷ 0 ∷ 0 ∷ 10 ∷ 0 ∷ 0 ∷ 0 ∷ 0x20 ∷ 0 ∷ 0 ∷ 0 ∷ 0 ∷ 1 ∷ 0x40 ∷ []
 
-pub listing-long : sitting inputLong ≡ text "effect permit\nproducts 00AF\nshape -\nobligations 7,63,10\nfacts 1000\nconsulted 1000=absent,0=present\n"
+pub listing-long : sitting inputLong ≡ text "effect permit\nproducts 00AF\nshape -\nobligations 7,63,10\nfacts 1000\nconsulted 1000=silent,0=present\n"
 listing-long = refl
 
 -- input that ends early, after 1 and 2; later bytes are ignored

@@ -31,7 +31,7 @@ numbers =
     ∷ rowUnder 7 narrows 100 (0x0 ∷ 0x10 ∷ []) pendingD (writes resolvedD)
     ∷ rowUnder 7 narrows 100 (0x0 ∷ 0x20 ∷ []) pendingD (writes pendingD)
     ∷ rowUnder 7 narrowsInOrder 100 (0x0 ∷ 0x10 ∷ []) pendingD (writes resolvedD)
-    ∷ rowUnder 7 completes 100 [] pendingD (writes (0xE0007001 ∷ 0x00050000 ∷ 0xDC000003 ∷ 0x0 ∷ 0x1 ∷ 0x00050000 ∷ []))
+    ∷ rowUnder 7 completes 100 [] pendingD (writes (0xE0007001 ∷ 0xC0050000 ∷ 0xDC000003 ∷ 0x0 ∷ 0x1 ∷ 0x00050000 ∷ []))
     ∷ rowUnder 65535 narrows 16 [] (0xFFFFF000 ∷ 0x60000001 ∷ []) (writes (0xEFFFF000 ∷ 0xC0000001 ∷ 0x0 ∷ []))
     -- a Resolved record comes back equal
     ∷ rowUnder 7 narrows 16 [] resolvedD (writes resolvedD)

@@ -2,11 +2,11 @@
 use mathlib.Core.Bool.{Bool, true, false, _&&_}
 use mathlib.Core.Option.{Option, none, some}
 use mathlib.Core.List.{List, [], _∷_, _++_, map}
-use Prim.Native.Nat.{ℕ, suc, _+_, _-_, _/_, _%_, _^_}
+use Prim.Native.Nat.{ℕ, suc, _+_, _-_, _/_, _%_, _^_, zero}
 use lib.Dec.{leb}
 use lib.ListN.{length}
 use Rattle.model.specs.Fields.{above, pack}
-use Rattle.model.specs.Facts.{Presence, absent, present, unknown, factBits}
+use Rattle.model.specs.Facts.{Presence, absent, present, unknown, silent, factBits}
 use Rattle.model.specs.Outcome.{outcomeBits}
 use Rattle.model.specs.Condition.{Condition, always, never, has, notC, allC, anyC, Conditions, cnil, ccons}
 use Rattle.model.specs.Decision.{Shape, forbidden, hidden, Decision, permits, denies}
@@ -48,11 +48,19 @@ abbrev pub marked : Option ℕ → ℕ
 marked none = 0
 marked (some n) = above markBits 1 + n
 
--- A consulted entry: presence (2), zero (4), fact (10).
+-- A consulted entry: presence (2; 3 is silence, request 9), zero (4), fact (10).
 abbrev pub presenceField : Presence → ℕ
 presenceField absent = 0
 presenceField present = 1
 presenceField unknown = 2
+presenceField silent = 3
+
+-- What an entry's presence stands for. A table's field is read by `presence`, which knows no silence.
+abbrev pub seenIn : ℕ → Presence
+seenIn zero = absent
+seenIn (suc zero) = present
+seenIn (suc (suc zero)) = unknown
+seenIn (suc (suc (suc n))) = silent
 
 abbrev pub entryField : Entry → ℕ
 entryField e = above (4 + factBits) (presenceField (e .seen)) + e .fact

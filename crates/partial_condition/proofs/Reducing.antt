@@ -7,7 +7,7 @@ use native.Mathlib.Omega.{arith}
 use borrow.Author.Tests.{ltb-true}
 use lib.Dec.{eqb, ltb}
 use lib.ListN.{length, drop, getD, set}
-use Rattle.model.specs.Facts.{absent, present, unknown, Table, factCount}
+use Rattle.model.specs.Facts.{unknown, Table, factCount}
 use Rattle.model.specs.Condition.{notC, allC, anyC, Conditions, cnil, ccons}
 use Rattle.model.specs.Partial.{known, pendingC, reduceHas, flipR, endAllC, reduceCondition, reduceConditionAll}
 use Rattle.model.specs.Partial as model
@@ -17,6 +17,8 @@ use Rattle.laws.specs.FieldLaws.{fine, nothing, weaker, then-holds, both-hold}
 use Rattle.policy_model.specs.declared.ConditionHead.{ConditionHead}
 use Rattle.policy_model.specs.declared.ConditionHead.the-variants.{Always, Never, Has, Not, All, Any, BadKind, BadField}
 use Rattle.policy_model.specs.Heads.{conditionHeads, conditionHead, conditionNode}
+use Rattle.facts.specs.Answers.{isPresent, isSettled}
+use Rattle.facts.specs.AnswerLaws.{settled-known, settled-consulted}
 use Rattle.condition.specs.Listing.{Lent, lent, Recorded}
 use Rattle.condition.proofs.Listing.{consults-as, consults-none}
 use Rattle.decisive.proofs.Positions.{no-words, no-levels, by-head, Some, some-arms, has-word}
@@ -58,18 +60,13 @@ module _ (P : Table) (words : List ℕ) (at depth : ℕ) (s : Lent) (value : Boo
     }
 
 -- ---- a Has
-module _ (P : Table) (f end : ℕ) (s t : Lent) (count : ℕ) (out : List ℕ) where
-  pub has-absent : P f ≡ absent → Recorded f absent s t → ReducesHas P f end s (knownOf false end count) t out
-  has-absent e a = record {
-    bound = omega arith;
-    says = record { left = subst (λ p. Left (reduceHas f p) (knownOf false end count) out) (sym e) (refl, refl); next-is = refl; log = simp e (a .log) };
-  }
-
-  pub has-present : P f ≡ present → Recorded f present s t → ReducesHas P f end s (knownOf true end count) t out
-  has-present e a = record {
-    bound = omega arith;
-    says = record { left = subst (λ p. Left (reduceHas f p) (knownOf true end count) out) (sym e) (refl, refl); next-is = refl; log = simp e (a .log) };
-  }
+-- A settled fact is known, and consulted.
+pub has-settled : (P : Table) (f end : ℕ) (s t : Lent) (value : Bool) (count : ℕ) (out : List ℕ) → isSettled (P f) ≡ true → value ≡ isPresent (P f) → Recorded f (P f) s t →
+    ReducesHas P f end s (knownOf value end count) t out
+has-settled P f end s t value count out e v a = record {
+  bound = omega arith;
+  says = record { left = subst (λ q. Left q (knownOf value end count) out) (sym (settled-known f (P f) e)) (refl, v); next-is = refl; log = consults-as (λ l. settled-consulted l f (P f) e) (a .log) };
+}
 
 -- An Unknown fact is what is left, and isn't consulted.
 pub has-unknown : (P : Table) (f end : ℕ) (s : Lent) (count : ℕ) (before out : List ℕ) → P f ≡ unknown → out ≡ set before 0 (word 2 f) → ReducesHas P f end s (pendingOf 1 end count) s out

@@ -89,20 +89,14 @@ fn reduce_has(
     requires { ⌜ fact < factCount ⌝ }
     ensures { λ r. ⌜ ReducesHas (tableOf (now (facts .entry))) fact next (lent count (now (entries .entry)) (now (seen .entry))) r (lent (r .count) (now (entries .exit)) (now (seen .exit))) (now (out .exit)) ⌝ }
 {
-    match Presence::of(facts, fact) {
-        Presence::Absent => {
-            let listed = condition::record(entries, seen, count, fact, Presence::Absent);
-            known(false, next, listed)
-        }
-        Presence::Present => {
-            let listed = condition::record(entries, seen, count, fact, Presence::Present);
-            known(true, next, listed)
-        }
-        Presence::Unknown => {
-            put_first(policy_model::LEAD_HAS + fact, out);
-            pending(1, next, count)
-        }
+    if facts::settled(facts, fact) {
+        let satisfied = facts::present(facts, fact);
+        let presence = Presence::of(facts, fact);
+        let listed = condition::record(entries, seen, count, fact, presence);
+        return known(satisfied, next, listed);
     }
+    put_first(policy_model::LEAD_HAS + fact, out);
+    pending(1, next, count)
 }
 
 // Not of `inner`, what is left of which stands behind one free word.

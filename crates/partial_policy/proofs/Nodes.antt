@@ -11,14 +11,14 @@ use lib.Dec.{eqb, ltb, leb}
 use lib.ListN.{length, take, drop, getD, length-drop}
 use lib.Seq.{take-at, drop-drop}
 use Rattle.model.specs.Fields.{bits, pack}
-use Rattle.model.specs.Facts.{Presence, absent, present, unknown, Table}
+use Rattle.model.specs.Facts.{Table}
 use Rattle.model.specs.Outcome.{productSets}
 use Rattle.model.specs.Condition.{Condition, satisfied, unsatisfied, evalHas, evalCondition}
 use Rattle.model.specs.Condition as model-condition
-use Rattle.model.specs.Consulted.{Consulted, consult, consultKnown, walkC}
+use Rattle.model.specs.Consulted.{Consulted, walkC}
 use Rattle.model.specs.Policy.{Policy, Grant as Clause, grant}
 use Rattle.model.specs.Evaluate.{evalGrant}
-use Rattle.model.specs.Partial.{known, pendingC, reduceHas, reduceCondition, resolved, pending, Order, reduceGrant}
+use Rattle.model.specs.Partial.{known, pendingC, reduceCondition, resolved, pending, Order, reduceGrant}
 use Rattle.model.specs.Partial as model
 use Rattle.model.specs.Writing.{obligationBits, encodeC}
 use Rattle.model.specs.Reading.{Parsed, refuse, got, kindOf, restOf, fewObligations, readCondition}
@@ -30,7 +30,7 @@ use Rattle.laws.specs.Canon.{same-T}
 use Rattle.laws.specs.Products.{writtenProducts}
 use Rattle.staging.specs.ConditionLaws as staging
 use Rattle.staging.specs.ConditionLaws.{known-again}
-use Rattle.facts.specs.Answers.{isSettled}
+use Rattle.facts.specs.AnswerLaws.{settled-known, settled-consulted}
 use Rattle.policy_model.proofs.PolicyHead.{the-type}
 use Rattle.policy_model.specs.declared.PolicyHead.{PolicyHead}
 use Rattle.policy_model.specs.declared.PolicyHead.the-variants.{Permit, Deny, Grant, All, Any, OrElse, PermitWithTrace, DenyWithTrace, BadKind, BadField}
@@ -305,16 +305,6 @@ pub reduce-permit : {order : Order} (P : Table) (W : List ℕ) (at depth count :
 reduce-permit P W at depth count entries seen buf room out lt e =
     evaluated P W at depth (lent count entries seen) _ (lent count entries seen) buf room out (eval-permit-word P W at depth count entries seen buf lt e) (permit-constant P W at depth lt e)
 
-fact-value : (g : Clause Outcome) (f : ℕ) (p : Presence) → isSettled p ≡ true → reduceGrant g (evalHas f p) (reduceHas f p) ≡ resolved (evalGrant g (evalHas f p))
-fact-value g f absent e = refl
-fact-value g f present e = refl
-fact-value g f unknown e = clash false e refl
-
-fact-read : (l : Consulted) (f : ℕ) (p : Presence) → isSettled p ≡ true → consultKnown l f p ≡ consult l f p
-fact-read l f absent e = refl
-fact-read l f present e = refl
-fact-read l f unknown e = clash false e refl
-
 -- A grant on one settled fact, at every level: with too few levels for its condition it isn't read.
 pub reduce-plain : {order : Order} (P : Table) (W : List ℕ) (at depth : ℕ) (s : Lent) (a : ConditionEval) (t : Lent) (buf : List ℕ) (room : ℕ) (out : List ℕ) → SettledGrant P W at → EvaluatesHas P (getD W (at + 2) 0 % 1024) (at + 3) s a t →
     ReducesP order P W at depth s (resolvedTo (grantedAt (a .satisfied) (getD W at 0 % 65536) at (length W)) (a .next) (a .count)) t buf room out
@@ -329,9 +319,9 @@ reduce-plain P W at depth s a t buf room out g h =
       says = in-fewer depth (suc (suc depth)) (drop at W) (omega arith)
           (rw (plain-reads W at (g .plain) true depth)
           (fine (record {
-            result = subst (λ x. Result x P W buf room out r) (sym (fact-value _ f (P f) (g .known)))
+            result = subst (λ x. Result x P W buf room out r) (sym (ap (reduceGrant _ (evalHas f (P f))) (settled-known f (P f) (g .known))))
                 (record { settled = refl; decision-is = granted-is P W at buf _ _ rest node (a .satisfied) _ refl (h .says .satisfied-is); sound = granted-sound P W at buf _ _ rest node (a .satisfied) });
             next-is = h .says .next-is;
-            log = consults-as (λ l. fact-read l f (P f) (g .known)) (h .says .log);
+            log = consults-as (λ l. settled-consulted l f (P f) (g .known)) (h .says .log);
           })));
     }

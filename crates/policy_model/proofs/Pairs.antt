@@ -1,6 +1,6 @@
 -- Lists of facts and of consulted entries: a test of each word decides. Assumes nothing.
 use mathlib.Core.Path.{_≡_, refl, sym, _∙_, ap, subst}
-use mathlib.Core.Bool.{Bool, true, false, cond}
+use mathlib.Core.Bool.{Bool, true, false, cond, _&&_}
 use mathlib.Core.List.{List, [], _∷_, _++_}
 use Prim.Native.Nat.{ℕ, zero, suc, _+_, _-_, _/_, _%_, _≤_, _<_}
 use native.Mathlib.Nat.{div-one}
@@ -11,8 +11,8 @@ use lib.Dec.{eqb, ltb, eqb·suc-zero, eqb·suc-suc}
 use lib.ListN.{length, drop, getD}
 use Rattle.model.specs.Fields.{split, wordsFor}
 use Rattle.model.specs.Consulted.{Entry, Consulted}
-use Rattle.model.specs.Writing.{entryBits, entryField}
-use Rattle.model.specs.Reading.{Parsed, refuse, got, unless, Fields, bad, ok, put, takeField, takeFields, readWords, readList, listed, entry, consulted}
+use Rattle.model.specs.Writing.{entryBits, seenIn, entryField}
+use Rattle.model.specs.Reading.{Parsed, refuse, got, unless, Fields, bad, ok, put, takeField, takeFields, readWords, readList, listed, presenceCount, consulted}
 use Rattle.laws.specs.Size.{pairs}
 use Rattle.laws.specs.FieldLaws.{bad-words, Holds, weaker, same-list, wordsFor-none, wordsFor-more}
 use Rattle.laws.specs.ReadForm.{same-listed, same-consulted}
@@ -89,7 +89,7 @@ module _ {A : Type 0} (presences : ℕ) (chk : List A → ℕ → Parsed A) (jud
       (λ ys. pairs-are ws (at + 1) (k - 1) ys ∙ ap (λ n. upTo n (readWords chk entryBits 2 ws (ok ys (k - 1)))) end)
       ∙ ap (λ bs. upTo (at + wordsFor 2 (suc k)) (readWords chk entryBits 2 ws (takeFields chk (ok xs (suc k)) bs))) (sym (two-fields w))
 
--- ---- listed facts: presence 0; consulted entries: presence 0 to 2
+-- ---- listed facts: presence 0; consulted entries: presence 0 to 3
 fits-one : (b : ℕ) → ltb b 1024 ≡ entryFits 1 b
 unfolding entryFits
 fits-one b = by-presence (ltb (b / 16384) 1) refl
@@ -105,28 +105,20 @@ fits-one b = by-presence (ltb (b / 16384) 1) refl
 judge-listed : (fs : List ℕ) (b : ℕ) → Judged (entryFits 1 b) (listed fs b)
 judge-listed fs b = subst (λ t. Judged t (listed fs b)) (fits-one b) (judge-unless (ltb b 1024) b [])
 
-no-entry : (u : Bool) → Judged {A = Entry} false (unless u 8 (refuse 8))
-no-entry true = record { it = refl }
-no-entry false = record { it = refl }
+judge-both : (a c : Bool) (e : Entry) → Judged (cond a c false) (unless (a && c) 8 (got e []))
+judge-both true true e = record { it = tt }
+judge-both true false e = record { it = refl }
+judge-both false c e = record { it = refl }
 
-judge-entry : (k f : ℕ) (u : Bool) → Judged (cond (ltb k 3) u false) (unless u 8 (entry k f))
-judge-entry zero f true = record { it = tt }
-judge-entry zero f false = record { it = refl }
-judge-entry (suc zero) f true = record { it = tt }
-judge-entry (suc zero) f false = record { it = refl }
-judge-entry (suc (suc zero)) f true = record { it = tt }
-judge-entry (suc (suc zero)) f false = record { it = refl }
-judge-entry (suc (suc (suc k))) f u = subst (λ t. Judged {A = Entry} (cond t u false) (unless u 8 (refuse 8))) (sym (le-ltb (suc (suc (suc k))) 3 (omega arith))) (no-entry u)
-
-judge-consulted : (es : Consulted) (b : ℕ) → Judged (entryFits 3 b) (consulted es b)
+judge-consulted : (es : Consulted) (b : ℕ) → Judged (entryFits presenceCount b) (consulted es b)
 unfolding entryFits
-judge-consulted es b = judge-entry (b / 16384) (b % 16384) (ltb (b % 16384) 1024)
+judge-consulted es b = judge-both (ltb (b / 16384) 4) (ltb (b % 16384) 1024) (record { fact = b % 16384; seen = seenIn (b / 16384) })
 
 pub facts-checked : (at k : ℕ) (us : List ℕ) → checkedPairs 1 at us k ≡ checked pairs at (readList listed entryBits k us)
 facts-checked at k us = pairs-are 1 listed judge-listed us at k [] ∙ sym (list-ends (λ f. f) listed same-listed entryBits 1 refl at k us)
 
-pub entries-checked : (at k : ℕ) (us : List ℕ) → checkedPairs 3 at us k ≡ checked pairs at (readList consulted entryBits k us)
-entries-checked at k us = pairs-are 3 consulted judge-consulted us at k [] ∙ sym (list-ends entryField consulted same-consulted entryBits 1 refl at k us)
+pub entries-checked : (at k : ℕ) (us : List ℕ) → checkedPairs presenceCount at us k ≡ checked pairs at (readList consulted entryBits k us)
+entries-checked at k us = pairs-are presenceCount consulted judge-consulted us at k [] ∙ sym (list-ends entryField consulted same-consulted entryBits 1 refl at k us)
 
 pub entries-leave : (k : ℕ) (us : List ℕ) → Leaves pairs us (readList consulted entryBits k us)
 entries-leave k us = list-leaves entryField consulted same-consulted entryBits 1 refl k us

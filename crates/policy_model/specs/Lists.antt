@@ -21,7 +21,7 @@ unfoldable pub seenAll : Obligations → List ℕ → Obligations
 seenAll seen [] = seen
 seenAll seen (b ∷ bs) = seenAll (seenOne seen b) bs
 
--- An entry: presence (2), below `presences`; zero (4); fact (10). A listed fact is an entry with presence 0, a consulted one has 0 to 2.
+-- An entry: presence (2), below `presences`; zero (4); fact (10). A listed fact is an entry with presence 0, a consulted one has 0 to 3.
 unfoldable pub entryFits : ℕ → ℕ → Bool
 entryFits presences b = cond (ltb (b / 2 ^ (4 + factBits)) presences) (ltb (b % 2 ^ (4 + factBits)) factCount) false
 

@@ -6,7 +6,7 @@ use mathlib.Core.List.{List, [], _∷_, _++_}
 use Prim.Native.Nat.{ℕ, _+_, _*_, _%_, _≤_, _<_}
 use native.Mathlib.Omega.{arith}
 use lib.ListN.{length, drop, getD, set}
-use Rattle.model.specs.Facts.{Presence, absent, present, unknown, Table}
+use Rattle.model.specs.Facts.{Presence, absent, present, unknown, silent, Table}
 use Rattle.model.specs.Condition.{evalHas}
 use Rattle.model.specs.Decision.{Decision as Decided, permits, combined}
 use Rattle.model.specs.Writing.{word}
@@ -64,6 +64,7 @@ names-it : (f : ℕ) (p : Presence) → named (evalHas f p) ≡ f ∷ []
 names-it f absent = refl
 names-it f present = refl
 names-it f unknown = refl
+names-it f silent = refl
 
 fact-is : (W : List ℕ) (T : Table) (buf : List ℕ) (o at : ℕ) → plainGrant (drop at W) ≡ true → decisionOf W T buf (permittedAt o at at 0) ≡ onFact o (getD W (at + 2) 0 % 1024)
 unfolding decisionOf permitOf obligationsIn clauseAt obligationsAt nodeAt

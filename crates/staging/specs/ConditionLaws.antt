@@ -4,9 +4,10 @@ use mathlib.Core.Logic.{_⊎_, inl, inr}
 use mathlib.Core.Bool.{Bool, true, false, not, _&&_, _||_, and-true, and-false, or-true, or-false}
 use mathlib.Core.List.{[]}
 use Prim.Native.Nat.{ℕ}
-use Rattle.model.specs.Facts.{Presence, absent, present, unknown, Table}
+use Rattle.model.specs.Facts.{Presence, absent, present, unknown, silent, Table, heard}
 use Rattle.model.specs.Condition.{Condition, always, never, has, notC, allC, anyC, Conditions, cnil, ccons, ConditionEval, satisfied, unsatisfied, evalHas, flip, both, either, unlessNone, evalCondition, evalConditionAll, evalConditionAny}
 use Rattle.model.specs.Partial.{ReducedCondition, known, pendingC, reduceHas, flipR, ConditionWalk, stopped, through, stepAllC, stepAnyC, endAllC, endAnyC, reduceCondition, reduceConditionAll, reduceConditionAny}
+use Rattle.laws.specs.SilenceLaws.{has-heard}
 use Rattle.laws.specs.Each.{EachC, EachCs, Agrees}
 
 -- Whether a condition came out true.
@@ -69,13 +70,19 @@ flip-truth : (K : Table) (r : ReducedCondition) → truthR K (flipR r) ≡ not (
 flip-truth K (known b) = refl
 flip-truth K (pendingC c) = truth-flip (evalCondition K c)
 
-has-open : (K : Table) (f : ℕ) (p : Presence) → (p ≡ unknown) ⊎ (p ≡ K f) → truthR K (reduceHas f p) ≡ isSatisfied (evalHas f (K f))
-has-open K f absent (inr e) = rw (← e)
-has-open K f present (inr e) = rw (← e)
+-- Silence is Absent to a Has.
+has-as : (f : ℕ) (p q : Presence) → heard p ≡ heard q → isSatisfied (evalHas f p) ≡ isSatisfied (evalHas f q)
+has-as f p q e = ap isSatisfied (sym (has-heard f p) ∙ ap (evalHas f) e ∙ has-heard f q)
+
+has-open : (K : Table) (f : ℕ) (p : Presence) → (p ≡ unknown) ⊎ (heard p ≡ heard (K f)) → truthR K (reduceHas f p) ≡ isSatisfied (evalHas f (K f))
+has-open K f absent (inr e) = has-as f absent (K f) e
+has-open K f present (inr e) = has-as f present (K f) e
 has-open K f unknown (inr e) = refl
+has-open K f silent (inr e) = has-as f silent (K f) e
 has-open K f absent (inl e) = cc
 has-open K f present (inl e) = cc
 has-open K f unknown (inl e) = refl
+has-open K f silent (inl e) = cc
 
 none-truth : (K : Table) (cs : Conditions) (r : ReducedCondition) (v : ConditionEval) → truthR K r ≡ isSatisfied v → truthR K (unlessNone cs (known false) r) ≡ isSatisfied (unlessNone cs (unsatisfied []) v)
 none-truth K cnil r v e = refl
@@ -169,6 +176,7 @@ module _ (Q : ℕ → Type 0) (P : Table) where
   left-at f absent e q = tt
   left-at f present e q = tt
   left-at f unknown e q = (q, e)
+  left-at f silent e q = tt
 
   mutual
     -- T3 for conditions.

@@ -6,7 +6,7 @@ use Prim.Native.Nat.{ℕ, _+_, _≤_, _<_}
 use native.Mathlib.Omega.{arith}
 use lib.Dec.{eqb}
 use lib.ListN.{length, length-append}
-use Rattle.model.specs.Facts.{Presence, absent, present, unknown, Table}
+use Rattle.model.specs.Facts.{Presence, absent, present, unknown, silent, Table}
 use Rattle.model.specs.Outcome.{Outcomes}
 use Rattle.model.specs.Condition.{Condition, always, never, has, notC, allC, anyC, Conditions, cnil, ccons, ConditionEval, satisfied, unsatisfied, evalCondition}
 use Rattle.model.specs.Decision.{Decision, permits, denies, held, insert}
@@ -95,6 +95,7 @@ module _ (Q : ℕ → Type 0) where
   good-noteKnown l f absent h q = good-note l f absent h q
   good-noteKnown l f present h q = good-note l f present h q
   good-noteKnown l f unknown h q = h
+  good-noteKnown l f silent h q = good-note l f silent h q
 
   good-onceFrom : (l es : Consulted) → Good Q l → Every Q (consultedFacts es) → Good Q (onceFrom l es)
   good-onceFrom l [] h k = h
@@ -196,6 +197,7 @@ known-length : (l : Consulted) (f : ℕ) (p : Presence) → length (consultKnown
 known-length l f absent = consult-length l f absent
 known-length l f present = consult-length l f present
 known-length l f unknown = omega arith
+known-length l f silent = consult-length l f silent
 
 once-from-length : (l es : Consulted) → length (onceFrom l es) ≤ length l + length es
 once-from-length l [] = omega arith

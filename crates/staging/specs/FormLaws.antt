@@ -6,7 +6,7 @@ use mathlib.Core.List.{List, [], _∷_, _++_}
 use Prim.Native.Nat.{ℕ, suc, _+_, _*_, _≤_, _<_, max}
 use native.Mathlib.Omega.{arith}
 use lib.ListN.{length}
-use Rattle.model.specs.Facts.{Presence, absent, present, unknown, Table}
+use Rattle.model.specs.Facts.{Presence, absent, present, unknown, silent, Table}
 use Rattle.model.specs.Outcome.{Outcomes}
 use Rattle.model.specs.Condition.{Condition, always, never, has, notC, allC, anyC, Conditions, cnil, ccons, ConditionEval, satisfied, unsatisfied, evalHas, flip, both, either, unlessNone, evalCondition, evalConditionAll, evalConditionAny}
 use Rattle.model.specs.Decision.{Permit, Denial, Decision, permits, denies, combined, genericDeny, unionObligations, meetPermit, joinPermit, meetIn, joinIn}
@@ -31,6 +31,7 @@ small-reading : (f : ℕ) (p : Presence) → f < 1024 → Below 1024 (factsV (ev
 small-reading f absent h = (h, tt)
 small-reading f present h = (h, tt)
 small-reading f unknown h = (h, tt)
+small-reading f silent h = (h, tt)
 
 small-flip : (v : ConditionEval) → Below 1024 (factsV v) → Below 1024 (factsV (flip v))
 small-flip (satisfied fs) h = h
@@ -84,6 +85,7 @@ form-reduced : (f : ℕ) (p : Presence) → f < 1024 → FormR (reduceHas f p)
 form-reduced f absent h = tt
 form-reduced f present h = tt
 form-reduced f unknown h = h
+form-reduced f silent h = tt
 
 form-flip : (r : ReducedCondition) → FormR r → FormR (flipR r)
 form-flip (known b) h = tt
@@ -169,6 +171,7 @@ depth-reduced : (f : ℕ) (p : Presence) → depthR (reduceHas f p) ≤ 1
 depth-reduced f absent = omega arith
 depth-reduced f present = omega arith
 depth-reduced f unknown = omega arith
+depth-reduced f silent = omega arith
 
 depth-flip : (r : ReducedCondition) → depthR (flipR r) ≤ 1 + depthR r
 depth-flip (known b) = omega arith

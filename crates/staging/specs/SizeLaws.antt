@@ -6,7 +6,7 @@ use mathlib.Core.List.{List, [], _∷_, _++_}
 use Prim.Native.Nat.{ℕ, suc, _+_, _*_, _/_, _≤_, _<_}
 use native.Mathlib.Omega.{arith}
 use lib.ListN.{length, length-append}
-use Rattle.model.specs.Facts.{Presence, absent, present, unknown, Table}
+use Rattle.model.specs.Facts.{Presence, absent, present, unknown, silent, Table}
 use Rattle.model.specs.Outcome.{Outcomes}
 use Rattle.model.specs.Condition.{Condition, always, never, has, notC, allC, anyC, Conditions, cnil, ccons, ConditionEval, satisfied, unsatisfied, evalHas, flip, both, either, unlessNone, evalCondition, evalConditionAll, evalConditionAny}
 use Rattle.model.specs.Decision.{Permit, Denial, Decision, permits, denies, combined, held, insert, unionObligations, meetPermit, joinPermit, meetIn, joinIn}
@@ -45,6 +45,7 @@ facts-reading : (f : ℕ) (p : Presence) → length (factsV (evalHas f p)) ≤ 1
 facts-reading f absent = omega arith
 facts-reading f present = omega arith
 facts-reading f unknown = omega arith
+facts-reading f silent = omega arith
 
 facts-flip : (v : ConditionEval) (n : ℕ) → length (factsV v) ≤ n → length (factsV (flip v)) ≤ n
 facts-flip (satisfied fs) n h = h
@@ -95,6 +96,7 @@ size-reduced : (f : ℕ) (p : Presence) → wordsRC (reduceHas f p) ≤ 1
 size-reduced f absent = omega arith
 size-reduced f present = omega arith
 size-reduced f unknown = omega arith
+size-reduced f silent = omega arith
 
 size-flip : (r : ReducedCondition) → wordsRC (flipR r) ≤ 1 + wordsRC r
 size-flip (known b) = omega arith

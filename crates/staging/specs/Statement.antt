@@ -6,7 +6,7 @@ use mathlib.Core.Option.{Option, none}
 use mathlib.Core.List.{List, [], _∷_}
 use Prim.Native.Nat.{ℕ, _+_, _*_, _≤_}
 use lib.ListN.{length}
-use Rattle.model.specs.Facts.{unknown, Table, tableOf, partialFacts, tableFault}
+use Rattle.model.specs.Facts.{unknown, Table, heard, tableOf, partialFacts, tableFault}
 use Rattle.model.specs.Outcome.{Outcomes}
 use Rattle.model.specs.Decision.{Decision, products}
 use Rattle.model.specs.Policy.{Policy}
@@ -39,11 +39,11 @@ abbrev pub ifWrote : Answer → Step → List Step → List Step
 ifWrote (refusal n) s ss = ss
 ifWrote (wrote ws) s ss = s ∷ ss
 
--- A table agrees if on every fact that the sheet names it reads Unknown or as the known one.
+-- A table agrees if on every fact that the sheet names it reads Unknown or as the known one, silence being Absent.
 abbrev pub AgreesOn : {O : Type 0} → Policy O → Table → Table → Type 0
-AgreesOn t K P = (f : ℕ) → Names f t → (P f ≡ unknown) ⊎ (P f ≡ K f)
+AgreesOn t K P = (f : ℕ) → Names f t → (P f ≡ unknown) ⊎ (heard (P f) ≡ heard (K f))
 
--- No condition of the tree names a fact that the table reads as Present or Absent.
+-- No condition of the tree names a fact that the table reads as Present or Absent, or on which it is silent.
 abbrev pub Settled : {O : Type 0} → Policy O → Table → Type 0
 Settled t P = (f : ℕ) → Names f t → P f ≡ unknown
 

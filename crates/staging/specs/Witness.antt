@@ -6,7 +6,7 @@ use mathlib.Core.List.{List, [], _∷_}
 use Prim.Native.Nat.{ℕ}
 use native.Mathlib.Omega.{arith}
 use lib.ListN.{length, replicate}
-use Rattle.model.specs.Facts.{tableOf}
+use Rattle.model.specs.Facts.{absent, silent, tableOf, heard}
 use Rattle.model.specs.Outcome.{productSets}
 use Rattle.model.specs.Condition.{has}
 use Rattle.model.specs.Decision.{Decision, permits, denies, forbidden, hidden}
@@ -89,7 +89,7 @@ relay-agrees f (inl n) = inl (ap (tableOf relay) n)
 relay-agrees f (inr (inl n)) = inl (ap (tableOf relay) n)
 
 district-agrees : AgreesOn treeR (tableOf archive) (tableOf district)
-district-agrees f (inl n) = inr (ap (tableOf district) n ∙ sym (ap (tableOf archive) n))
+district-agrees f (inl n) = inr (ap (λ g. heard (tableOf district g)) n ∙ sym (ap (λ g. heard (tableOf archive g)) n))
 district-agrees f (inr (inl n)) = inl (ap (tableOf district) n)
 
 pub chainR : Staged productSets 0 permitsFirst sheetR archive relay givenR (record { order = permitsFirst; facts = district; out = replicate 534 0 } ∷ []) treeR
@@ -162,3 +162,57 @@ mixed-differs e =
     let seven-owed : owes (chainMixed .decision) ≡ 7 ∷ [] = sym (owes-bare (chainMixed .decision)) ∙ ap owes e in
     let lengths : _≡_ {A = ℕ} 0 1 = ap length (none-owed ∙ seven-owed) in
     omega arith
+
+-- Any of a grant of product 1 on fact 0 and a grant of product 2 on fact 5. The relay leaves fact 0 open, and its table ends before fact 5, which the archive
+-- entered as Absent: they agree, though they don't read alike. Completed in either order, the stages decide as one sitting; the entry of fact 5 alone
+-- tells them apart.
+abbrev sheetS : List ℕ
+sheetS = 0xA0000002 ∷ 0x80000001 ∷ 0 ∷ 0x20000000 ∷ 0x80000002 ∷ 0 ∷ 0x20000005 ∷ []
+
+abbrev treeS : Policy ℕ
+treeS =
+    any (pcons (grant (record { outcome = 1; obligations = []; label = none; reason = none; shape = forbidden }) (has 0))
+    (pcons (grant (record { outcome = 2; obligations = []; label = none; reason = none; shape = forbidden }) (has 5)) pnil))
+
+abbrev relayS : List ℕ
+relayS = 0x80 ∷ []
+
+abbrev archiveS : List ℕ
+archiveS = 0x40 ∷ 0 ∷ []
+
+pub relay-silent : tableOf relayS 5 ≡ silent
+relay-silent = refl
+
+pub archive-entered : tableOf archiveS 5 ≡ absent
+archive-entered = refl
+
+silent-agrees : AgreesOn treeS (tableOf archiveS) (tableOf relayS)
+silent-agrees f (inl n) = inl (ap (tableOf relayS) n)
+silent-agrees f (inr (inl n)) = inr (ap (λ g. heard (tableOf relayS g)) n ∙ sym (ap (λ g. heard (tableOf archiveS g)) n))
+
+abbrev givenS : List ℕ
+givenS = 0xF0000001 ∷ 0xC0050000 ∷ 0xA0000002 ∷ 0xD4000002 ∷ 0 ∷ 1 ∷ 0x00050000 ∷ 0x80000001 ∷ 0 ∷ 0x20000000 ∷ []
+
+pub chainS : Staged productSets 0 permitsFirst sheetS archiveS relayS givenS [] treeS
+chainS = demand3-products 0 permitsFirst sheetS archiveS relayS givenS [] treeS 10 refl refl refl silent-agrees tt
+
+abbrev orderedS : List ℕ
+orderedS = 0xF0000001 ∷ 0xC0050000 ∷ 0xA0000002 ∷ 0x80000001 ∷ 0 ∷ 0x20000000 ∷ 0xD4000002 ∷ 0 ∷ 1 ∷ 0x00050000 ∷ []
+
+pub chainOrderedS : Staged productSets 0 sheetOrder sheetS archiveS relayS orderedS [] treeS
+chainOrderedS = demand3-products 0 sheetOrder sheetS archiveS relayS orderedS [] treeS 10 refl refl refl silent-agrees tt
+
+pub one-sittingS : bare (chainOrderedS .decision) ≡ bare (evalPolicy productSets (tableOf archiveS) treeS)
+one-sittingS = chainOrderedS .same-but-facts refl tt
+
+abbrev decidedS : ℕ → List ℕ
+decidedS entries = 0xE0000002 ∷ entries ∷ 0xC0000001 ∷ 1 ∷ 0 ∷ []
+
+pub completedS : completeResidual productSets 0 givenS archiveS 534 ≡ wrote (decidedS 0xC0054000)
+completedS = refl
+
+pub completedOrderedS : completeResidual productSets 0 orderedS archiveS 534 ≡ wrote (decidedS 0xC0054000)
+completedOrderedS = refl
+
+pub sittingS : evaluate productSets 0 sheetS archiveS 534 ≡ wrote (decidedS 0x40000005)
+sittingS = refl

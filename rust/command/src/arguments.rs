@@ -210,12 +210,12 @@ pub struct Windowed {
 pub struct Facts {
     /// Facts, such as 5=present,6=absent,7=unknown; may come several times.
     ///
-    /// A fact that is not named is absent in evaluate, complete and window, and unknown in reduce and narrow.
+    /// A fact that is not named is absent in evaluate, complete and window, and unknown in reduce and narrow. In evaluate and complete the table ends with the byte of the last fact that is named, and a record that consulted a later one says silent.
     #[arg(long, value_name = "FACTS", value_delimiter = ',', value_parser = said)]
     pub facts: Vec<(Fact, Presence)>,
     /// A file with a fact table, its bytes taken as they are.
     ///
-    /// Four facts a byte, the first in the upper two bits: 0 absent, 1 present, 2 unknown. A fact past the end is absent, in every command.
+    /// Four facts a byte, the first in the upper two bits: 0 absent, 1 present, 2 unknown. A fact past the end is absent, in every command; a record that consulted it says silent.
     #[arg(long, value_name = "FILE", conflicts_with_all = ["facts", "table_hex"])]
     pub table: Option<PathBuf>,
     /// A fact table's bytes in hexadecimal, taken as they are.

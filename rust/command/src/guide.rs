@@ -72,7 +72,8 @@ The text form
   A record begins with the line resolved or pending, which says the number of
   its sheet if it has one, and, if facts were consulted, a second line:
     pending sheet 7
-    consulted 5=present,6=absent
+    consulted 5=present,6=absent,9=silent
+  in which silent is a fact that the table ended before: it counts as absent.
   Then comes its tree, in which what is decided stands as
     permit-with-trace 0003 label 4 obligations 7 facts 5,6
     deny-with-trace hidden denied 0003 label 1 reason 2 facts 5

@@ -2,6 +2,7 @@
 
 use std::ops::RangeInclusive;
 
+use vierskof::read::Reading;
 use vierskof::{Date, Fact, Label, Obligation, Presence, Products, Reason};
 
 /// Reads one item, or says what is due.
@@ -47,11 +48,19 @@ pub fn products(text: &str) -> Result<Products, &'static str> {
 
 /// A fact and what is said of it, such as `5=present`.
 pub fn said(text: &str) -> Result<(Fact, Presence), &'static str> {
-    let read = || {
-        let (number, name) = text.split_once('=')?;
-        Some((fact(number).ok()?, presence(name)?))
-    };
-    read().ok_or("a fact from 0 to 1023 with =present, =absent or =unknown")
+    let presences = [Presence::Absent, Presence::Present, Presence::Unknown];
+    named(text, presences).ok_or("a fact from 0 to 1023 with =present, =absent or =unknown")
+}
+
+/// A fact that was consulted and how it read, such as `5=silent`.
+pub fn observed(text: &str) -> Result<(Fact, Reading), &'static str> {
+    let readings = [
+        Reading::Absent,
+        Reading::Present,
+        Reading::Unknown,
+        Reading::Silent,
+    ];
+    named(text, readings).ok_or("a fact from 0 to 1023 with =present, =absent, =unknown or =silent")
 }
 
 /// Ages from a first to a last, such as `0..90`.
@@ -84,10 +93,11 @@ pub fn digits(text: &str) -> String {
     bare.unwrap_or(text).replace('_', "")
 }
 
-fn presence(name: &str) -> Option<Presence> {
-    [Presence::Absent, Presence::Present, Presence::Unknown]
-        .into_iter()
-        .find(|presence| presence.to_string() == name)
+/// A fact with one of these, by its word.
+fn named<T: ToString>(text: &str, words: impl IntoIterator<Item = T>) -> Option<(Fact, T)> {
+    let (number, name) = text.split_once('=')?;
+    let word = words.into_iter().find(|word| word.to_string() == name)?;
+    Some((fact(number).ok()?, word))
 }
 
 /// Digits alone: the standard reader takes a sign too.

@@ -4,7 +4,7 @@
 //! the listing's bytes; [`register`], [`join`] and [`windows`] answer for the register of sheets,
 //! the join of tables and retention windows, which the original lacks.
 //! [`worked`] has document 01's worked sheets as cases, [`generate`] makes cases from a seed;
-//! [`repeats`] tells how much of request 3 is in them; [`answers`] and [`rows`] write cases with their answers. With the feature `proved`, `proved` compares the proved calls with them.
+//! [`repeats`] tells how much of request 3 is in them, and [`silence`] how much of request 9; [`answers`] and [`rows`] write cases with their answers. With the feature `proved`, `proved` compares the proved calls with them.
 
 pub mod answers;
 pub mod case;
@@ -20,6 +20,7 @@ pub mod refusal;
 pub mod register;
 pub mod repeats;
 pub mod rows;
+pub mod silence;
 pub mod windows;
 pub mod words;
 pub mod worked;

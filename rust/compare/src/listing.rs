@@ -1,10 +1,10 @@
 //! The listing: what the program `sitting` prints for the bytes that it reads.
 
-use gatekeep::{DenyShape, Presence};
+use gatekeep::DenyShape;
 
 use crate::reference;
 use crate::refusal::Refusal;
-use crate::words::tree::{Decided, Entry, Record};
+use crate::words::tree::{Decided, Entry, Record, Seen};
 use crate::words::{RECORD_WORDS, SHEET_WORDS, TABLE_BYTES, read};
 
 /// The bytes printed for the input's bytes.
@@ -75,13 +75,14 @@ fn lines(consulted: &[Entry], decided: &Decided) -> String {
     )
 }
 
-fn read_as((fact, presence): Entry) -> String {
-    let presence = match presence {
-        Presence::Present => "present",
-        Presence::Absent => "absent",
-        Presence::Unknown => unreachable!("evaluation reads no Unknown"),
+fn read_as((fact, seen): Entry) -> String {
+    let seen = match seen {
+        Seen::Present => "present",
+        Seen::Absent => "absent",
+        Seen::Silent => "silent",
+        Seen::Unknown => unreachable!("evaluation reads no Unknown"),
     };
-    format!("{fact}={presence}")
+    format!("{fact}={seen}")
 }
 
 /// The items with commas between them, or `-` for none.

@@ -23,8 +23,8 @@ enum Command {
         #[command(flatten)]
         sample: Sample,
     },
-    /// Stored answers of all calls on sheets and records, cases at the limits and then drawn ones, a tenth of them with obligations that repeat; and as many
-    /// registers as a tenth of these.
+    /// Stored answers of all calls on sheets and records, cases at the limits and then drawn ones, a tenth of them with obligations that repeat and a tenth
+    /// with silence in entries and tables; and as many registers as a tenth of these.
     Calls {
         #[command(flatten)]
         sample: Sample,
@@ -178,8 +178,10 @@ fn main() -> io::Result<()> {
         Command::Calls { sample } => {
             let limits = limits::cases(&mut Rng::new(sample.seed));
             let repeating = cases::draw_repeating(sample.seed, sample.count / 10, &Call::ALL);
-            let others = cases::draw(sample.seed, sample.count - repeating.len(), &Call::ALL);
-            let cases = storable([limits, repeating, others].concat());
+            let silent = cases::draw_silent(sample.seed, sample.count / 10, &Call::ALL);
+            let drawn = repeating.len() + silent.len();
+            let others = cases::draw(sample.seed, sample.count - drawn, &Call::ALL);
+            let cases = storable([limits, repeating, silent, others].concat());
             let mut bytes = answers::file(&sample.command("calls"), &cases);
             let questions = registers::draw(sample.seed, sample.count / 10);
             questions.for_each(|question| bytes.extend(answers::asked(&question)));
@@ -203,16 +205,17 @@ fn main() -> io::Result<()> {
 }
 
 /// As many calls on words, and as many joins. Cases are drawn in batches, so that a long run holds few of them at a time. One in ten has a list of many arms,
-/// one in ten is a reduction or a narrowing of grants on several facts, one in ten has lists in lists, and records of either pair, and two in ten have obligations that repeat.
+/// one in ten is a reduction or a narrowing of grants on several facts, one in ten has lists in lists, and records of either pair, two in ten have obligations
+/// that repeat, and one in ten has silence in entries and tables.
 #[cfg(feature = "proved")]
 fn proved(sample: &Sample) -> io::Result<()> {
-    use compare::proved;
     use compare::refusal::Refusal;
-    use compare::repeats::Tally;
+    use compare::{proved, repeats, silence};
 
     const BATCH: usize = 20_000;
     let [mut half_known, mut numbered, mut of_others] = [0; 3];
-    let mut met = Tally::default();
+    let mut repeated = repeats::Tally::default();
+    let mut silent = silence::Tally::default();
     for (batch, first) in (0..sample.count).step_by(BATCH).enumerate() {
         let count = BATCH.min(sample.count - first);
         let seed = sample.seed + batch as u64;
@@ -220,9 +223,10 @@ fn proved(sample: &Sample) -> io::Result<()> {
         let several = cases::draw_half_known(seed, count / 10, &REDUCING);
         let layered = cases::draw_layered(seed, count / 10, &REDUCING);
         let repeating = cases::draw_repeating(seed, count / 5, &Call::ALL);
-        let drawn = wide.len() + several.len() + layered.len() + repeating.len();
+        let short = cases::draw_silent(seed, count / 10, &Call::ALL);
+        let drawn = wide.len() + several.len() + layered.len() + repeating.len() + short.len();
         let others = cases::draw(seed, count - drawn, &Call::ALL);
-        let batch = [others, wide, several, layered, repeating];
+        let batch = [others, wide, several, layered, repeating, short];
         for case in batch.into_iter().flatten() {
             let answer = case.answer();
             if !proved::agrees(&case) {
@@ -234,7 +238,8 @@ fn proved(sample: &Sample) -> io::Result<()> {
             numbered += usize::from(case.number > 0 && answer.is_ok());
             of_others += usize::from(answer == Err(Refusal::SheetNumber));
             half_known += usize::from(cases::is_half_known(&case));
-            met.add(&case);
+            repeated.add(&case);
+            silent.add(&case);
         }
         if let Some(join) = joins::draw(seed, count)
             .iter()
@@ -245,7 +250,7 @@ fn proved(sample: &Sample) -> io::Result<()> {
         }
     }
     println!(
-        "{} cases and {0} joins, seed {}: no difference; {numbered} accepted under a number, {of_others} refused by 16; {half_known} with a known grant whose condition names an Unknown fact; {met}",
+        "{} cases and {0} joins, seed {}: no difference; {numbered} accepted under a number, {of_others} refused by 16; {half_known} with a known grant whose condition names an Unknown fact; {repeated}; {silent}",
         sample.count, sample.seed
     );
     Ok(())

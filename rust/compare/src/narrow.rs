@@ -1,4 +1,4 @@
-//! Narrowing, and reduction in sheet order, from document 01's 'Reducing' and 'Narrowing' and from requests 3 and 8 alone: the original has no such calls.
+//! Narrowing, and reduction in sheet order, from document 01's 'Reducing' and 'Narrowing' and from requests 3, 8 and 9 alone: the original has no such calls.
 
 mod in_order;
 
@@ -277,11 +277,11 @@ impl<'a> Walk<'a> {
     }
 
     fn has(&mut self, fact: u16) -> ReducedCondition {
-        match self.table.presence(fact) {
-            Presence::Unknown => ReducedCondition::Pending(Condition::Has(fact)),
+        match self.table.observation(fact) {
+            Some(Presence::Unknown) => ReducedCondition::Pending(Condition::Has(fact)),
             read => {
-                self.consult((fact, read));
-                ReducedCondition::Known(read == Presence::Present)
+                self.consult((fact, read.into()));
+                ReducedCondition::Known(read == Some(Presence::Present))
             }
         }
     }

@@ -1,7 +1,7 @@
 //! Document 01's nine calls and request 8's two. All but narrowing, and reduction in sheet order, are answered by the original.
 //!
 //! A call that writes takes the number of a sheet, which the original never sees, and the room of its output in words, and gives the record's words;
-//! [`put`] brings them, or a refusal, to an output.
+//! [`put`] brings them, or a refusal, to an output. The original tells no silence: [`marked`] puts it into its records.
 
 use std::collections::BTreeSet;
 
@@ -10,6 +10,7 @@ use gatekeep::{FactId, ResidualPolicy};
 use crate::narrow::{self, Order};
 use crate::products::Products;
 use crate::refusal::Refusal;
+use crate::silence::{marked, standing};
 use crate::words::table::Table;
 use crate::words::tree::Record;
 use crate::words::{FACTS, RECORD_WORDS, convert, read, write};
@@ -57,11 +58,12 @@ pub fn evaluate(
     room: usize,
 ) -> Result<Vec<u32>, Refusal> {
     read::sheet_length(sheet)?;
-    let facts = convert::known_facts(&Table::known(table)?);
+    let table = Table::known(table)?;
     let policy = convert::to_policy(&read::sheet(sheet)?);
     let number = carried(number)?;
-    let decision = gatekeep::evaluate(&policy, &facts);
-    fitted(&convert::from_decision(&decision), number, room)
+    let decision = gatekeep::evaluate(&policy, &convert::known_facts(&table));
+    let record = convert::from_decision(&decision);
+    fitted(&marked(&record, &[], &table), number, room)
 }
 
 /// Decides a sheet as far as a partial table goes.
@@ -72,11 +74,12 @@ pub fn partial_evaluate(
     room: usize,
 ) -> Result<Vec<u32>, Refusal> {
     read::sheet_length(sheet)?;
-    let facts = convert::partial_facts(&Table::partial(table)?);
+    let table = Table::partial(table)?;
     let policy = convert::to_policy(&read::sheet(sheet)?);
     let number = carried(number)?;
-    let residual = gatekeep::partial_evaluate(&policy, &facts);
-    fitted(&convert::from_residual(&residual), number, room)
+    let residual = gatekeep::partial_evaluate(&policy, &convert::partial_facts(&table));
+    let record = convert::from_residual(&residual);
+    fitted(&marked(&record, &[], &table), number, room)
 }
 
 /// Decides a record further, as far as a partial table goes.
@@ -122,11 +125,13 @@ pub fn complete_residual(
     room: usize,
 ) -> Result<Vec<u32>, Refusal> {
     read::record_length(record)?;
-    let facts = convert::known_facts(&Table::known(table)?);
-    let residual = convert::to_residual(&read::record(record)?);
+    let table = Table::known(table)?;
+    let given = read::record(record)?;
     let number = expected(record, number)?;
-    let decision = gatekeep::complete_residual(&residual, &facts);
-    fitted(&convert::from_decision(&decision), number, room)
+    let residual = convert::to_residual(&given);
+    let decision = gatekeep::complete_residual(&residual, &convert::known_facts(&table));
+    let record = convert::from_decision(&decision);
+    fitted(&marked(&record, &standing(&given), &table), number, room)
 }
 
 /// The facts that a sheet's conditions name.

@@ -10,7 +10,7 @@ pub use table::FactTable;
 
 /// What a table says of a fact.
 ///
-/// A table has a field for these three and no more. How a fact read is told by a type of its own, [`Reading`](crate::read::Reading).
+/// A table has a field for these three and no more. How a fact read is told by a type of its own, [`Reading`](crate::read::Reading), which has silence too.
 ///
 /// ```
 /// use vierskof::Presence;

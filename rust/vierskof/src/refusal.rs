@@ -40,7 +40,7 @@ pub enum Refusal {
     WordsEnd = 6,
     /// A node stands on a 33rd level.
     Level = 7,
-    /// A field that must be 0 isn't, an obligation is over 63, a grant has over 64 of them, or a consulted presence is 3.
+    /// A field that must be 0 isn't, an obligation is over 63, or a grant has over 64 of them.
     Field = 8,
     /// There are words after the tree.
     WordsAfterTree = 10,

@@ -3,8 +3,9 @@ use mathlib.Core.Path.{_≡_, refl, ap, _∙_}
 use Prim.Native.Nat.{ℕ, zero, suc}
 use lib.Dec.{eqb, eqb·suc-suc, eqb·suc-zero}
 use borrow.Author.Needs.{needs}
-use Rattle.model.specs.Facts.{presence}
+use Rattle.model.specs.Facts.{presence, tableFields}
 use Rattle.facts.specs.Answers.{isPresent}
+use Rattle.facts.proofs.Fields.{present-by}
 use Rattle.facts.proofs.present.Statement.{statement}
 use Rattle.facts.proofs.present.Tie as tie
 
@@ -18,7 +19,7 @@ field-requires : tie.Need-field-requires
 field-requires c κs = search needs
 
 returns : tie.Need-returns
-returns c = one-is (c .field .result) ∙ ap (λ (n : ℕ). isPresent (presence n)) (c .field .ensures)
+returns c = one-is (c .field .result) ∙ ap (λ (n : ℕ). isPresent (presence n)) (c .field .ensures) ∙ present-by (tableFields (c .before .before .args .facts .now)) (c .before .before .args .fact)
 
 pub present-spec : {M : Type 1} → statement M
 present-spec = tie.close (tie.spec field-requires returns)

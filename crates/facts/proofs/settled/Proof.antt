@@ -5,8 +5,9 @@ use native.Mathlib.Omega.{arith}
 use lib.Dec.{ltb}
 use borrow.Author.Tests.{le-ltb}
 use borrow.Author.Needs.{needs}
-use Rattle.model.specs.Facts.{presence}
+use Rattle.model.specs.Facts.{presence, tableFields}
 use Rattle.facts.specs.Answers.{isSettled}
+use Rattle.facts.proofs.Fields.{settled-by}
 use Rattle.facts.proofs.settled.Statement.{statement}
 use Rattle.facts.proofs.settled.Tie as tie
 
@@ -20,7 +21,7 @@ field-requires : tie.Need-field-requires
 field-requires c κs = search needs
 
 returns : tie.Need-returns
-returns c = below-two (c .field .result) ∙ ap (λ (n : ℕ). isSettled (presence n)) (c .field .ensures)
+returns c = below-two (c .field .result) ∙ ap (λ (n : ℕ). isSettled (presence n)) (c .field .ensures) ∙ settled-by (tableFields (c .before .before .args .facts .now)) (c .before .before .args .fact)
 
 pub settled-spec : {M : Type 1} → statement M
 settled-spec = tie.close (tie.spec field-requires returns)

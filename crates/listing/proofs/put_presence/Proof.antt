@@ -35,6 +35,15 @@ slice-aggregate-copy-3 c = search needs
 copy-requires-3 : tie.Need-copy-requires-3
 copy-requires-3 c κs = search needs
 
+enum-told-4 : tie.Need-enum-told-4
+enum-told-4 c = search needs
+
+slice-aggregate-copy-4 : tie.Need-slice-aggregate-copy-4
+slice-aggregate-copy-4 c = search needs
+
+copy-requires-4 : tie.Need-copy-requires-4
+copy-requires-4 c κs = search needs
+
 same-length : tie.Need-same-length
 same-length c = search needs
 
@@ -59,6 +68,14 @@ returns-3 c =
     let put = c .before .before .copy3 .ensures in
     wrote-as (ap (λ p. 61 ∷ presenceText (presenceOf p)) (sym (c .before .before .before .before .before .enum-told3 .given .1))) (copied (text "=unknown") (put .0) (put .1))
 
+same-length-4 : tie.Need-same-length-4
+same-length-4 c = search needs
+
+returns-4 : tie.Need-returns-4
+returns-4 c =
+    let put = c .before .before .copy4 .ensures in
+    wrote-as (ap (λ p. 61 ∷ presenceText (presenceOf p)) (sym (c .before .before .before .before .before .enum-told4 .given .1))) (copied (text "=silent") (put .0) (put .1))
+
 pub put-presence-spec : {M : Type 1} → statement M
 put-presence-spec =
     tie.close
@@ -72,9 +89,14 @@ put-presence-spec =
     enum-told-3
     slice-aggregate-copy-3
     copy-requires-3
+    enum-told-4
+    slice-aggregate-copy-4
+    copy-requires-4
     same-length
     returns
     same-length-2
     returns-2
     same-length-3
-    returns-3)
+    returns-3
+    same-length-4
+    returns-4)

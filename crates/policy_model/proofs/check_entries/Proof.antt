@@ -1,4 +1,4 @@
--- `policy_model::check_entries` meets its contract: an entry has presence 0 to 2. Assumes nothing.
+-- `policy_model::check_entries` meets its contract: an entry has presence 0 to 3. Assumes nothing.
 use mathlib.Core.Path.{_∙_}
 use borrow.Author.Needs.{needs}
 use Rattle.policy_model.proofs.Pairs.{entries-checked}

@@ -93,7 +93,7 @@ impl<'t> Tree<'t> {
     fn consult(&mut self, line: Line<'t>) -> Result<(), Fault> {
         self.at_margin(line)?;
         let mut fields = Fields::of(line);
-        let entries = fields.list(numbers::said, vierskof::LIST)?;
+        let entries = fields.list(numbers::observed, vierskof::LIST)?;
         fields.end()?;
         self.words[0] |= pack::count(entries.len());
         self.put(line, &pack::consulted(&entries));

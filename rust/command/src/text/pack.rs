@@ -1,6 +1,7 @@
 //! Nodes as document 01 packs them: fields from the most significant bit on.
 
-use vierskof::{Fact, Label, Obligation, Presence, Products, Reason};
+use vierskof::read::Reading;
+use vierskof::{Fact, Label, Obligation, Products, Reason};
 
 use super::fields::Clause;
 
@@ -49,8 +50,8 @@ pub fn deny_with_trace(clause: &Clause) -> Vec<u32> {
 }
 
 /// Consulted entries.
-pub fn consulted(entries: &[(Fact, Presence)]) -> Vec<u32> {
-    let entry = |entry: &(Fact, Presence)| presence(entry.1) << 14 | fact(entry.0);
+pub fn consulted(entries: &[(Fact, Reading)]) -> Vec<u32> {
+    let entry = |entry: &(Fact, Reading)| u32::from(entry.1.number()) << 14 | fact(entry.0);
     halves(entries.iter().map(entry))
 }
 
@@ -70,14 +71,6 @@ fn reason(clause: &Clause) -> u32 {
 
 fn fact(fact: Fact) -> u32 {
     u32::from(fact.number())
-}
-
-const fn presence(presence: Presence) -> u32 {
-    match presence {
-        Presence::Absent => 0,
-        Presence::Present => 1,
-        Presence::Unknown => 2,
-    }
 }
 
 /// Obligations, four a word.

@@ -39,6 +39,42 @@ fn facts_that_are_not_named() {
     assert_eq!(answer("required", &pending), "5\n6\n");
 }
 
+/// A record tells whether a fact was entered as absent or the table ended before it.
+#[test]
+fn silence_is_told() {
+    let grant = "grant 0003 hidden\n  has 5\n";
+    let told = |arguments: &str, said: &str| {
+        let shown = answer(&format!("evaluate{arguments}"), grant);
+        let comment = format!("\n# Facts consulted: 5 {said}.\n");
+        assert!(shown.contains(&comment), "{arguments}: {shown}");
+        let line = format!("\nconsulted 5={said}\n");
+        assert!(shown.contains(&line), "{arguments}: {shown}");
+        assert_eq!(
+            answer("assemble", &shown),
+            answer(&format!("evaluate --to hex{arguments}"), grant)
+        );
+    };
+    for silent in ["", " --table-hex 00", " --facts 3=present"] {
+        told(silent, "silent");
+    }
+    // Whatever fact of its byte is named.
+    for entered in [
+        " --facts 5=absent",
+        " --table-hex 0000",
+        " --facts 7=present",
+        " --facts 8=absent",
+    ] {
+        told(entered, "absent");
+    }
+    // What was told stays, and the table decides.
+    let record = "pending\nconsulted 5=silent\ngrant 0003\n  has 5\n";
+    for call in ["narrow", "complete"] {
+        let shown = answer(&format!("{call} --facts 5=present --to hex"), record);
+        let permitted = "E0000001 C0050000 C0000003 00000001 00050000\n";
+        assert_eq!(shown, permitted, "{call}");
+    }
+}
+
 #[test]
 fn obligations_may_repeat() {
     let grant = "grant 0001 obligations 7,9,7\n  always\n";
@@ -101,7 +137,7 @@ fn records_carry_their_sheets_number() {
         );
         assert_eq!(
             hex("complete --sheet 7", &pending),
-            "E0007001 00050000 DC000003 00000000 00000001 00050000\n"
+            "E0007001 C0050000 DC000003 00000000 00000001 00050000\n"
         );
     }
     assert_eq!(

@@ -173,8 +173,8 @@ fn numbers() {
     ] {
         fault(text, &format!("line 2: found {found}, but {due} is due"));
     }
-    let due = "a fact from 0 to 1023 with =present, =absent or =unknown";
-    for entry in ["5", "5=there", "1024=present", "5=Present"] {
+    let due = "a fact from 0 to 1023 with =present, =absent, =unknown or =silent";
+    for entry in ["5", "5=there", "1024=silent", "5=Silent"] {
         let text = format!("pending\nconsulted 4=absent,{entry}\ndeny");
         fault(&text, &format!("line 2: found `{entry}`, but {due} is due"));
     }

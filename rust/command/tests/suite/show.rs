@@ -23,7 +23,7 @@ const SHEET_WORDS: &str = "A0000003 88200003 80048009 070C0000 40000005 20000005
 
 const PENDING: &str = "\
 pending
-consulted 5=present,6=absent,1023=unknown
+consulted 5=present,6=absent,1023=unknown,9=silent
 any
   permit-with-trace 0003 label 4 obligations 7 facts 5,6
   deny-with-trace hidden denied 0003 label 1 reason 2 facts 5
@@ -31,7 +31,7 @@ any
   grant 8000
     has 9
 ";
-const PENDING_WORDS: &str = "F0000003 40050006 83FF0000 A0000004 C0100003 80040002 07000000 00050006 \
+const PENDING_WORDS: &str = "F0000004 40050006 83FFC009 A0000004 C0100003 80040002 07000000 00050006 \
      DC000003 80018002 00000001 00050000 D0000000 00000000 00000000 80008000 00000000 20000009";
 
 #[test]
@@ -52,8 +52,8 @@ fn sheets() {
 
 #[test]
 fn pending_records() {
-    let comments =
-        "# Pending. Still needed: fact 9.\n# Facts consulted: 5 present, 6 absent, 1023 unknown.\n";
+    let comments = "# Pending. Still needed: fact 9.\n\
+                    # Facts consulted: 5 present, 6 absent, 1023 unknown, 9 silent.\n";
     assert_eq!(
         answer("show", PENDING_WORDS),
         format!("{comments}{PENDING}")
@@ -62,7 +62,7 @@ fn pending_records() {
 
 #[test]
 fn numbered_records() {
-    let numbered = |words: &str| words.replacen("F0000003", "FFFFF003", 1);
+    let numbered = |words: &str| words.replacen("F0000004", "FFFFF004", 1);
     let shown = answer("show", numbered(PENDING_WORDS));
     assert!(
         shown.starts_with("# Pending. Still needed: fact 9.\n# Sheet: 65535.\n# Facts consulted: "),

@@ -102,7 +102,8 @@ fn refusals_say_where() {
         ),
         ("show", "A0000001 70000100 70000000", "word 2, 70000100"),
         ("show", "70000000 70000000 60000001", "word 2, 70000000"),
-        ("narrow", "F0000001 C0050000 70000000", "word 2, C0050000"),
+        ("narrow", "F0000001 C4050000 70000000", "word 2, C4050000"),
+        ("show", "F0000001 C005C000 70000000", "word 2, C005C000"),
         ("complete", "F0007000 70000000", "the record is of sheet 7"),
         (
             "narrow --sheet 7",
@@ -160,6 +161,10 @@ fn usage() {
     for (arguments, said) in [
         ("evaluate --facts 5", "--facts"),
         ("evaluate --facts 1024=present", "fact from 0 to 1023"),
+        (
+            "evaluate --facts 5=silent",
+            "a fact from 0 to 1023 with =present, =absent or =unknown is due",
+        ),
         (
             "evaluate --facts 5=present,5=absent",
             "error: --facts says 5=present and 5=absent\n",

@@ -101,6 +101,28 @@ pub fn draw_repeating(seed: u64, count: usize, calls: &[Call]) -> Vec<Case> {
     numbers::give(seed, cases)
 }
 
+/// The same with entries of which many are silent, and with tables that end before some of the facts.
+pub fn draw_silent(seed: u64, count: usize, calls: &[Call]) -> Vec<Case> {
+    let mut cases = draw_of(seed, count, calls, |rng, alphabet, call| {
+        let alphabet = alphabet.silent();
+        if call.reads_sheet() {
+            return grown(rng, |rng| Grower::of_sheets(rng, &alphabet));
+        }
+        if rng.percent(30) {
+            return staged(rng, &alphabet, call.order());
+        }
+        let words = size(rng);
+        write::record(&Grower::of_records(rng, &alphabet).record(words))
+    });
+    let mut rng = Rng::new(seed);
+    for case in &mut cases {
+        if rng.percent(60) {
+            case.table.truncate(rng.below(case.table.len() + 1));
+        }
+    }
+    cases
+}
+
 /// Whether an accepted reduction or narrowing has a grant that is known, though its condition names an Unknown fact.
 pub fn is_half_known(case: &Case) -> bool {
     let words = match case.call {

@@ -1,10 +1,12 @@
 //! Random trees and records.
 
-use gatekeep::{DenyShape, Presence};
+use gatekeep::DenyShape;
 
 use super::rng::Rng;
 use crate::products::Products;
-use crate::words::tree::{Condition, Decided, Deny, Entry, Grant, Permit, Record, Residual, Tree};
+use crate::words::tree::{
+    Condition, Decided, Deny, Entry, Grant, Permit, Record, Residual, Seen, Tree,
+};
 use crate::words::{FACTS, GRANT_OBLIGATIONS, LEVELS, LIST, OBLIGATIONS, TRACE_OBLIGATIONS, write};
 
 /// The few numbers that one case draws from, so that they meet each other often.
@@ -18,6 +20,8 @@ pub struct Alphabet {
     pub obligations: Vec<u8>,
     /// Labels and reasons.
     pub names: Vec<u16>,
+    /// How consulted entries read.
+    pub seen: Vec<Seen>,
 }
 
 /// Outcomes that contain each other, that overlap, and the two ends.
@@ -37,6 +41,7 @@ impl Alphabet {
             outcomes: some(rng, 4, |rng| Products(rng.pick(&OUTCOMES))),
             obligations: rng.choose(&obligations, 5),
             names: some(rng, 4, |rng| rng.pick(&[0, 1, 2, 0x7FFE, 0x7FFF])),
+            seen: vec![Seen::Absent, Seen::Present, Seen::Unknown],
         }
     }
 
@@ -45,6 +50,16 @@ impl Alphabet {
     pub fn repeating(&self) -> Self {
         Self {
             obligations: self.obligations.repeat(3),
+            ..self.clone()
+        }
+    }
+
+    /// The same with entries of which every other one is silent.
+    #[must_use]
+    pub fn silent(&self) -> Self {
+        let silent = vec![Seen::Silent; self.seen.len()];
+        Self {
+            seen: [self.seen.clone(), silent].concat(),
             ..self.clone()
         }
     }
@@ -327,9 +342,8 @@ impl<'a> Grower<'a> {
     /// Consulted entries, repeated facts and Unknown included.
     fn consulted(&mut self) -> Vec<Entry> {
         let count = self.rng.pick(&[0, 0, 0, 1, 1, 2, 3, 5]);
-        let presences = [Presence::Absent, Presence::Present, Presence::Unknown];
         (0..count)
-            .map(|_| (self.fact(), self.rng.pick(&presences)))
+            .map(|_| (self.fact(), self.rng.pick(&self.alphabet.seen)))
             .collect()
     }
 

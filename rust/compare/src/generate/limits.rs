@@ -1,13 +1,15 @@
 //! Cases on both sides of each limit.
 
-use gatekeep::{DenyShape, Presence};
+use gatekeep::DenyShape;
 
 use super::grow::{Alphabet, Grower};
 use super::rng::Rng;
 use crate::case::{Answer, Call, Case};
 use crate::products::Products;
 use crate::words::table::pack;
-use crate::words::tree::{Condition, Decided, Deny, Entry, Grant, Permit, Record, Residual, Tree};
+use crate::words::tree::{
+    Condition, Decided, Deny, Entry, Grant, Permit, Record, Residual, Seen, Tree,
+};
 use crate::words::write;
 use crate::words::{
     FACTS, GRANT_OBLIGATIONS, LEVELS, LIST, OBLIGATIONS, RECORD_WORDS, SHEET_WORDS, TABLE_BYTES,
@@ -257,9 +259,9 @@ fn unions() -> Vec<Residual> {
 }
 
 fn consulted(rng: &mut Rng, length: usize) -> Vec<Entry> {
-    let presences = [Presence::Absent, Presence::Present, Presence::Unknown];
+    let seen = [Seen::Absent, Seen::Present, Seen::Unknown, Seen::Silent];
     (0..length)
-        .map(|_| (rng.small(FACTS), rng.pick(&presences)))
+        .map(|_| (rng.small(FACTS), rng.pick(&seen)))
         .collect()
 }
 

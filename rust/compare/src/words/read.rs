@@ -2,10 +2,12 @@
 
 use std::convert::Infallible;
 
-use gatekeep::{DenyShape, Presence};
+use gatekeep::DenyShape;
 
 use super::field::{field, halves, zero};
-use super::tree::{Condition, Decided, Deny, Entry, Grant, Permit, Record, Residual, Sheet, Tree};
+use super::tree::{
+    Condition, Decided, Deny, Entry, Grant, Permit, Record, Residual, Seen, Sheet, Tree,
+};
 use super::{GRANT_OBLIGATIONS, LEVELS, OBLIGATIONS, RECORD_WORDS, SHEET_WORDS};
 use crate::products::Products;
 use crate::refusal::Refusal;
@@ -348,12 +350,12 @@ fn listed(half: u16) -> Result<u16, Refusal> {
 /// A consulted entry: presence, four zero bits, then the fact.
 fn entry(half: u16) -> Result<Entry, Refusal> {
     let word = u32::from(half);
-    let presence = match field(word, 16, 2) {
-        0 => Presence::Absent,
-        1 => Presence::Present,
-        2 => Presence::Unknown,
-        _ => return Err(Refusal::Field),
+    let seen = match field(word, 16, 2) {
+        0 => Seen::Absent,
+        1 => Seen::Present,
+        2 => Seen::Unknown,
+        _ => Seen::Silent,
     };
     zero(word, 18, 4)?;
-    Ok((fact(word), presence))
+    Ok((fact(word), seen))
 }

@@ -39,10 +39,12 @@ impl Table {
 
     /// How the fact reads: past the end Absent, never Unknown.
     pub fn presence(&self, fact: u16) -> Presence {
-        self.0
-            .get(usize::from(fact))
-            .copied()
-            .unwrap_or(Presence::Absent)
+        self.observation(fact).unwrap_or(Presence::Absent)
+    }
+
+    /// What was entered of the fact: past the end nothing.
+    pub fn observation(&self, fact: u16) -> Option<Presence> {
+        self.0.get(usize::from(fact)).copied()
     }
 
     /// Each fact up to the table's end, and how it reads.

@@ -103,8 +103,21 @@ pub type Sheet = Tree<Infallible>;
 /// A record's tree.
 pub type Residual = Tree<Decided>;
 
+/// How a consulted fact read: what the table said of it, or that the table ended before it (request 9), which the original's entries don't tell.
+#[derive(Clone, Copy, Debug, PartialEq, Eq)]
+pub enum Seen {
+    /// Presence 0.
+    Absent,
+    /// Presence 1.
+    Present,
+    /// Presence 2.
+    Unknown,
+    /// Presence 3.
+    Silent,
+}
+
 /// A consulted fact and how it read.
-pub type Entry = (u16, Presence);
+pub type Entry = (u16, Seen);
 
 /// What reducing, narrowing and completing write.
 #[derive(Clone, Debug, PartialEq, Eq)]
@@ -123,6 +136,17 @@ pub enum Record {
         /// What remains to be decided.
         residual: Residual,
     },
+}
+
+impl From<Option<Presence>> for Seen {
+    fn from(observation: Option<Presence>) -> Self {
+        match observation {
+            Some(Presence::Absent) => Self::Absent,
+            Some(Presence::Present) => Self::Present,
+            Some(Presence::Unknown) => Self::Unknown,
+            None => Self::Silent,
+        }
+    }
 }
 
 impl Permit {
@@ -231,6 +255,18 @@ impl Residual {
 }
 
 impl Record {
+    /// Facts read, as stored.
+    pub fn consulted(&self) -> &[Entry] {
+        let (Self::Resolved { consulted, .. } | Self::Pending { consulted, .. }) = self;
+        consulted
+    }
+
+    /// The same, to be changed.
+    pub fn consulted_mut(&mut self) -> &mut [Entry] {
+        let (Self::Resolved { consulted, .. } | Self::Pending { consulted, .. }) = self;
+        consulted
+    }
+
     /// The record's nodes 12 and 13, from the left.
     pub fn stored(&self) -> Vec<&Decided> {
         match self {

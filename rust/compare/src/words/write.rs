@@ -4,10 +4,10 @@
 
 use std::convert::Infallible;
 
-use gatekeep::{DenyShape, Presence};
+use gatekeep::DenyShape;
 
 use super::field::place;
-use super::tree::{Condition, Decided, Deny, Entry, Grant, Permit, Record, Tree};
+use super::tree::{Condition, Decided, Deny, Entry, Grant, Permit, Record, Seen, Tree};
 
 /// A record's words with this number of its sheet, in place of the one in them.
 pub fn numbered(number: u16, mut record: Vec<u32>) -> Vec<u32> {
@@ -175,11 +175,12 @@ fn name(number: Option<u16>, at: u32) -> u32 {
     number.map_or(0, |number| place(0x8000 | u32::from(number), at, 16))
 }
 
-const fn entry((fact, presence): Entry) -> u16 {
-    let presence = match presence {
-        Presence::Absent => 0,
-        Presence::Present => 1,
-        Presence::Unknown => 2,
+const fn entry((fact, seen): Entry) -> u16 {
+    let presence = match seen {
+        Seen::Absent => 0,
+        Seen::Present => 1,
+        Seen::Unknown => 2,
+        Seen::Silent => 3,
     };
     presence << 14 | fact
 }

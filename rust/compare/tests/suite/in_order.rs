@@ -85,7 +85,7 @@ fn y_an_any_holds_every_arm() {
 fn s_the_first_denys_shape_stays() {
     let sheet = "A0000002 88000001 00000000 20000000 70000000";
     let record = "F0000000 A0000002 88000001 00000000 20000000 D0000000 00000000 00000000";
-    let hidden = "E0000001 00000000 DC000001 00000000 00000001 00000000";
+    let hidden = "E0000001 C0000000 DC000001 00000000 00000001 00000000";
     writes(PartialEvaluateInOrder, sheet, "80", record);
     writes(CompleteResidual, record, "", hidden);
     writes(Evaluate, sheet, "", hidden);
@@ -96,7 +96,7 @@ fn s_the_first_denys_shape_stays() {
         CompleteResidual,
         first,
         "",
-        "E0000001 00000000 D0000000 00000000 00000000",
+        "E0000001 C0000000 D0000000 00000000 00000000",
     );
 }
 
@@ -107,9 +107,9 @@ fn r_the_first_denys_reason_stays() {
                   00010000";
     writes(PartialEvaluateInOrder, sheet, "80", record);
     // What was consulted is not one sitting's.
-    let completed = "E0000002 00010000 DC000002 00008007 00000001 00000000";
+    let completed = "E0000002 0001C000 DC000002 00008007 00000001 00000000";
     writes(CompleteResidual, record, "", completed);
-    let sitting = "E0000001 00000000 DC000002 00008007 00000001 00000000";
+    let sitting = "E0000001 C0000000 DC000002 00008007 00000001 00000000";
     writes(Evaluate, sheet, "", sitting);
 }
 

@@ -36,7 +36,23 @@ fn case_d() {
 fn case_e() {
     prints(
         &input("88000003 00000000 20000005", ""),
+        "effect deny\nproducts ----\nshape hidden\nobligations -\nfacts 5\nconsulted 5=silent\n",
+    );
+    prints(
+        &input("88000003 00000000 20000005", "00 00"),
         "effect deny\nproducts ----\nshape hidden\nobligations -\nfacts 5\nconsulted 5=absent\n",
+    );
+}
+
+#[test]
+fn entered_and_silent_facts() {
+    prints(
+        &input(
+            "80000001 00000000 50000003 20000003 20000004 20000000",
+            "40",
+        ),
+        "effect permit\nproducts 0001\nshape -\nobligations -\nfacts 0\n\
+         consulted 3=absent,4=silent,0=present\n",
     );
 }
 

@@ -19,6 +19,7 @@ mod registers;
 mod repeats;
 #[cfg(feature = "proved")]
 mod round_trip;
+mod silence;
 #[cfg(feature = "proved")]
 mod sitting;
 mod stages;

@@ -19,7 +19,7 @@ const D: &str = "88000003 00000000 20000005";
 const PENDING: &str = "F0007000 88000003 00000000 20000005";
 /// The records of a permit and of a deny that come of it.
 const PERMIT: &str = "E0007001 40050000 C0000003 00000001 00050000";
-const DENY: &str = "E0007001 00050000 DC000003 00000000 00000001 00050000";
+const DENY: &str = "E0007001 C0050000 DC000003 00000000 00000001 00050000";
 
 /// Checks a call's record under a number, everything in document 01's hexadecimal.
 #[track_caller]

@@ -5,7 +5,7 @@ use std::thread;
 use compare::answers;
 use compare::case::{Call, Case};
 use compare::generate::cases::{
-    draw, draw_half_known, draw_layered, draw_repeating, draw_wide, is_half_known,
+    draw, draw_half_known, draw_layered, draw_repeating, draw_silent, draw_wide, is_half_known,
 };
 use compare::generate::chains::{Chain, room};
 use compare::generate::grow::{Alphabet, Grower};
@@ -14,12 +14,12 @@ use compare::generate::rng::Rng;
 use compare::generate::{limits, tables};
 use compare::narrow::Order;
 use compare::proved::{Writer, agrees, pair};
-use compare::reference;
-use compare::repeats::Tally;
 use compare::words::read::sheet_number;
 use compare::words::write;
+use compare::{reference, repeats, silence};
 
 use super::in_order::{clause, layered};
+use super::silence::{entered, without_silence};
 use super::stages::{decided, settled, small_chains};
 
 const SEED: u64 = 20_261_115;
@@ -208,7 +208,7 @@ fn known_grants_that_name_an_unknown_fact_agree() {
 #[test]
 fn repeated_obligations_agree() {
     let cases = draw_repeating(SEED, 40_000, &Call::ALL);
-    let met = Tally::of(&cases);
+    let met = repeats::Tally::of(&cases);
     assert!(met.repeated > 16_000, "{met}");
     assert!(met.granted.into_iter().all(|count| count > 300), "{met}");
     assert!(met.stored.into_iter().all(|count| count > 100), "{met}");
@@ -217,6 +217,45 @@ fn repeated_obligations_agree() {
     let unions = [met.kept, met.dropped].concat();
     assert!(unions.into_iter().all(|count| count > 50), "{met}");
     all_agree(cases);
+}
+
+/// Entries that are silent and tables that end before facts, and how they meet: which facts are told as silent is marked on the Rust side, and every word is
+/// compared.
+#[test]
+fn silence_agrees() {
+    let cases = draw_silent(SEED, 40_000, &Call::ALL);
+    let met = silence::Tally::of(&cases);
+    assert!(met.given > 4_000 && met.cut > 3_000, "{met}");
+    assert!(met.told > 2_000 && met.entered > 1_500, "{met}");
+    assert!(met.entered_later.iter().all(|count| *count > 300), "{met}");
+    assert!(met.silent_later > 300, "{met}");
+    all_agree(cases);
+}
+
+/// With silence read as Absent, a record is the one that the proved call gives of a table that enters every fact, and of a record without silence: the one
+/// that it gave before there was silence.
+#[test]
+fn silence_changes_nothing_but_the_trace() {
+    let calls: Vec<Call> = Call::ALL.into_iter().filter(|call| call.writes()).collect();
+    let mut told = 0;
+    for case in draw_silent(SEED, 20_000, &calls) {
+        let (reduce, narrow) = pair(case.call.order());
+        let call = match case.call {
+            Call::Evaluate => vierskof::evaluate,
+            Call::CompleteResidual => vierskof::complete_residual,
+            call if call.reads_sheet() => reduce,
+            _ => narrow,
+        };
+        let Ok(number) = u16::try_from(case.number) else {
+            continue;
+        };
+        let found = written(call, &case.words, number, &case.table, case.room);
+        let before = entered(&case);
+        let before = written(call, &before.words, number, &before.table, before.room);
+        assert_eq!(found.clone().map(without_silence), before, "{case:X?}");
+        told += usize::from(found != before);
+    }
+    assert!(told > 4_000, "{told}");
 }
 
 /// The reductions and narrowings of both pairs.

@@ -70,7 +70,8 @@ fn r2_unused_tails_are_fields() {
 
 #[test]
 fn r3_a_count_says_nothing_about_presence() {
-    record("F0000FFF C0000000", 8);
+    record("F0000FFF 04000000", 8);
+    record("F0000FFF C0000000", 6);
     record("F0000FFF 00000000", 6);
     sheet("80500001 00000000 07074000", 8);
     sheet("80500001 00000000 07080900", 6);
@@ -192,7 +193,6 @@ fn r11_presence_2_is_kept() {
         "",
         "E0000001 80050000 C0000001 00000000",
     );
-    record("F0000001 C0050000 60000001", 8);
 }
 
 #[test]

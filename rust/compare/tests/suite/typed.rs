@@ -11,11 +11,11 @@ use compare::products::Products;
 use compare::refusal::Refusal;
 use compare::repeats::has_repeat;
 use compare::words::tree::{
-    Condition, Decided, Deny, Entry, Grant, Permit, Record, Residual, Sheet, Tree,
+    Condition, Decided, Deny, Entry, Grant, Permit, Record, Residual, Seen, Sheet, Tree,
 };
 use compare::words::write::Stored;
 use compare::words::{read, write};
-use gatekeep::{DenyShape, Presence};
+use gatekeep::DenyShape;
 use vierskof::build::{self, Unwritable};
 use vierskof::read as typed;
 
@@ -97,12 +97,14 @@ const fn shape(given: vierskof::Shape) -> DenyShape {
 }
 
 fn entry(given: typed::Observation) -> Entry {
-    let presence = match given.reading.presence() {
-        vierskof::Presence::Absent => Presence::Absent,
-        vierskof::Presence::Present => Presence::Present,
-        vierskof::Presence::Unknown => Presence::Unknown,
+    let seen = match given.reading {
+        typed::Reading::Absent => Seen::Absent,
+        typed::Reading::Present => Seen::Present,
+        typed::Reading::Unknown => Seen::Unknown,
+        typed::Reading::Silent => Seen::Silent,
+        other => panic!("{other} is no reading of today"),
     };
-    (given.fact.number(), presence)
+    (given.fact.number(), seen)
 }
 
 fn sheet(words: &[u32]) -> Result<Sheet, u32> {

@@ -27,7 +27,7 @@ fn sheets_b_and_c() {
 #[test]
 fn sheets_d_and_e() {
     let d = "E0000001 40050000 C0000003 00000001 00050000";
-    let e = "E0000001 00050000 DC000003 00000000 00000001 00050000";
+    let e = "E0000001 C0050000 DC000003 00000000 00000001 00050000";
     writes(Evaluate, D, "00 10", d);
     writes(Evaluate, D, "", e);
 }
@@ -111,7 +111,7 @@ fn an_empty_condition_all_is_false() {
 
 #[test]
 fn a_missing_fact_is_absent() {
-    let denied = "E0000001 00050000 DC000003 00000000 00000001 00050000";
+    let denied = "E0000001 C0050000 DC000003 00000000 00000001 00050000";
     writes(PartialEvaluate, D, "", denied);
     writes(PartialEvaluate, D, "AA", denied);
 }

@@ -11,7 +11,8 @@ const FIELDS: usize = 4;
 /// What is known of every fact.
 ///
 /// A table speaks of its first facts, four for each byte. What comes after them is Absent too, but by silence: a fact that is entered as Absent stays in
-/// the table, which therefore keeps its length, and tables of unlike lengths are unlike.
+/// the table, which therefore keeps its length, and tables of unlike lengths are unlike. [`observation`](Self::observation) tells the two apart, as the
+/// trace of a record does; [`presence`](Self::presence) is what decisions go by.
 ///
 /// [`new`](Self::new) begins with silence, as one sitting wants it: what isn't said isn't so. Whoever holds only some of the facts begins with
 /// [`unknown`](Self::unknown).
@@ -27,6 +28,7 @@ const FIELDS: usize = 4;
 ///     .with(SIGNED, Presence::Unknown);
 /// assert_eq!(table.presence(SIGNED), Presence::Unknown);
 /// assert_eq!(table.presence(Fact::MAX), Presence::Absent);
+/// assert_eq!(table.observation(Fact::MAX), None);
 /// assert_eq!(table.as_bytes(), [0x00, 0x18]);
 /// assert!(!table.is_known());
 /// ```
@@ -140,12 +142,31 @@ impl FactTable {
         self
     }
 
-    /// What is known of a fact.
+    /// What is known of a fact. Where the table is silent it is Absent.
     #[must_use]
     pub fn presence(&self, fact: Fact) -> Presence {
+        self.observation(fact).unwrap_or_default()
+    }
+
+    /// What was entered of a fact, and none where the table ends before it. The other facts of a byte are entered with the one for which it is there.
+    ///
+    /// ```
+    /// use vierskof::{Fact, FactTable, Presence};
+    ///
+    /// const MEMBER: Fact = Fact::new(5).unwrap();
+    /// const BESIDE: Fact = Fact::new(7).unwrap();
+    /// const LATER: Fact = Fact::new(8).unwrap();
+    ///
+    /// let table = FactTable::new().with(MEMBER, Presence::Absent);
+    /// assert_eq!(table.observation(MEMBER), Some(Presence::Absent));
+    /// assert_eq!(table.observation(BESIDE), Some(Presence::Absent));
+    /// assert_eq!(table.observation(LATER), None);
+    /// ```
+    #[must_use]
+    pub fn observation(&self, fact: Fact) -> Option<Presence> {
         let (at, shift) = place(fact);
-        let byte = self.bytes.get(at).copied().unwrap_or_default();
-        Presence::of_field(u32::from(byte >> shift & 3)).unwrap_or_default()
+        let byte = self.as_bytes().get(at)?;
+        Presence::of_field(u32::from(byte >> shift & 3))
     }
 
     /// Whether no fact is Unknown, as evaluating and completing need it.

@@ -138,44 +138,67 @@ pub struct Observation {
 
 /// How a fact read when it was consulted.
 ///
-/// A record may come to tell more than a table can say, so this list is open; [`presence`](Self::presence) is what any reading counts as.
+/// A record tells more than a table's field can, that the table ended before the fact, and may come to tell more yet, so this list is open;
+/// [`presence`](Self::presence) is what any reading counts as.
 ///
 /// ```
-/// use vierskof::Presence;
 /// use vierskof::read::Reading;
+/// use vierskof::{Fact, FactTable, Presence};
 ///
-/// assert_eq!(Reading::Present.presence(), Presence::Present);
+/// assert_eq!(Reading::Silent.presence(), Presence::Absent);
 /// assert_eq!(Reading::from(Presence::Absent).to_string(), "absent");
+/// assert_eq!(Reading::from(FactTable::new().observation(Fact::MAX)).to_string(), "silent");
 /// ```
 #[derive(Clone, Copy, Debug, PartialEq, Eq, Hash)]
 #[non_exhaustive]
 pub enum Reading {
-    /// It wasn't so.
+    /// It wasn't so, and was entered as such.
     Absent,
     /// It was so.
     Present,
     /// Nobody had said. No call records it; a record that came from elsewhere may hold it.
     Unknown,
+    /// The table ended before the fact, which is taken for Absent.
+    Silent,
 }
 
 impl Observation {
     fn of_field(field: u32) -> Self {
         Self {
             fact: Fact::of_field(field),
-            reading: Presence::of_field(field >> 14).unwrap_or_default().into(),
+            // Of the four values of two bits, 3 is silence and no presence.
+            reading: Presence::of_field(field >> 14).into(),
         }
     }
 }
 
 impl Reading {
+    /// The number that stands for it in a consulted entry.
+    #[must_use]
+    pub const fn number(self) -> u8 {
+        match self {
+            Self::Absent => 0,
+            Self::Present => 1,
+            Self::Unknown => 2,
+            Self::Silent => 3,
+        }
+    }
+
     /// What the rules take it for.
     #[must_use]
     pub const fn presence(self) -> Presence {
         match self {
-            Self::Absent => Presence::Absent,
+            Self::Absent | Self::Silent => Presence::Absent,
             Self::Present => Presence::Present,
             Self::Unknown => Presence::Unknown,
         }
+    }
+}
+
+/// What was entered; none is silence.
+impl From<Option<Presence>> for Reading {
+    fn from(entered: Option<Presence>) -> Self {
+        entered.map_or(Self::Silent, Self::from)
     }
 }
 
@@ -189,9 +212,12 @@ impl From<Presence> for Reading {
     }
 }
 
-/// `absent`, `present` or `unknown`, as in listings.
+/// `absent`, `present`, `unknown` or `silent`, as in listings.
 impl fmt::Display for Reading {
     fn fmt(&self, f: &mut fmt::Formatter<'_>) -> fmt::Result {
-        self.presence().fmt(f)
+        match self {
+            Self::Silent => f.pad("silent"),
+            entered => entered.presence().fmt(f),
+        }
     }
 }

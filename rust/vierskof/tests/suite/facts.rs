@@ -14,6 +14,7 @@ fn a_new_table_says_nothing() {
     assert_eq!(table.as_bytes(), []);
     assert!(table.is_known());
     assert!(every_fact().all(|fact| table.presence(fact) == Presence::Absent));
+    assert!(every_fact().all(|fact| table.observation(fact).is_none()));
     assert_eq!(table, FactTable::default());
     assert_eq!(format!("{table:?}"), "FactTable of 0 {}");
 }
@@ -100,6 +101,7 @@ fn bytes_are_read() {
             _ => Presence::Unknown,
         };
         assert_eq!(table.presence(fact), expected);
+        assert_eq!(table.observation(fact), Some(expected));
     }
     let again = every_fact().map(|fact| (fact, table.presence(fact)));
     assert_eq!(again.collect::<FactTable>(), table);
@@ -122,6 +124,25 @@ fn a_table_keeps_its_length() {
         .with(fact(9), Presence::Absent);
     assert_eq!(taken_back, long);
     assert_eq!(format!("{long:?}"), "FactTable of 12 {0: Present}");
+}
+
+#[test]
+fn past_its_last_byte_a_table_is_silent() {
+    for length in [0, 1, 2, 255, 256] {
+        let table = FactTable::from_bytes(&vec![0; length]).expect("a table");
+        for fact in every_fact() {
+            let entered = usize::from(fact.number()) < 4 * length;
+            let said = entered.then_some(Presence::Absent);
+            assert_eq!(table.observation(fact), said);
+            assert_eq!(table.presence(fact), Presence::Absent);
+        }
+    }
+    // Absent is entered as anything else is, and with it the facts of its byte.
+    for set in [fact(0), fact(5), Fact::MAX] {
+        let table = FactTable::new().with(set, Presence::Absent);
+        let entered = every_fact().filter(|&fact| table.observation(fact).is_some());
+        assert_eq!(entered.count(), usize::from(set.number()) / 4 * 4 + 4);
+    }
 }
 
 #[test]

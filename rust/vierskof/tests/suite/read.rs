@@ -2,7 +2,9 @@
 
 use std::thread;
 
-use vierskof::read::{Condition, ConditionRef, Decision, Policy, PolicyRef, Record, Sheet, Status};
+use vierskof::read::{
+    Condition, ConditionRef, Decision, Policy, PolicyRef, Reading, Record, Sheet, Status,
+};
 use vierskof::{LEVELS, LIST, Presence, RECORD_WORDS, Refusal, SHEET_WORDS, Shape};
 
 use super::{fact, label, obligation, products, reason};
@@ -204,10 +206,29 @@ fn an_arm_ends_where_the_next_begins() {
     }
 }
 
+/// The four readings of an entry, what the rules take each for, and its word.
+const READINGS: [(Reading, Presence, &str); 4] = [
+    (Reading::Absent, Presence::Absent, "absent"),
+    (Reading::Present, Presence::Present, "present"),
+    (Reading::Unknown, Presence::Unknown, "unknown"),
+    (Reading::Silent, Presence::Absent, "silent"),
+];
+
+#[test]
+fn a_reading_is_what_was_entered_or_silence() {
+    let (silent, entered) = READINGS.split_last().expect("four");
+    for (reading, presence, _) in entered {
+        assert_eq!(Reading::from(*presence), *reading);
+        assert_eq!(Reading::from(Some(*presence)), *reading);
+    }
+    assert_eq!(Reading::from(None::<Presence>), silent.0);
+    assert_eq!(format!("{:>7}", Reading::Silent), " silent");
+}
+
 #[test]
 fn the_longest_lists() {
     let facts: Vec<u32> = (0..4_095).map(|at| at % 1_024).collect();
-    let consulted: Vec<u32> = facts.iter().map(|fact| (fact % 3) << 14 | fact).collect();
+    let consulted: Vec<u32> = facts.iter().map(|fact| (fact % 4) << 14 | fact).collect();
     let obligations: Vec<u8> = (0..64).rev().collect();
     let mut words = vec![0xE000_0000 | count(LIST)];
     words.extend(halves(&consulted));
@@ -224,11 +245,11 @@ fn the_longest_lists() {
     assert_eq!(record.consulted().len(), LIST);
     for (read, fact) in record.consulted().zip(&facts) {
         assert_eq!(u32::from(read.fact.number()), *fact);
-        let presences = [Presence::Absent, Presence::Present, Presence::Unknown];
-        let presence = presences[(*fact % 3) as usize];
-        assert_eq!(read.reading, presence.into());
+        let (reading, presence, text) = READINGS[(*fact % 4) as usize];
+        assert_eq!(read.reading, reading);
+        assert_eq!(u32::from(reading.number()), *fact % 4);
         assert_eq!(read.reading.presence(), presence);
-        assert_eq!(read.reading.to_string(), presence.to_string());
+        assert_eq!(read.reading.to_string(), text);
     }
     let Policy::PermitWithTrace(permit) = record.tree().node() else {
         panic!("no permit");

@@ -79,6 +79,21 @@ fn words_are_5_to_10() {
     unread(10, &[DENY, DENY]);
 }
 
+/// An entry may say 3, which is silence; what must be 0 in it must still be.
+#[test]
+fn entries_are_8_by_their_zeros_alone() {
+    for presence in 0..4 {
+        assert!(Record::read(&[0xF000_0001, presence << 30 | 5 << 16, DENY]).is_ok());
+    }
+    for entries in [0xC405_0000, 0xC005_C000, 0xC005_0001] {
+        let record = [0xF000_0001, entries, DENY];
+        assert_eq!(Record::read(&record), Err(Refusal::Field));
+    }
+    let cut = |entries| vierskof::is_deny_constant(&[0xF000_0FFF, entries]);
+    assert_eq!(cut(0xC000_0000), Err(Refusal::WordsEnd));
+    assert_eq!(cut(0x0400_0000), Err(Refusal::Field));
+}
+
 /// Reduction and narrowing are refused alike in either order, for the first cause.
 #[test]
 fn both_pairs_are_refused_alike() {

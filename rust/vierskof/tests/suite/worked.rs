@@ -83,18 +83,29 @@ fn d_permits_on_its_fact() {
 
 #[test]
 fn e_denies_without_it() {
-    let record = sitting(&D, &FactTable::new());
-    let expected = [0xE000_0001, 0x0005_0000, 0xDC00_0003, 0, 1, 0x0005_0000];
-    assert_eq!(record, expected);
-    let record = Record::read(&record).unwrap();
-    let consulted = record.consulted().map(|read| (read.fact, read.reading));
-    assert!(consulted.eq([(fact(5), Reading::Absent)]));
-    let Some(Decision::Deny(deny)) = record.decision() else {
-        panic!("{record:?} is no deny");
-    };
-    assert_eq!(deny.denied(), Some(products(3)));
-    assert_eq!(deny.shape(), Shape::Hidden);
-    assert!(deny.facts().eq([fact(5)]));
+    let entered = five(Presence::Absent);
+    assert_eq!(entered.as_bytes(), [0x00, 0x00]);
+    let short = FactTable::new().with(fact(3), Presence::Absent);
+    let tables = [
+        (FactTable::new(), 0xC005_0000, Reading::Silent),
+        (short, 0xC005_0000, Reading::Silent),
+        (entered, 0x0005_0000, Reading::Absent),
+    ];
+    for (table, entry, reading) in tables {
+        let record = sitting(&D, &table);
+        let expected = [0xE000_0001, entry, 0xDC00_0003, 0, 1, 0x0005_0000];
+        assert_eq!(record, expected);
+        let record = Record::read(&record).unwrap();
+        let consulted = record.consulted().map(|read| (read.fact, read.reading));
+        assert!(consulted.eq([(fact(5), reading)]));
+        assert_eq!(Reading::from(table.observation(fact(5))), reading);
+        let Some(Decision::Deny(deny)) = record.decision() else {
+            panic!("{record:?} is no deny");
+        };
+        assert_eq!(deny.denied(), Some(products(3)));
+        assert_eq!(deny.shape(), Shape::Hidden);
+        assert!(deny.facts().eq([fact(5)]));
+    }
 }
 
 #[test]
@@ -186,7 +197,7 @@ fn records_carry_their_sheets_number() {
     let expected = [0xE000_7001, 0x4005_0000, 0xC000_0003, 1, 0x0005_0000];
     assert_eq!(permit, expected);
     let deny = complete_residual(pending, 7, &[], &mut completed).unwrap();
-    let expected = [0xE000_7001, 0x0005_0000, 0xDC00_0003, 0, 1, 0x0005_0000];
+    let expected = [0xE000_7001, 0xC005_0000, 0xDC00_0003, 0, 1, 0x0005_0000];
     assert_eq!(deny, expected);
 
     for number in [0, 1, 7, 4_095, 4_096, u16::MAX] {

@@ -5,7 +5,7 @@ use gatekeep::{Decision, DecisionTrace, DecisiveClause, Effect, FactId, Presence
 use super::ids;
 use super::trees::{from_residual_policy, to_residual_policy};
 use crate::products::Products;
-use crate::words::tree::{Decided, Deny, Entry, Permit, Record};
+use crate::words::tree::{Decided, Deny, Entry, Permit, Record, Seen};
 
 /// The original's decision for a Resolved record.
 pub fn to_decision(consulted: &[Entry], decided: &Decided) -> Decision<Products> {
@@ -124,16 +124,22 @@ fn from_clause(decision: &Decision<Products>) -> Decided {
     }
 }
 
+/// Silence is Absent to the original.
 fn to_consulted(consulted: &[Entry]) -> Vec<(FactId, Presence)> {
+    let presence = |seen| match seen {
+        Seen::Absent | Seen::Silent => Presence::Absent,
+        Seen::Present => Presence::Present,
+        Seen::Unknown => Presence::Unknown,
+    };
     consulted
         .iter()
-        .map(|(fact, read)| (ids::fact_id(*fact), *read))
+        .map(|(fact, seen)| (ids::fact_id(*fact), presence(*seen)))
         .collect()
 }
 
 fn from_consulted(consulted: &[(FactId, Presence)]) -> Vec<Entry> {
     consulted
         .iter()
-        .map(|(id, read)| (ids::fact(id), *read))
+        .map(|(id, read)| (ids::fact(id), Some(*read).into()))
         .collect()
 }

@@ -48,6 +48,8 @@ static inline int writes(enum call call) {
     return call <= COMPLETE_RESIDUAL || call == PARTIAL_EVALUATE_IN_ORDER || call == NARROW_RESIDUAL_IN_ORDER;
 }
 
+static inline int narrows(enum call call) { return call == NARROW_RESIDUAL || call == NARROW_RESIDUAL_IN_ORDER; }
+
 static inline int counts(enum call call) { return call == REQUIRED_FACTS || call == REQUIRED_RESIDUAL_FACTS; }
 
 static inline int reads_sheet(enum call call) {

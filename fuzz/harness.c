@@ -45,7 +45,8 @@ static int same(const void *one, const void *other, size_t bytes) { return bytes
 static void in_range(const struct given *given, const struct answer *answer) {
     bool in_table = answer->number <= VIERSKOF_REFUSED_ROOM && answer->number != 9, no_register = answer->number == VIERSKOF_REFUSED_REGISTER;
     bool other_sheet = answer->number == VIERSKOF_REFUSED_SHEET_NUMBER && writes(given->call);
-    HOLDS(given->call == SHEET_IN_FORCE ? no_register || answer->number == 0 : in_table || other_sheet);
+    bool against = answer->number == VIERSKOF_REFUSED_CONTRADICTION && narrows(given->call);
+    HOLDS(given->call == SHEET_IN_FORCE ? no_register || answer->number == 0 : in_table || other_sheet || against);
     if (answer->number) {
         HOLDS(answer->value == 0);
     } else if (writes(given->call)) {
@@ -162,6 +163,17 @@ static int presence(const struct given *table, size_t fact) {
     return fact / 4 < table->bytes ? table->table[fact / 4] >> (6 - 2 * (fact % 4)) & 3 : ABSENT;
 }
 
+// Whether the table enters a fact as Present that some entry of the record has as Absent, or the reverse.
+static bool contradicted(const struct given *given) {
+    bool found = false;
+    for (size_t i = 0; i < (given->words[0] & 0xFFF); i++) {
+        uint32_t entry = given->words[1 + i / 2] >> (i % 2 ? 0 : 16) & 0xFFFF, seen = entry >> 14, fact = entry & 0x3FF;
+        int field = presence(given, fact);
+        found |= fact / 4 < given->bytes && ((seen == ABSENT && field == PRESENT) || (seen == PRESENT && field == ABSENT));
+    }
+    return found;
+}
+
 // A record tells silence where the table ended before the fact, all that a sheet's record tells, and is in all else that of a table that enters every fact.
 static void tells_silence(struct given given, const struct answer *answer) {
     uint8_t *whole = block(VIERSKOF_TABLE_BYTES);
@@ -171,6 +183,13 @@ static void tells_silence(struct given given, const struct answer *answer) {
     entering.table = whole;
     entering.bytes = VIERSKOF_TABLE_BYTES;
     struct answer entered = call(entering, FIRST);
+    // what is entered may contradict what a narrowed record has as Present
+    if (narrows(given.call) && contradicted(&entering)) {
+        HOLDS(entered.number == VIERSKOF_REFUSED_CONTRADICTION);
+        free(entered.out);
+        free(whole);
+        return;
+    }
     HOLDS(entered.number == 0 && entered.value == answer->value);
     for (size_t i = 0; i < (answer->out[0] & 0xFFF); i++) {
         size_t at = 1 + i / 2, shift = i % 2 ? 0 : 16, fact = answer->out[at] >> shift & 0x3FF;
@@ -209,14 +228,15 @@ static void names_no_settled(const struct given *record, const struct given *tab
 
 // ---- roads
 
-// Takes an accepted sheet or record through a call with its own number and a faultless table, which is refused for want of room alone. Whether there was
-// room.
+// Takes an accepted sheet or record through a call with its own number and a faultless table, which is refused for want of room, and a narrowing exactly where
+// the table contradicts an entry. Whether it was accepted.
 static int taken(struct given given, enum call which, const uint8_t *table, size_t bytes, struct given *record) {
     given.call = which;
     given.table = (uint8_t *)table;
     given.bytes = bytes;
     struct answer answer = call(given, FIRST);
-    HOLDS(answer.number == 0 || answer.number == VIERSKOF_REFUSED_ROOM);
+    bool against = narrows(which) && contradicted(&given);
+    HOLDS(against ? answer.number == VIERSKOF_REFUSED_CONTRADICTION : answer.number == 0 || answer.number == VIERSKOF_REFUSED_ROOM);
     if (answer.number == 0) {
         *record = record_of(answer, given.room);
     } else {
@@ -260,13 +280,13 @@ static void stays(struct given record) {
     free(again.words);
 }
 
-// Narrowed first, a record is completed to the same end; a Resolved one comes back equal. A record of a road has room for certain. Whether there was room,
-// and the record.
+// Narrowed first, a record is completed to the same end; a Resolved one comes back equal. A record of a road is accepted for certain: it has room, and no table
+// of the road contradicts it. Whether it was accepted, and the record.
 static int narrowed(struct given record, enum call narrow, const uint8_t *table, const uint8_t *known, uint32_t ends, int certain, struct given *narrower) {
     struct given given = {.table = (uint8_t *)table, .bytes = record.bytes};
-    int room = taken(record, narrow, table, record.bytes, narrower);
-    HOLDS(room || !certain);
-    if (!room) return 0;
+    int accepted = taken(record, narrow, table, record.bytes, narrower);
+    HOLDS(accepted || !certain);
+    if (!accepted) return 0;
     names_no_settled(narrower, &given);
     uint32_t found = end(*narrower, COMPLETE_RESIDUAL, known, record.bytes);
     HOLDS(found == ends || (!certain && (found == NOTHING || ends == NOTHING)));

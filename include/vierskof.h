@@ -51,7 +51,7 @@ enum {
 #define VIERSKOF_ROOM(words) (3 * (size_t)(words) + 513)
 
 /* Why a call is turned back. Of several causes a call names the first in this order: 1, 2, then 3 and 4 from fact 0 on,
-   then 5 to 8 from the first word on, then 10, then 16, then 11. 9 is not used. A register has 15 alone. A join has an order of
+   then 5 to 8 from the first word on, then 10, then 16, then 17, then 11. 9 is not used. A register has 15 alone. A join has an order of
    its own: 2 in either table, 3 in either, 14, then 11; for windows it is 12, 13, 3, 11. Later versions may have further
    numbers. */
 enum vierskof_cause {
@@ -70,7 +70,8 @@ enum vierskof_cause {
     VIERSKOF_REFUSED_WINDOWS = 13,          /* the list of windows isn't as it has to be, or its table isn't 256 bytes */
     VIERSKOF_REFUSED_CLASH = 14,            /* a fact is Present in one of two joined tables and Absent in the other */
     VIERSKOF_REFUSED_REGISTER = 15,         /* the words are no register of sheets */
-    VIERSKOF_REFUSED_SHEET_NUMBER = 16      /* the record is of another sheet, or the number is one that no record carries */
+    VIERSKOF_REFUSED_SHEET_NUMBER = 16,     /* the record is of another sheet, or the number is one that no record carries */
+    VIERSKOF_REFUSED_CONTRADICTION = 17     /* a narrowing's table has as Present what the record consulted as Absent, or the reverse */
 };
 
 /* The number of the refusal, 0 when the call was accepted; and the call's value. */
@@ -90,7 +91,9 @@ uint64_t vierskof_partial_evaluate(const uint32_t *sheet, size_t words, uint32_t
 
 /* Narrows a record by a table of further facts, which may leave facts open as well. Value: the words written. `number` is that
    of the sheet that the record is expected to be of, and what is written carries it again; a record with another number is
-   refused by 16. Expected 0 takes only records without a number. `out` overlaps neither `record` nor `facts`: a record is not
+   refused by 16. Expected 0 takes only records without a number. A table that has a fact as Present which the record
+   consulted as Absent, or the reverse, is refused by 17, also of a Resolved record; Unknown, and facts past the table's end,
+   contradict nothing. `out` overlaps neither `record` nor `facts`: a record is not
    narrowed in place. */
 uint64_t vierskof_narrow_residual(const uint32_t *record, size_t words, uint32_t number, const uint8_t *facts, size_t bytes,
                                   uint32_t *VIERSKOF_RESTRICT out, size_t room);

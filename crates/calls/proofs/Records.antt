@@ -8,12 +8,12 @@ use borrow.Author.Tests.{le-leb, eqb-true}
 use lib.Dec.{leb}
 use lib.ListN.{length, drop}
 use lib.Seq.{drop-drop}
-use Rattle.model.specs.Facts.{tableFault}
+use Rattle.model.specs.Facts.{Table, tableFault}
 use Rattle.model.specs.Outcome.{productSets}
 use Rattle.model.specs.Decision.{Decision, permits, denies}
 use Rattle.model.specs.Policy.{Policy}
 use Rattle.model.specs.Partial.{ReducedPolicy, resolved, pending}
-use Rattle.model.specs.Consulted.{Consulted, once}
+use Rattle.model.specs.Consulted.{Consulted, once, anyContradicted}
 use Rattle.model.specs.Record.{Record, tree}
 use Rattle.model.specs.Writing.{sheetBits, numbered, mostListed, mostHeld, shortD, short}
 use Rattle.model.specs.Reading.{Parsed, refuse, got, recordWords, recordLength, sheetNumber}
@@ -33,6 +33,7 @@ use Rattle.evaluate.proofs.Nodes.{held-at}
 use Rattle.answer.specs.declared.Answer.{Answer}
 use Rattle.answer.specs.declared.Answer.the-variants.{Refused}
 use Rattle.answer.specs.Answers.{Answered, Makes, Numbered, copied}
+use Rattle.contradiction.specs.Contradicted.{Contradicted}
 use Rattle.calls.specs.Judged.{kindOf, judgedRecord}
 use Rattle.calls.proofs.Judging.{judged-got, by-judged, few-words}
 
@@ -89,10 +90,21 @@ module _ (known : Bool) (number : ℕ) (ws facts : List ℕ) where
   pub record-number : (l : Lead) → got l [] ≡ leadOf (judgedRecord known number ws facts) → number < 2 ^ sheetBits
   record-number l e = lead-is (judgedRecord known number ws facts) l e (λ x vs g k c p. omega (arith, read-record x vs g .1))
 
-  -- The call makes a record of what was read, under the number: a Resolved one comes back, and of a Pending one the tree is gone on with.
-  module _ (from : ReducedPolicy Outcome → Consulted → Record Outcome) (out : List ℕ) where
+  -- What was found of the entries that stand in the words was found of the record that is read.
+  pub entries-found : {P : Table} {count : ℕ} {found : Bool} → Contradicted P ws count found → (x : Record Outcome) (vs : List ℕ) → readRecord ws ≡ got x vs → count ≡ length (x .log) → found ≡ anyContradicted P (x .log)
+  entries-found h x vs q c =
+      let same = same-record (productSets .number) (productSets .value) (writtenProducts .only) ws x vs q in
+      let ok = held-at (ok-record InRange (productSets .value) (writtenProducts .sound) ws) q in
+      h .says (x .log) (encode (tree x)) (ok .entries) c (ap (drop 1) same)
+
+  -- The call makes a record of what was read, under the number: a Resolved one comes back, and of a Pending one the tree is gone on with. Before that a
+  -- narrowing is turned back for entries that the table is against; a completion is against none.
+  module _ (from : ReducedPolicy Outcome → Consulted → Record Outcome) (against : Consulted → Bool) (out : List ℕ) where
+    abbrev Made : Record Outcome → model.Answer
+    Made x = model.under number (write (length out) (from (x .body) (x .log)))
+
     abbrev Wrote : Record Outcome → model.Answer
-    Wrote x = model.under number (write (length out) (from (x .body) (x .log)))
+    Wrote x = model.unlessContradicted (against (x .log)) (Made x)
 
     abbrev Call : model.Answer
     Call = model.unlessLong (recordLength ws) (model.unlessFault (tableFault (kindOf known) facts) (model.onRead (readRecord ws) (λ x. model.unlessOther (hasNumber ws number) (Wrote x))))
@@ -102,24 +114,31 @@ module _ (known : Bool) (number : ℕ) (ws facts : List ℕ) where
         by-judged (recordLength ws) (tableFault (kindOf known) facts) (hasNumber ws number) (readRecord ws) Wrote (refuse n) (refused-by n (judgedRecord known number ws facts) e)
         (record { answer-is = refl; output-is = refl })
 
-    -- By the record that was read.
-    answered : {after : List ℕ} {r : Answer} (kind count at : ℕ) → got (record { kind = kind; consulted = count; tree = at }) [] ≡ leadOf (judgedRecord known number ws facts) →
-        ((body : ReducedPolicy Outcome) (l : Consulted) (vs : List ℕ) → recordLength ws ≡ true → sheetNumber ws ≡ number → readRecord ws ≡ got (record { body = body; log = l }) vs →
-        kind ≡ leadKind body → count ≡ length l → at ≡ 1 + pairs l → Answered (Wrote (record { body = body; log = l })) out after r) → Answered Call out after r
-    answered kind count at e f =
-        lead-is (judgedRecord known number ws facts) (record { kind = kind; consulted = count; tree = at }) e (λ x vs g k c p.
-        let read = read-record x vs g in
-        by-judged (recordLength ws) (tableFault (kindOf known) facts) (hasNumber ws number) (readRecord ws) Wrote (got x vs) g (f (x .body) (x .log) vs (read .0) (read .1) (read .2) k c p))
+    -- By the record that was read, and by what was found of its entries.
+    module _ {after : List ℕ} {r : Answer} (kind count at : ℕ) (found : Bool) (e : got (record { kind = kind; consulted = count; tree = at }) [] ≡ leadOf (judgedRecord known number ws facts))
+        (entries : (x : Record Outcome) (vs : List ℕ) → readRecord ws ≡ got x vs → count ≡ length (x .log) → found ≡ against (x .log)) where
+      answered : ((body : ReducedPolicy Outcome) (l : Consulted) (vs : List ℕ) → recordLength ws ≡ true → sheetNumber ws ≡ number → readRecord ws ≡ got (record { body = body; log = l }) vs →
+          kind ≡ leadKind body → count ≡ length l → at ≡ 1 + pairs l → Answered (model.unlessContradicted found (Made (record { body = body; log = l }))) out after r) → Answered Call out after r
+      answered f =
+          lead-is (judgedRecord known number ws facts) (record { kind = kind; consulted = count; tree = at }) e (λ x vs g k c p.
+          let read = read-record x vs g in
+          by-judged (recordLength ws) (tableFault (kindOf known) facts) (hasNumber ws number) (readRecord ws) Wrote (got x vs) g
+          (subst (λ b. Answered (model.unlessContradicted b (Made x)) out after r) (entries x vs (read .2) c) (f (x .body) (x .log) vs (read .0) (read .1) (read .2) k c p)))
+
+    pub record-contradicted : (kind count at : ℕ) → got (record { kind = kind; consulted = count; tree = at }) [] ≡ leadOf (judgedRecord known number ws facts) →
+        ((x : Record Outcome) (vs : List ℕ) → readRecord ws ≡ got x vs → count ≡ length (x .log) → true ≡ against (x .log)) → Answered Call out out (Refused 17)
+    record-contradicted kind count at e entries = answered kind count at true e entries (λ body l vs long right q k c p. record { answer-is = refl; output-is = refl })
 
     module _ (back : (d : Decision Outcome) (l : Consulted) → from (resolved d) l ≡ record { body = resolved d; log = l }) where
       body-copied : {after : List ℕ} {r : Answer} → Answered (copied ws (length out)) out after r → (body : ReducedPolicy Outcome) (l : Consulted) (vs : List ℕ) → recordLength ws ≡ true → sheetNumber ws ≡ number →
-          readRecord ws ≡ got (record { body = body; log = l }) vs → 14 ≡ leadKind body → Answered (Wrote (record { body = body; log = l })) out after r
+          readRecord ws ≡ got (record { body = body; log = l }) vs → 14 ≡ leadKind body → Answered (Made (record { body = body; log = l })) out after r
       body-copied {after} {r} h (resolved d) l vs long right q k =
           subst (λ x. Answered x out after r) (sym (ap (λ x. model.under number (write (length out) x)) (back d l) ∙ came-back number ws (length out) d l vs long right q)) h
       body-copied h (pending t) l vs long right q k = let z : ⊥ = omega arith in absurd z
 
-      pub record-copied : {after : List ℕ} {r : Answer} (count at : ℕ) → recordLead (Resolved count at) ≡ leadOf (judgedRecord known number ws facts) → Answered (copied ws (length out)) out after r → Answered Call out after r
-      record-copied count at e h = answered 14 count at e (λ body l vs long right q k c p. body-copied h body l vs long right q k)
+      pub record-copied : {after : List ℕ} {r : Answer} (count at : ℕ) → recordLead (Resolved count at) ≡ leadOf (judgedRecord known number ws facts) →
+          ((x : Record Outcome) (vs : List ℕ) → readRecord ws ≡ got x vs → count ≡ length (x .log) → false ≡ against (x .log)) → Answered (copied ws (length out)) out after r → Answered Call out after r
+      record-copied count at e entries h = answered 14 count at false e entries (λ body l vs long right q k c p. body-copied h body l vs long right q k)
 
     module _ (made : Policy Outcome → Consulted → Record Outcome) (forth : (t : Policy Outcome) (l : Consulted) → from (pending t) l ≡ made t (once l)) where
       body-made : {written : List ℕ} {a : Answer} {count at : ℕ} → Makes made ws count at out written a → (body : ReducedPolicy Outcome) (l : Consulted) (vs : List ℕ) →
@@ -128,6 +147,7 @@ module _ (known : Bool) (number : ℕ) (ws facts : List ℕ) where
       body-made m (resolved d) l vs q k c p = let z : ⊥ = omega arith in absurd z
       body-made {written} {a} m (pending t) l vs q k c p = subst (λ x. Answered (write (length out) x) out written a) (sym (forth t l)) (tree-made m t l vs q c p)
 
-      pub record-made : {written after : List ℕ} {a r : Answer} (count at : ℕ) → recordLead (Pending count at) ≡ leadOf (judgedRecord known number ws facts) → Makes made ws count at out written a →
+      pub record-made : {written after : List ℕ} {a r : Answer} (count at : ℕ) → recordLead (Pending count at) ≡ leadOf (judgedRecord known number ws facts) →
+          ((x : Record Outcome) (vs : List ℕ) → readRecord ws ≡ got x vs → count ≡ length (x .log) → false ≡ against (x .log)) → Makes made ws count at out written a →
           Numbered number written after a r → Answered Call out after r
-      record-made count at e m u = answered 15 count at e (λ body l vs long right q k c p. u .numbers (write (length out) (from body l)) out (body-made m body l vs q k c p))
+      record-made count at e entries m u = answered 15 count at false e entries (λ body l vs long right q k c p. u .numbers (write (length out) (from body l)) out (body-made m body l vs q k c p))

@@ -192,7 +192,7 @@ pub fn partial_evaluate_in_order(
     partial_evaluate_by(sheet, number, true, facts, out)
 }
 
-// Judges a record with a table of further facts, and narrows it. A Resolved one comes back as it stands.
+// Judges a record with a table of further facts, which may not contradict it, and narrows it. A Resolved one comes back as it stands.
 fn narrow_residual_by(
     words: &[u32],
     number: u32,
@@ -204,15 +204,22 @@ fn narrow_residual_by(
 {
     match judge_record(words, number, facts, false) {
         RecordCheck::Refused(cause) => Answer::Refused(cause),
-        RecordCheck::Resolved {
-            consulted: _,
-            tree: _,
-        } => answer::copy_record(words, out),
-        RecordCheck::Pending { consulted, tree } => answer::under_number(
-            narrow(words, consulted as usize, tree, in_order, facts, out),
-            number,
-            out,
-        ),
+        RecordCheck::Resolved { consulted, tree: _ } => {
+            if contradiction::contradicted(words, consulted as usize, facts) {
+                return Answer::Refused(17);
+            }
+            answer::copy_record(words, out)
+        }
+        RecordCheck::Pending { consulted, tree } => {
+            if contradiction::contradicted(words, consulted as usize, facts) {
+                return Answer::Refused(17);
+            }
+            answer::under_number(
+                narrow(words, consulted as usize, tree, in_order, facts, out),
+                number,
+                out,
+            )
+        }
     }
 }
 

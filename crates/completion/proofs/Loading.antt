@@ -1,42 +1,21 @@
 -- The entries of a record, listed one after the other. Assumes nothing.
 use mathlib.Core.Path.{_≡_, refl, sym, _∙_, ap, ap₂}
 use mathlib.Core.List.{List, [], _∷_, _++_, map}
-use Prim.Native.Nat.{ℕ, zero, suc, _+_, _/_, _%_, _≤_, _<_}
+use Prim.Native.Nat.{ℕ, _+_, _/_, _%_, _≤_, _<_}
 use native.Mathlib.Numerals.{add-one}
 use native.Mathlib.Omega.{arith}
-use lib.ListN.{length, take, drop, getD, length-map, length-append, length-drop}
+use lib.ListN.{length, take, drop, getD}
 use lib.Seq.{take-suc, take-all}
 use Rattle.model.specs.Fields.{pack}
-use Rattle.model.specs.Facts.{Presence, absent, factCount}
+use Rattle.model.specs.Facts.{Presence}
 use Rattle.model.specs.Consulted.{Entry, Consulted, consult, onceFrom}
-use Rattle.model.specs.Writing.{entryBits, presenceField, seenIn, entryField}
+use Rattle.model.specs.Writing.{entryBits, seenIn, entryField}
 use Rattle.laws.specs.FieldAt.{fieldAt}
-use Rattle.laws.specs.FieldAtLaws.{seen-back, entry-field}
-use Rattle.laws.specs.Lengths.{length-pack}
+use Rattle.laws.specs.FieldAtLaws.{noEntry, EntryIn, entry-at, entries-there}
 use Rattle.laws.specs.ReadForm.{Named}
-use Rattle.condition.specs.Listing.{entryOf, Lent, Consults, Recorded}
+use Rattle.condition.specs.Listing.{Lent, Consults, Recorded}
 use Rattle.condition.proofs.Listing.{consults-none, consults-then, consults-as}
 use Rattle.completion.specs.Answers.{LoadsConsulted}
-
--- ---- an entry by its field
-abbrev nothing-yet : Entry
-nothing-yet = entryOf 0 absent
-
-field-of : (es : Consulted) (i : ℕ) → i < length es → getD (map entryField es) i 0 ≡ entryField (getD es i nothing-yet)
-field-of [] i h = absurd (omega arith)
-field-of (e ∷ es) zero h = refl
-field-of (e ∷ es) (suc i) h = field-of es i (omega arith)
-
-names-fact : (es : Consulted) (i : ℕ) → Named es → i < length es → getD es i nothing-yet .fact < factCount
-names-fact [] i n h = absurd (omega arith)
-names-fact (e ∷ es) zero n h = n .0
-names-fact (e ∷ es) (suc i) n h = names-fact es i (n .1) (omega arith)
-
-fact-of : (b : ℕ) (e : Entry) → e .fact < factCount → b ≡ entryField e → b % 1024 ≡ e .fact
-fact-of b e h is = omega arith
-
-presence-of : (b : ℕ) (e : Entry) → e .fact < factCount → b ≡ entryField e → seenIn (b / 16384) ≡ e .seen
-presence-of b e h is = ap seenIn (let k : b / 16384 ≡ presenceField (e .seen) = omega arith in k) ∙ seen-back (e .seen)
 
 -- ---- one entry more
 once-end : (l es : Consulted) (e : Entry) → onceFrom l (es ++ e ∷ []) ≡ consult (onceFrom l es) (e .fact) (e .seen)
@@ -54,17 +33,13 @@ module _ (words : List ℕ) (count : ℕ) (s : Lent) where
   pub load-none : Loading words count s s 0
   load-none = record { within = omega arith; entries-long = refl; seen-long = refl; log = λ es rest n e were. consults-none }
 
-  entry-listed : (t u : Lent) (i b f : ℕ) (p : Presence) (es : Consulted) → Named es → i < length es → b ≡ getD (map entryField es) i 0 → f ≡ b % 1024 → p ≡ seenIn (b / 16384) →
+  entry-listed : (t u : Lent) (i b f : ℕ) (p : Presence) (es : Consulted) → i < length es → EntryIn b (getD es i noEntry) → f ≡ b % 1024 → p ≡ seenIn (b / 16384) →
       Recorded f p t u → Consults (λ l. onceFrom l (take i es)) s t → Consults (λ l. onceFrom l (take (i + 1) es)) s u
-  entry-listed t u i b f p es n h eb ef ep r k =
-      let e = getD es i nothing-yet in
-      let is : b ≡ entryField e = eb ∙ field-of es i h in
-      let below = names-fact es i n h in
-      let fact : f ≡ e .fact = ef ∙ fact-of b e below is in
-      let seen : p ≡ e .seen = ep ∙ presence-of b e below is in
+  entry-listed t u i b f p es h here ef ep r k =
+      let e = getD es i noEntry in
       consults-as (λ l.
-      ap (λ j. onceFrom l (take j es)) (add-one i) ∙ ap (onceFrom l) (take-suc es i nothing-yet h) ∙ once-end l (take i es) e
-      ∙ ap₂ (λ g q. consult (onceFrom l (take i es)) g q) (sym fact) (sym seen))
+      ap (λ j. onceFrom l (take j es)) (add-one i) ∙ ap (onceFrom l) (take-suc es i noEntry h) ∙ once-end l (take i es) e
+      ∙ ap₂ (λ g q. consult (onceFrom l (take i es)) g q) (sym (ef ∙ here .fact-is)) (sym (ep ∙ here .seen-is)))
       (consults-then k (r .log))
 
   pub load-more : (t u : Lent) (i b f : ℕ) (p : Presence) → i < count → Loading words count s t i → b ≡ fieldAt entryBits (drop 1 words) i → f ≡ b % 1024 → p ≡ seenIn (b / 16384) →
@@ -76,7 +51,7 @@ module _ (words : List ℕ) (count : ℕ) (s : Lent) where
         seen-long = ls ∙ k .seen-long;
         log = λ es rest n c were.
             let here : i < length es = omega arith in
-            entry-listed t u i b f p es n here (eb ∙ entry-field es rest (drop 1 words) i n here were) ef ep r (k .log es rest n c were);
+            entry-listed t u i b f p es here (entry-at es rest (drop 1 words) i b n here were eb) ef ep r (k .log es rest n c were);
       }
 
   pub load-all : (t : Lent) (i : ℕ) → count ≤ i → Loading words count s t i → LoadsConsulted words count s t
@@ -90,7 +65,6 @@ module _ (words : List ℕ) (count : ℕ) (s : Lent) where
   load-cut t i h short k =
       record {
         log = λ es rest n c were.
-            let long : length (pack entryBits (map entryField es)) ≡ (length es + 1) / 2 = length-pack entryBits (map entryField es) ∙ ap (λ m. (m + 1) / 2) (length-map es entryField) in
-            let z : ⊥ = omega (arith, long, ap length were, length-append (pack entryBits (map entryField es)) rest, length-drop 1 words) in
+            let z : ⊥ = omega (arith, entries-there es rest words i (omega arith) were) in
             absurd z;
       }

@@ -6,8 +6,9 @@ ghost use lib.ListN.{length, getD};
 ghost use Rattle.model.specs.Fields.{split};
 ghost use Rattle.model.specs.Facts.{factCount, tableFields, tableOf, fieldFault, firstFault, tableBytes, tableFault};
 ghost use Rattle.model.specs.Facts.{partialFacts, knownFacts};
+ghost use Rattle.model.specs.Consulted.{contradicts};
 ghost use Rattle.model.specs.Writing.{entryField, seenIn};
-ghost use Rattle.facts.specs.Answers.{presenceNumber, Reads, entryOf, isPresent, isSettled, kindOf, faultOf, noFault};
+ghost use Rattle.facts.specs.Answers.{presenceOf, presenceNumber, Reads, entryOf, isPresent, isSettled, kindOf, faultOf, noFault};
 
 // What a table says of a fact: 0, 1 and 2 in a table and in a consulted entry. Silent, where the table ended before the fact, is 3 in an entry alone.
 pub enum Presence {
@@ -76,6 +77,13 @@ impl Presence {
             1 => Presence::Present,
             _ => Presence::Unknown,
         }
+    }
+
+    // Whether one is Present and the other Absent: the numbers of no other two add to 1.
+    pub fn contradicts(self, other: Presence) -> bool
+        ensures { λ r. ⌜ r ≡ contradicts (presenceOf self) (presenceOf other) ⌝ }
+    {
+        self.number() + other.number() == 1
     }
 }
 

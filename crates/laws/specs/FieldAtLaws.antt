@@ -5,16 +5,17 @@ use Prim.Native.Nat.{ℕ, zero, suc, _+_, _-_, _*_, _/_, _%_, _^_, _≤_, _<_}
 use native.Mathlib.Nat.{mul-suc, mul-add, mul-comm, zero-mul, suc-mul, add-comm, div-add-mod', mod-lt, mod-eq-of-lt, div-lt-iff-lt-mul, le-div-iff-mul-le, le-trans}
 use native.Mathlib.Omega.{arith}
 use lib.Pow.{pow-pos, pow-add, field, mod-mod-pow}
-use lib.ListN.{length, take, drop, getD, length-append, length-map, List·getD-append, List·getD-eq-default}
+use lib.ListN.{length, take, drop, getD, length-append, length-map, length-drop, List·getD-append, List·getD-eq-default}
 use lib.Seq.{take-suc, take-length, drop-drop, getD-drop}
 use Rattle.model.specs.Fields.{bits, split, joined, packed, wordsFor, perWord, pack}
 use Rattle.model.specs.Facts.{Presence, absent, present, unknown, silent, factCount}
-use Rattle.model.specs.Consulted.{Consulted}
+use Rattle.model.specs.Consulted.{Entry, Consulted}
 use Rattle.model.specs.Writing.{entryBits, presenceField, seenIn, entryField}
 use Rattle.model.specs.Reading.{presenceCount}
 use Rattle.laws.specs.Lists.{Below}
 use Rattle.laws.specs.FieldAt.{fieldAt, firsts, padded, Narrow}
 use Rattle.laws.specs.FieldLaws.{padded-none, narrow-drop, joined-small, split-nil, split-joined, length-packed}
+use Rattle.laws.specs.Lengths.{length-pack}
 use Rattle.laws.specs.ReadForm.{Named}
 
 -- ---- the fields of a word, each by its place
@@ -171,3 +172,35 @@ pub entry-field : (es : Consulted) (rest ws : List ℕ) (i : ℕ) → Named es �
 entry-field es rest ws i h k e =
     ap (λ l. fieldAt entryBits l i) (sym e)
     ∙ packed-field entryBits 1 (map entryField es) rest i refl (narrow-entries es h) (let l = length-map es entryField in omega arith)
+
+-- ---- an entry by its field
+abbrev pub noEntry : Entry
+noEntry = record { fact = 0; seen = absent }
+
+field-of : (es : Consulted) (i : ℕ) → i < length es → getD (map entryField es) i 0 ≡ entryField (getD es i noEntry)
+field-of [] i h = absurd (omega arith)
+field-of (e ∷ es) zero h = refl
+field-of (e ∷ es) (suc i) h = field-of es i (omega arith)
+
+names-fact : (es : Consulted) (i : ℕ) → Named es → i < length es → getD es i noEntry .fact < factCount
+names-fact [] i n h = absurd (omega arith)
+names-fact (e ∷ es) zero n h = n .0
+names-fact (e ∷ es) (suc i) n h = names-fact es i (n .1) (omega arith)
+
+-- What a field says is the entry of a fact: the fact, and how it was seen.
+pub record EntryIn (field : ℕ) (e : Entry) : Type 0 where
+  pub fact-is : field % factCount ≡ e .fact
+  pub seen-is : seenIn (field / 16384) ≡ e .seen
+
+entry-of : (b : ℕ) (e : Entry) → e .fact < factCount → b ≡ entryField e → EntryIn b e
+entry-of b e h is = record { fact-is = omega arith; seen-is = ap seenIn (let k : b / 16384 ≡ presenceField (e .seen) = omega arith in k) ∙ seen-back (e .seen) }
+
+-- Where entries stand, the field of each says it.
+pub entry-at : (es : Consulted) (rest ws : List ℕ) (i b : ℕ) → Named es → i < length es → pack entryBits (map entryField es) ++ rest ≡ ws → b ≡ fieldAt entryBits ws i → EntryIn b (getD es i noEntry)
+entry-at es rest ws i b n h were e = entry-of b (getD es i noEntry) (names-fact es i n h) (e ∙ entry-field es rest ws i n h were ∙ field-of es i h)
+
+-- Words don't end before the entries that stand after their first.
+pub entries-there : (es : Consulted) (rest words : List ℕ) (i : ℕ) → i < length es → pack entryBits (map entryField es) ++ rest ≡ drop 1 words → 1 + i / 2 < length words
+entries-there es rest words i h were =
+    let long : length (pack entryBits (map entryField es)) ≡ (length es + 1) / 2 = length-pack entryBits (map entryField es) ∙ ap (λ m. (m + 1) / 2) (length-map es entryField) in
+    omega (arith, long, ap length were, length-append (pack entryBits (map entryField es)) rest, length-drop 1 words)

@@ -1,4 +1,5 @@
--- Every refusal has a number of document 01's table, "How a request is turned back": 1 to 11, but for 9, which no longer occurs; or 16, for a sheet's number. So 0 can say that a call was accepted. Assumes nothing.
+-- Every refusal has a number of document 01's table, "How a request is turned back": 1 to 11, but for 9, which no longer occurs; or 16, for a sheet's number,
+-- and from a narrowing alone 17, for a contradicted entry. So 0 can say that a call was accepted. Assumes nothing.
 use mathlib.Core.Path.{_≡_, refl}
 use mathlib.Core.Logic.{_⊎_, inl, inr}
 use mathlib.Core.Bool.{Bool, true, false, cond, _&&_}
@@ -15,11 +16,11 @@ use Rattle.model.specs.Condition.{Condition, always, never, has, cnil, ccons, n
 use Rattle.model.specs.Decision.{Decision, permits, denies}
 use Rattle.model.specs.Policy.{Policy, deny, grant, all, any, orElse, permit, stored, pnil, pcons}
 use Rattle.model.specs.Partial.{ReducedPolicy, resolved, pending, Order}
-use Rattle.model.specs.Consulted.{Consulted}
+use Rattle.model.specs.Consulted.{Consulted, anyContradicted}
 use Rattle.model.specs.Record.{Record, evaluated, reduced, narrowed, completed}
 use Rattle.model.specs.Writing.{encodeR, countBits, markBits, obligationBits, entryBits, seenIn}
 use Rattle.model.specs.Reading.{Parsed, refuse, got, next, unless, another, Fields, bad, ok, put, takeField, takeFields, readWords, readList, obligation, fewObligations, listed, consulted, kindOf, restOf, plain, counted, many, nodeC, readCondition, levels, sheetLength, recordLength, whole, mark, shapeOf, outcomeOf, deniedOf, grantMore, parseGrant, grantAt, more12, parse12, at12, more13, parse13, at13, asStored, inResidual, nodeP, lastKind, readPolicy, readSheet, node14, parse14, parse15, rest, leads, readLead, readRecord, obligationCount, presenceCount}
-use Rattle.model.specs.Calls.{Answer, refusal, wrote, unlessLong, unlessFault, onRead, unlessOther, hasNumber, isSheetNumber, under, fits, write, evaluate, partialEvaluate, narrowResidual, completeResidual}
+use Rattle.model.specs.Calls.{Answer, refusal, wrote, unlessLong, unlessFault, onRead, unlessOther, hasNumber, isSheetNumber, under, fits, write, evaluate, partialEvaluate, narrowResidual, completeResidual, unlessContradicted}
 
 -- A number of the table. There is no 9: obligations may repeat.
 abbrev pub Cause : ℕ → Type 0
@@ -319,7 +320,7 @@ module _ {O : Type 0} (value : ℕ → Option O) where
   record-numbered ws = unless-numbered (recordLength ws) 1 (whole (readLead value ws)) one (whole-numbered (readLead value ws) (lead-numbered ws))
 
 -- ---- tables
-abbrev Faulty : Option ℕ → Type 0
+abbrev pub Faulty : Option ℕ → Type 0
 Faulty none = Unit {0}
 Faulty (some n) = Cause n
 
@@ -345,52 +346,72 @@ table-faulty k bs = by (leb (length bs) tableBytes)
     by true = first-faulty k (tableFields bs)
     by false = (omega arith, omega arith, λ e. omega arith)
 
--- ---- the calls
-abbrev pub Told : Answer → Type 0
-Told (refusal n) = Cause n ⊎ (n ≡ 16)
-Told (wrote ws) = Unit {0}
+-- ---- the calls: a number of the table, or one besides
+abbrev pub Told : (ℕ → Type 0) → Answer → Type 0
+Told Besides (refusal n) = Cause n ⊎ Besides n
+Told Besides (wrote ws) = Unit {0}
 
-long-told : (b : Bool) (a : Answer) → Told a → Told (unlessLong b a)
-long-told true a h = h
-long-told false a h = inl one
+-- Every call may tell 16, a narrowing alone 17.
+abbrev pub OtherNumber : ℕ → Type 0
+OtherNumber n = n ≡ 16
 
-fault-told : (o : Option ℕ) (a : Answer) → Faulty o → Told a → Told (unlessFault o a)
-fault-told none a h g = g
-fault-told (some n) a h g = inl h
+abbrev pub OtherOrContradicted : ℕ → Type 0
+OtherOrContradicted n = OtherNumber n ⊎ (n ≡ 17)
 
-read-told : {A : Type 0} (p : Parsed A) (k : A → Answer) → Numbered p → ((a : A) → Told (k a)) → Told (onRead p k)
-read-told (refuse n) k h g = inl h
-read-told (got a ws) k h g = g a
+module _ (Besides : ℕ → Type 0) where
+  long-told : (b : Bool) (a : Answer) → Told Besides a → Told Besides (unlessLong b a)
+  long-told true a h = h
+  long-told false a h = inl one
 
-under-told : (number : ℕ) (a : Answer) → Told a → Told (under number a)
-under-told number (refusal n) h = h
-under-told number (wrote ws) h = tt
+  fault-told : (o : Option ℕ) (a : Answer) → Faulty o → Told Besides a → Told Besides (unlessFault o a)
+  fault-told none a h g = g
+  fault-told (some n) a h g = inl h
 
-module _ (L : Outcomes) (number : ℕ) where
-  write-told : (b : Bool) (room : ℕ) (r : Record (L .O)) → Told (unlessOther b (under number (write L room r)))
-  write-told false room r = inr refl
-  write-told true room r = under-told number (write L room r) (by (fits L room r))
+  read-told : {A : Type 0} (p : Parsed A) (k : A → Answer) → Numbered p → ((a : A) → Told Besides (k a)) → Told Besides (onRead p k)
+  read-told (refuse n) k h g = inl h
+  read-told (got a ws) k h g = g a
+
+  other-told : (b : Bool) (a : Answer) → Besides 16 → Told Besides a → Told Besides (unlessOther b a)
+  other-told true a h g = g
+  other-told false a h g = inr h
+
+  contradicted-told : (b : Bool) (a : Answer) → Besides 17 → Told Besides a → Told Besides (unlessContradicted b a)
+  contradicted-told false a h g = g
+  contradicted-told true a h g = inr h
+
+  under-told : (number : ℕ) (a : Answer) → Told Besides a → Told Besides (under number a)
+  under-told number (refusal n) h = h
+  under-told number (wrote ws) h = tt
+
+  write-told : (L : Outcomes) (number room : ℕ) (r : Record (L .O)) → Told Besides (under number (write L room r))
+  write-told L number room r = under-told number (write L room r) (by (fits L room r))
     where
-      by : (b : Bool) → Told (cond b (wrote (encodeR (L .number) r)) (refusal 11))
+      by : (b : Bool) → Told Besides (cond b (wrote (encodeR (L .number) r)) (refusal 11))
       by true = tt
       by false = inl (omega arith, omega arith, λ e. omega arith)
 
-  pub evaluate-told : (sheet facts : List ℕ) (room : ℕ) → Told (evaluate L number sheet facts room)
+module _ (L : Outcomes) (number : ℕ) where
+  pub evaluate-told : (sheet facts : List ℕ) (room : ℕ) → Told OtherNumber (evaluate L number sheet facts room)
   evaluate-told sheet facts room =
-      long-told (sheetLength sheet) _ (fault-told (tableFault knownFacts facts) _ (table-faulty knownFacts facts)
-      (read-told (readSheet (L .value) sheet) _ (sheet-numbered (L .value) sheet) (λ t. write-told (isSheetNumber number) room (evaluated L (tableOf facts) t))))
+      long-told OtherNumber (sheetLength sheet) _ (fault-told OtherNumber (tableFault knownFacts facts) _ (table-faulty knownFacts facts)
+      (read-told OtherNumber (readSheet (L .value) sheet) _ (sheet-numbered (L .value) sheet)
+      (λ t. other-told OtherNumber (isSheetNumber number) _ refl (write-told OtherNumber L number room (evaluated L (tableOf facts) t)))))
 
-  pub partial-evaluate-told : (o : Order) (sheet facts : List ℕ) (room : ℕ) → Told (partialEvaluate L o number sheet facts room)
+  pub partial-evaluate-told : (o : Order) (sheet facts : List ℕ) (room : ℕ) → Told OtherNumber (partialEvaluate L o number sheet facts room)
   partial-evaluate-told o sheet facts room =
-      long-told (sheetLength sheet) _ (fault-told (tableFault partialFacts facts) _ (table-faulty partialFacts facts)
-      (read-told (readSheet (L .value) sheet) _ (sheet-numbered (L .value) sheet) (λ t. write-told (isSheetNumber number) room (reduced L o (tableOf facts) t))))
+      long-told OtherNumber (sheetLength sheet) _ (fault-told OtherNumber (tableFault partialFacts facts) _ (table-faulty partialFacts facts)
+      (read-told OtherNumber (readSheet (L .value) sheet) _ (sheet-numbered (L .value) sheet)
+      (λ t. other-told OtherNumber (isSheetNumber number) _ refl (write-told OtherNumber L number room (reduced L o (tableOf facts) t)))))
 
-  pub narrow-residual-told : (o : Order) (rec facts : List ℕ) (room : ℕ) → Told (narrowResidual L o number rec facts room)
+  pub narrow-residual-told : (o : Order) (rec facts : List ℕ) (room : ℕ) → Told OtherOrContradicted (narrowResidual L o number rec facts room)
   narrow-residual-told o rec facts room =
-      long-told (recordLength rec) _ (fault-told (tableFault partialFacts facts) _ (table-faulty partialFacts facts)
-      (read-told (readRecord (L .value) rec) _ (record-numbered (L .value) rec) (λ r. write-told (hasNumber rec number) room (narrowed L o (tableOf facts) r))))
+      long-told OtherOrContradicted (recordLength rec) _ (fault-told OtherOrContradicted (tableFault partialFacts facts) _ (table-faulty partialFacts facts)
+      (read-told OtherOrContradicted (readRecord (L .value) rec) _ (record-numbered (L .value) rec)
+      (λ r. other-told OtherOrContradicted (hasNumber rec number) _ (inl refl)
+      (contradicted-told OtherOrContradicted (anyContradicted (tableOf facts) (r .log)) _ (inr refl) (write-told OtherOrContradicted L number room (narrowed L o (tableOf facts) r))))))
 
-  pub complete-residual-told : (rec facts : List ℕ) (room : ℕ) → Told (completeResidual L number rec facts room)
+  pub complete-residual-told : (rec facts : List ℕ) (room : ℕ) → Told OtherNumber (completeResidual L number rec facts room)
   complete-residual-told rec facts room =
-      long-told (recordLength rec) _ (fault-told (tableFault knownFacts facts) _ (table-faulty knownFacts facts)
-      (read-told (readRecord (L .value) rec) _ (record-numbered (L .value) rec) (λ r. write-told (hasNumber rec number) room (completed L (tableOf facts) r))))
+      long-told OtherNumber (recordLength rec) _ (fault-told OtherNumber (tableFault knownFacts facts) _ (table-faulty knownFacts facts)
+      (read-told OtherNumber (readRecord (L .value) rec) _ (record-numbered (L .value) rec)
+      (λ r. other-told OtherNumber (hasNumber rec number) _ refl (write-told OtherNumber L number room (completed L (tableOf facts) r)))))

@@ -1,5 +1,6 @@
--- The calls over words, bytes and an output. Document 01, "How a request is turned back", and request 6.
--- Order of the causes: 1, 2, the table's fields (3 or 4), the words from the first (5 to 8), 10, the sheet's number (16), then 11.
+-- The calls over words, bytes and an output. Document 01, "How a request is turned back", and requests 6 and 7.
+-- Order of the causes: 1, 2, the table's fields (3 or 4), the words from the first (5 to 8), 10, the sheet's number (16), a reading that
+-- contradicts the record (17), then 11.
 use mathlib.Core.Bool.{Bool, true, false, cond, _&&_}
 use mathlib.Core.Option.{Option, none, some}
 use mathlib.Core.List.{List, [], _∷_, _++_}
@@ -9,6 +10,7 @@ use lib.ListN.{length, drop}
 use Rattle.model.specs.Facts.{tableOf, partialFacts, knownFacts, tableFault}
 use Rattle.model.specs.Outcome.{Outcomes}
 use Rattle.model.specs.Partial.{Order}
+use Rattle.model.specs.Consulted.{anyContradicted}
 use Rattle.model.specs.Record.{Record, tree, evaluated, reduced, narrowed, completed}
 use Rattle.model.specs.Writing.{sheetBits, encodeR, numbered, short}
 use Rattle.model.specs.Reading.{Parsed, refuse, got, sheetLength, recordLength, sheetNumber, readSheet, readRecord}
@@ -56,6 +58,11 @@ hasNumber rec number = eqb (sheetNumber rec) number
 abbrev pub isSheetNumber : ℕ → Bool
 isSheetNumber number = ltb number (2 ^ sheetBits)
 
+-- 17 when the table contradicts an entry of the record.
+abbrev pub unlessContradicted : Bool → Answer → Answer
+unlessContradicted false a = a
+unlessContradicted true a = refusal 17
+
 -- What is written carries the number.
 abbrev pub under : ℕ → Answer → Answer
 under number (refusal n) = refusal n
@@ -84,7 +91,8 @@ module _ (L : Outcomes) where
   abbrev pub narrowResidual : Order → ℕ → List ℕ → List ℕ → ℕ → Answer
   narrowResidual o number rec facts room =
       unlessLong (recordLength rec) (unlessFault (tableFault partialFacts facts)
-      (onRead (readRecord (L .value) rec) (λ r. unlessOther (hasNumber rec number) (under number (write room (narrowed L o (tableOf facts) r))))))
+      (onRead (readRecord (L .value) rec) (λ r. unlessOther (hasNumber rec number)
+      (unlessContradicted (anyContradicted (tableOf facts) (r .log)) (under number (write room (narrowed L o (tableOf facts) r)))))))
 
   abbrev pub completeResidual : ℕ → List ℕ → List ℕ → ℕ → Answer
   completeResidual number rec facts room =

@@ -1,4 +1,4 @@
--- Consulted facts: which facts a walk reads, in which order. Document 01, "Conditions", "Reducing" and "Narrowing, completing".
+-- Consulted facts: which facts a walk reads, in which order. Document 01, "Conditions", "Reducing" and "Narrowing, completing"; request 7.
 use mathlib.Core.Bool.{Bool, true, false, cond, _||_}
 use mathlib.Core.List.{List, [], _∷_, _++_}
 use Prim.Native.Nat.{ℕ}
@@ -41,6 +41,24 @@ onceFrom l (e ∷ es) = onceFrom (consult l (e .fact) (e .seen)) es
 
 abbrev pub once : Consulted → Consulted
 once es = onceFrom [] es
+
+-- Request 7: a later reading contradicts an entry if one of them is Present and the other Absent. Unknown and silence, on either side, contradict nothing.
+abbrev pub contradicts : Presence → Presence → Bool
+contradicts absent absent = false
+contradicts absent present = true
+contradicts absent unknown = false
+contradicts absent silent = false
+contradicts present absent = true
+contradicts present present = false
+contradicts present unknown = false
+contradicts present silent = false
+contradicts unknown q = false
+contradicts silent q = false
+
+-- Every entry counts, repeated ones too.
+abbrev pub anyContradicted : Table → Consulted → Bool
+anyContradicted P [] = false
+anyContradicted P (e ∷ es) = contradicts (e .seen) (P (e .fact)) || anyContradicted P es
 
 -- ---- what evaluation consults: arms after the deciding one aren't read
 abbrev pub afterTrue : ConditionEval → Consulted → Consulted → Consulted

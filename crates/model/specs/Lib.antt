@@ -26,3 +26,4 @@ pub mod Windows
 pub mod WorkedWindows
 pub mod WorkedRepeats
 pub mod WorkedSilence
+pub mod WorkedContradictions

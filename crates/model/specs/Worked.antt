@@ -132,7 +132,7 @@ turns =
     ∷ row reduces 100 (0x80 ∷ []) (0x80000001 ∷ 0x0 ∷ 0x50000003 ∷ 0x20000000 ∷ 0x30000000 ∷ 0x20000001 ∷ 0x20000002 ∷ []) (writes (0xE0000001 ∷ 0x10000 ∷ 0xC0000001 ∷ 0x1 ∷ 0x10000 ∷ []))
     -- Not of an Unknown fact is satisfied and decides: its fact alone is named, and not the Present one that made the grant known
     ∷ row reduces 100 (0x90 ∷ []) (0x80000001 ∷ 0x0 ∷ 0x50000002 ∷ 0x30000000 ∷ 0x20000000 ∷ 0x20000001 ∷ []) (writes (0xE0000001 ∷ 0x40010000 ∷ 0xC0000001 ∷ 0x1 ∷ 0x0 ∷ []))
-    -- the first prior entry stays, even where the table says otherwise
+    -- the first prior entry stays where the table is silent, and the decision goes by the table
     ∷ row narrows 100 [] (0xF0000001 ∷ 0x40050000 ∷ 0x88000003 ∷ 0x0 ∷ 0x20000005 ∷ []) (writes (0xE0000001 ∷ 0x40050000 ∷ 0xDC000003 ∷ 0x0 ∷ 0x1 ∷ 0x50000 ∷ []))
     -- prior entries once each, Unknown ones too
     ∷ row narrows 100 [] (0xF0000003 ∷ 0x40050005 ∷ 0x80060000 ∷ 0x60000001 ∷ []) (writes (0xE0000002 ∷ 0x40058006 ∷ 0xC0000001 ∷ 0x0 ∷ []))

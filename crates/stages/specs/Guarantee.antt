@@ -17,7 +17,7 @@ use Rattle.model.specs.Calls as model
 use Rattle.model.specs.Products.{Outcome, evalPolicy, reduced, readSheet, readRecord, evaluate, narrowResidual, completeResidual}
 use Rattle.answer.specs.declared.Answer.{Answer}
 use Rattle.answer.specs.declared.Answer.the-variants.{Written, Refused}
-use Rattle.answer.specs.Answers.{Answered, answerOf, writtenOf}
+use Rattle.answer.specs.Answers.{Answered, answerOf, numberOf, writtenOf}
 use Rattle.staging.specs.Bare.{bare}
 use Rattle.staging.specs.Chain.{Step, InOrder, AllOf, run}
 use Rattle.staging.specs.Statement as staging
@@ -38,6 +38,16 @@ module _ {a : model.Answer} {before after : List ℕ} {r : Answer} (h : Answered
 
   pub wrote-words : (n : ℕ) → r ≡ Written n → a ≡ model.wrote (take n after)
   wrote-words n q = written-words a refl n q
+
+  told-number : (b : model.Answer) → a ≡ b → (m : ℕ) → r ≡ Refused m → b ≡ model.refusal m
+  told-number (model.refusal k) e m q = let same : Refused k ≡ Refused m = sym (h .answer-is ∙ ap answerOf e) ∙ q in ap model.refusal (ap numberOf same)
+  told-number (model.wrote ws) e m q =
+      let same : Written (length ws) ≡ Refused m = sym (h .answer-is ∙ ap answerOf e) ∙ q in
+      let z : _≡_ {A = ℕ} 0 1 = cc in
+      absurd (omega arith)
+
+  pub refused-number : (m : ℕ) → r ≡ Refused m → a ≡ model.refusal m
+  refused-number m q = told-number a refl m q
 
   pub accepted-if : (ws : List ℕ) → a ≡ model.wrote ws → Accepted r
   accepted-if ws e = subst Accepted (sym (h .answer-is ∙ ap answerOf e)) tt
@@ -104,6 +114,9 @@ module _ (number : ℕ) (sheet known : List ℕ) (t : Policy Outcome) (reads : r
     completes : (s : Run) → s .facts ≡ known → completeResidual number (recordAfter Given ns) (s .facts) (length (s .before)) ≡ completeResidual number (staging.after productSets number Given (map callOf ns)) known (length (s .before))
     completes s e = ap₂ (λ v f. completeResidual number v f (length (s .before))) (sym end-is) e
 
+    narrows : (by : Order) (s : Run) → narrowResidual by number (recordAfter Given ns) (s .facts) (length (s .before)) ≡ narrowResidual by number (staging.after productSets number Given (map callOf ns)) (s .facts) (length (s .before))
+    narrows by s = ap (λ v. narrowResidual by number v (s .facts) (length (s .before))) (sym end-is)
+
     completed-run : (AsSaid : Decision Outcome → Type 0) → AsSaid (staged .decision) → (s : Run) (m : ℕ) → s .facts ≡ known → Completed number (recordAfter Given ns) s → s .answer ≡ Written m → ResolvedWith AsSaid (take m (s .after))
     completed-run AsSaid is s m e h q =
         record {
@@ -127,13 +140,14 @@ module _ (number : ℕ) (sheet known : List ℕ) (t : Policy Outcome) (reads : r
       in-order = λ e es. completed-run (λ d. bare d ≡ bare (evalPolicy (tableOf known) t)) (staged .same-but-facts e (subst (AllOf InOrder) (sym steps-are) es));
       room-evaluate = λ s e h a. accepted-if a _ (ap (λ f. evaluate number sheet f (length (s .before))) e ∙ staged .room-evaluate (length (s .before)) h);
       room-reduce = λ by s f h a. accepted-if a _ (staged .room-reduce by (length (s .before)) (s .facts) h f);
-      room-narrow = λ by s f h a. accepted-if a _ (ap (λ v. narrowResidual by number v (s .facts) (length (s .before))) (sym end-is) ∙ staged .room-narrow by (length (s .before)) (s .facts) h f);
+      untouched = λ by s agree a q. staged .never-17 by (length (s .before)) (s .facts) agree (sym (narrows by s) ∙ refused-number a 17 q);
+      room-narrow = λ by s f agree h a. accepted-if a _ (narrows by s ∙ staged .room-narrow by (length (s .before)) (s .facts) h f agree);
       room-complete = λ s e h a. accepted-if a _ (completes s e ∙ staged .room-complete (length (s .before)) h);
     }
 
 -- For every accepted sheet and known table, every accepted run of `partial_evaluate` or `partial_evaluate_in_order` on the sheet, and every list of runs of
 -- `narrow_residual` and `narrow_residual_in_order` from its record on, all with one number: if the reduction's table and every accepted one agree with the known
--- table, demand 3 and requests 6 and 8 hold of the words that the calls left.
+-- table, demand 3 and requests 6 to 8 hold of the words that the calls left.
 pub guaranteed : (number : ℕ) (sheet known : List ℕ) (t : Policy Outcome) → readSheet sheet ≡ got t [] → tableFault knownFacts known ≡ none
     → (o : Order) (first : Run) (n : ℕ) (ns : List Narrowing) → Reduced o number sheet first → first .answer ≡ Written n → NarrowedAll number (take n (first .after)) ns
     → AgreesOn t (tableOf known) (tableOf (first .facts)) → AllOf (λ s. AgreesOn t (tableOf known) (s .table)) (stepsOf ns)

@@ -1,4 +1,4 @@
--- Calls that were run one after the other under one number, each answered as its contract says. Document 01, "Stages", and requests 6 and 8.
+-- Calls that were run one after the other under one number, each answered as its contract says. Document 01, "Stages", and requests 6 to 8.
 use mathlib.Core.Path.{_≡_}
 use mathlib.Core.Option.{none}
 use mathlib.Core.List.{List, [], _∷_}
@@ -17,7 +17,7 @@ use Rattle.answer.specs.declared.Answer.the-variants.{Written, Refused}
 use Rattle.answer.specs.Answers.{Answered}
 use Rattle.staging.specs.Bare.{bare}
 use Rattle.staging.specs.Chain.{Step, InOrder, AllOf, run}
-use Rattle.staging.specs.Statement.{Settled, Roomy}
+use Rattle.staging.specs.Statement.{AgreesOn, Settled, Roomy}
 
 -- A call that was run: its table's bytes, its output before and after, and what it answered.
 pub record Run : Type 0 where
@@ -104,8 +104,10 @@ pub record Guaranteed (number : ℕ) (o : Order) (sheet known : List ℕ) (t : P
   -- if the reduction and every accepted narrowing are in sheet order, all of it but the fact list.
   pub in-order : o ≡ sheetOrder → AllOf InOrder (stepsOf later) → (s : Run) (n : ℕ) → s .facts ≡ known → Completed number (recordAfter given later) s → s .answer ≡ Written n
       → ResolvedWith (λ d. bare d ≡ bare (evalPolicy (tableOf known) t)) (take n (s .after))
-  -- With room enough each call is accepted whenever its table is faultless, a reduction and a narrowing by either order.
+  -- No narrowing with a table that agrees, by either order, is turned back for contradicting the record.
+  pub untouched : (by : Order) (s : Run) → AgreesOn t (tableOf known) (tableOf (s .facts)) → Narrowed by number (recordAfter given later) s → s .answer ≡ Refused 17 → ⊥
+  -- With room enough each call is accepted whenever its table is faultless and, in a narrowing, agrees; a reduction and a narrowing by either order.
   pub room-evaluate : (s : Run) → s .facts ≡ known → Roomy sheet (length (s .before)) → Evaluated number sheet s → Accepted (s .answer)
   pub room-reduce : (by : Order) (s : Run) → tableFault partialFacts (s .facts) ≡ none → Roomy sheet (length (s .before)) → Reduced by number sheet s → Accepted (s .answer)
-  pub room-narrow : (by : Order) (s : Run) → tableFault partialFacts (s .facts) ≡ none → Roomy sheet (length (s .before)) → Narrowed by number (recordAfter given later) s → Accepted (s .answer)
+  pub room-narrow : (by : Order) (s : Run) → tableFault partialFacts (s .facts) ≡ none → AgreesOn t (tableOf known) (tableOf (s .facts)) → Roomy sheet (length (s .before)) → Narrowed by number (recordAfter given later) s → Accepted (s .answer)
   pub room-complete : (s : Run) → s .facts ≡ known → Roomy sheet (length (s .before)) → Completed number (recordAfter given later) s → Accepted (s .answer)

@@ -83,6 +83,48 @@ module _ (R : Consulted → Type 0) where
   either-unlessPermitted (resolved (denies d)) l m h k = k
   either-unlessPermitted (pending t) l m h k = k
 
+-- What is kept when a fact with Q is consulted is kept by the walk of a reduction, over whatever names only such facts.
+module _ (R : Consulted → Type 0) (Q : ℕ → Type 0) (P : Table) (keeps : (l : Consulted) (f : ℕ) → Q f → R l → R (consultKnown l f (P f))) where
+  mutual
+    walkC-keeps : (c : Condition) (l : Consulted) → EachC Q c → R l → R (walkC P c l)
+    walkC-keeps always l q h = h
+    walkC-keeps never l q h = h
+    walkC-keeps (has f) l q h = keeps l f q h
+    walkC-keeps (notC c) l q h = walkC-keeps c l q h
+    walkC-keeps (allC cs) l q h = walkAllC-keeps cs l q h
+    walkC-keeps (anyC cs) l q h = walkAnyC-keeps cs l q h
+
+    walkAllC-keeps : (cs : Conditions) (l : Consulted) → EachCs Q cs → R l → R (walkAllC P cs l)
+    walkAllC-keeps cnil l q h = h
+    walkAllC-keeps (ccons c cs) l q h =
+        either-unlessFalse R (reduceCondition P c) (walkC P c l) (walkAllC P cs (walkC P c l)) (walkC-keeps c l (q .0) h) (walkAllC-keeps cs (walkC P c l) (q .1) (walkC-keeps c l (q .0) h))
+
+    walkAnyC-keeps : (cs : Conditions) (l : Consulted) → EachCs Q cs → R l → R (walkAnyC P cs l)
+    walkAnyC-keeps cnil l q h = h
+    walkAnyC-keeps (ccons c cs) l q h =
+        either-unlessTrue R (reduceCondition P c) (walkC P c l) (walkAnyC P cs (walkC P c l)) (walkC-keeps c l (q .0) h) (walkAnyC-keeps cs (walkC P c l) (q .1) (walkC-keeps c l (q .0) h))
+
+  module _ (L : Outcomes) (o : Order) where
+    mutual
+      pub walk-keeps : (t : Policy (L .O)) (l : Consulted) → Each Q t → R l → R (walk L o P t l)
+      walk-keeps (permit x) l q h = h
+      walk-keeps deny l q h = h
+      walk-keeps (grant g c) l q h = walkC-keeps c l q h
+      walk-keeps (all ts) l q h = walkAll-keeps ts l q h
+      walk-keeps (any ts) l q h = walkAny-keeps ts l q h
+      walk-keeps (orElse a b) l q h =
+          either-unlessPermitted R (reducePolicy L o P a) (walk L o P a l) (walk L o P b (walk L o P a l)) (walk-keeps a l (q .0) h) (walk-keeps b (walk L o P a l) (q .1) (walk-keeps a l (q .0) h))
+      walk-keeps (stored d) l q h = h
+
+      walkAll-keeps : (ts : Policies (L .O)) (l : Consulted) → Eachs Q ts → R l → R (walkAll L o P ts l)
+      walkAll-keeps pnil l q h = h
+      walkAll-keeps (pcons t ts) l q h =
+          either-unlessDenied R (reducePolicy L o P t) (walk L o P t l) (walkAll L o P ts (walk L o P t l)) (walk-keeps t l (q .0) h) (walkAll-keeps ts (walk L o P t l) (q .1) (walk-keeps t l (q .0) h))
+
+      walkAny-keeps : (ts : Policies (L .O)) (l : Consulted) → Eachs Q ts → R l → R (walkAny L o P ts l)
+      walkAny-keeps pnil l q h = h
+      walkAny-keeps (pcons t ts) l q h = walkAny-keeps ts (walk L o P t l) (q .1) (walk-keeps t l (q .0) h)
+
 -- Each fact once, and each with Q.
 abbrev pub Good : (ℕ → Type 0) → Consulted → Type 0
 Good Q l = Distinct (consultedFacts l) × Every Q (consultedFacts l)
@@ -124,25 +166,6 @@ module _ (Q : ℕ → Type 0) where
       good-readAnyC (ccons c cs) l q h =
           either-afterFalse (Good Q) (evalCondition T c) (readC T c l) (readAnyC T cs (readC T c l)) (good-readC c l (q .0) h) (good-readAnyC cs (readC T c l) (q .1) (good-readC c l (q .0) h))
 
-    mutual
-      good-walkC : (c : Condition) (l : Consulted) → EachC Q c → Good Q l → Good Q (walkC T c l)
-      good-walkC always l q h = h
-      good-walkC never l q h = h
-      good-walkC (has f) l q h = good-noteKnown l f (T f) h q
-      good-walkC (notC c) l q h = good-walkC c l q h
-      good-walkC (allC cs) l q h = good-walkAllC cs l q h
-      good-walkC (anyC cs) l q h = good-walkAnyC cs l q h
-
-      good-walkAllC : (cs : Conditions) (l : Consulted) → EachCs Q cs → Good Q l → Good Q (walkAllC T cs l)
-      good-walkAllC cnil l q h = h
-      good-walkAllC (ccons c cs) l q h =
-          either-unlessFalse (Good Q) (reduceCondition T c) (walkC T c l) (walkAllC T cs (walkC T c l)) (good-walkC c l (q .0) h) (good-walkAllC cs (walkC T c l) (q .1) (good-walkC c l (q .0) h))
-
-      good-walkAnyC : (cs : Conditions) (l : Consulted) → EachCs Q cs → Good Q l → Good Q (walkAnyC T cs l)
-      good-walkAnyC cnil l q h = h
-      good-walkAnyC (ccons c cs) l q h =
-          either-unlessTrue (Good Q) (reduceCondition T c) (walkC T c l) (walkAnyC T cs (walkC T c l)) (good-walkC c l (q .0) h) (good-walkAnyC cs (walkC T c l) (q .1) (good-walkC c l (q .0) h))
-
   module _ (L : Outcomes) (T : Table) where
     mutual
       pub good-read : (t : Policy (L .O)) (l : Consulted) → Each Q t → Good Q l → Good Q (read L T t l)
@@ -164,26 +187,8 @@ module _ (Q : ℕ → Type 0) where
       good-readAny pnil l q h = h
       good-readAny (pcons t ts) l q h = good-readAny ts (read L T t l) (q .1) (good-read t l (q .0) h)
 
-  module _ (L : Outcomes) (o : Order) (T : Table) where
-    mutual
-      pub good-walk : (t : Policy (L .O)) (l : Consulted) → Each Q t → Good Q l → Good Q (walk L o T t l)
-      good-walk (permit x) l q h = h
-      good-walk deny l q h = h
-      good-walk (grant g c) l q h = good-walkC T c l q h
-      good-walk (all ts) l q h = good-walkAll ts l q h
-      good-walk (any ts) l q h = good-walkAny ts l q h
-      good-walk (orElse a b) l q h =
-          either-unlessPermitted (Good Q) (reducePolicy L o T a) (walk L o T a l) (walk L o T b (walk L o T a l)) (good-walk a l (q .0) h) (good-walk b (walk L o T a l) (q .1) (good-walk a l (q .0) h))
-      good-walk (stored d) l q h = h
-
-      good-walkAll : (ts : Policies (L .O)) (l : Consulted) → Eachs Q ts → Good Q l → Good Q (walkAll L o T ts l)
-      good-walkAll pnil l q h = h
-      good-walkAll (pcons t ts) l q h =
-          either-unlessDenied (Good Q) (reducePolicy L o T t) (walk L o T t l) (walkAll L o T ts (walk L o T t l)) (good-walk t l (q .0) h) (good-walkAll ts (walk L o T t l) (q .1) (good-walk t l (q .0) h))
-
-      good-walkAny : (ts : Policies (L .O)) (l : Consulted) → Eachs Q ts → Good Q l → Good Q (walkAny L o T ts l)
-      good-walkAny pnil l q h = h
-      good-walkAny (pcons t ts) l q h = good-walkAny ts (walk L o T t l) (q .1) (good-walk t l (q .0) h)
+  pub good-walk : (L : Outcomes) (o : Order) (T : Table) (t : Policy (L .O)) (l : Consulted) → Each Q t → Good Q l → Good Q (walk L o T t l)
+  good-walk L o T t l q h = walk-keeps (Good Q) Q T (λ k f w g. good-noteKnown k f (T f) g w) L o t l q h
 
 -- ---- no more entries come than the tree has words
 consult-at : (l : Consulted) (f : ℕ) (p : Presence) (b : Bool) → isConsulted f l ≡ b → length (consult l f p) ≤ length l + 1

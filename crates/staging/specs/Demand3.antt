@@ -14,15 +14,16 @@ use Rattle.model.specs.Decision.{Decision, permits, denies, products}
 use Rattle.model.specs.Policy.{Policy, permit, deny, grant, all, any, orElse, stored, Policies, pnil, pcons}
 use Rattle.model.specs.Evaluate.{evalPolicy}
 use Rattle.model.specs.Partial.{Order}
-use Rattle.model.specs.Consulted.{Consulted}
+use Rattle.model.specs.Consulted.{Consulted, anyContradicted}
 use Rattle.model.specs.Record.{Record, tree, evaluated, reduced, narrowed, completed}
 use Rattle.model.specs.Writing.{encodeR, numbered, mostListed, mostHeld, shortD, short, shorts}
 use Rattle.model.specs.Reading.{Parsed, refuse, got, unless, levels, sheetLength, recordLength, sheetNumber, whole, readPolicy, readSheet, readRecord}
-use Rattle.model.specs.Calls.{Answer, refusal, wrote, unlessLong, unlessFault, onRead, unlessOther, hasNumber, isSheetNumber, under, fits, write, evaluate, partialEvaluate, narrowResidual, completeResidual}
+use Rattle.model.specs.Calls.{Answer, refusal, wrote, numberOf, unlessLong, unlessFault, onRead, unlessOther, hasNumber, isSheetNumber, unlessContradicted, under, fits, write, evaluate, partialEvaluate, narrowResidual, completeResidual}
 use Rattle.laws.specs.Lists.{Every}
 use Rattle.laws.specs.FieldLaws.{Holds}
 use Rattle.laws.specs.Each.{Each, Agrees}
 use Rattle.laws.specs.Names.{each-of, of-each}
+use Rattle.laws.specs.Numbers.{Faulty, table-faulty}
 use Rattle.laws.specs.Form.{FewRepeats, FormD, Form, Forms, depth}
 use Rattle.laws.specs.FormLaws.{few-countable, countable-form}
 use Rattle.laws.specs.Lengths.{length-encodeR, length-numbered}
@@ -34,6 +35,7 @@ use Rattle.staging.specs.ConsultedLaws.{consultedFacts, log-length}
 use Rattle.staging.specs.Chain.{Step, AllOf, all-map, run}
 use Rattle.staging.specs.Bound.{Fit, fit-narrowBody, fit-completeBody, fit-run, fit-reduce, fit-evaluate, roomy}
 use Rattle.staging.specs.Stages.{TreeStaged, staged}
+use Rattle.staging.specs.Contradictions.{Faithful, faithful-reduced, faithful-run, no-contradiction}
 use Rattle.staging.specs.Statement.{Call, handedOn, stepOf, ifWrote, AgreesOn, Settled, answerTo, after, accepted, Roomy, Staged}
 
 and-is : (a b : Bool) → a ≡ true → b ≡ true → (a && b) ≡ true
@@ -73,6 +75,12 @@ wrote-what : (o : Option ℕ) (b : Bool) (u v : List ℕ) → unlessFault o (con
 wrote-what none true u v e = cc
 wrote-what none false u v e = cc
 wrote-what (some n) b u v e = cc
+
+-- A fault of the table, or want of room, is not answered by 17.
+not-17 : (o : Option ℕ) → Faulty o → (b : Bool) (ws : List ℕ) → unlessFault o (cond b (wrote ws) (refusal 11)) ≡ refusal 17 → ⊥
+not-17 none h true ws e = let z : _≡_ {A = ℕ} 0 17 = ap numberOf e in omega arith
+not-17 none h false ws e = let z : _≡_ {A = ℕ} 11 17 = ap numberOf e in omega arith
+not-17 (some n) h b ws e = let z : n ≡ 17 = ap numberOf e in omega (arith, h .1)
 
 -- What a reduction or an evaluation wrote has a number that a lead can say.
 wrote-numbered : {A : Type 0} (long : Bool) (o : Option ℕ) (q : Parsed A) (b : Bool) (k : A → Answer) (v : List ℕ)
@@ -142,8 +150,8 @@ module _ (L : Outcomes) (G : L .O → Type 0) (codec : Written L G) where
       abbrev put : ℕ → Record (L .O) → Answer
       put room r = cond (fits L room r) (wrote (wordsOf r)) (refusal 11)
 
-      put-is : (b : Bool) → b ≡ true → (room : ℕ) (r : Record (L .O)) → unlessOther b (under number (write L room r)) ≡ put room r
-      put-is b e room r = ap (λ x. unlessOther x (under number (write L room r))) e ∙ by (fits L room r)
+      put-is : (room : ℕ) (r : Record (L .O)) → under number (write L room r) ≡ put room r
+      put-is room r = by (fits L room r)
         where
           by : (c : Bool) → under number (cond c (wrote (encodeR (L .number) r)) (refusal 11)) ≡ cond c (wrote (wordsOf r)) (refusal 11)
           by true = refl
@@ -166,27 +174,34 @@ module _ (L : Outcomes) (G : L .O → Type 0) (codec : Written L G) where
           let e = good .2 in
           back-R G (L .number) (L .value) (codec .small) (codec .again) number small r (omega (arith, log-length (r .log) (h .consulted))) (facts-of (r .log) (h .consulted .1)) (countable-form G (tree r) (h .form)) (y .nested) (omega arith)
 
-      -- ---- calls on such a record
-      called-on-record : (fault : Option ℕ) (room : ℕ) (f : Record (L .O) → Record (L .O)) (r : Record (L .O)) → Within r
-          → unlessLong (recordLength (wordsOf r)) (unlessFault fault (onRead (readRecord (L .value) (wordsOf r)) (λ x. unlessOther (hasNumber (wordsOf r) number) (under number (write L room (f x))))))
-          ≡ unlessFault fault (put room (f r))
-      called-on-record fault room f r h =
-          called (recordLength (wordsOf r)) fault (λ x. unlessOther (hasNumber (wordsOf r) number) (under number (write L room (f x)))) (readRecord (L .value) (wordsOf r)) r [] (few-words r h) (back r h)
-          ∙ ap (unlessFault fault) (put-is (hasNumber (wordsOf r) number) (eq-eqb (sheetNumber (wordsOf r)) number (number-back r)) room (f r))
+      -- ---- calls on such a record, and on the sheet
+      called-on-record : (fault : Option ℕ) (k : Record (L .O) → Answer) (r : Record (L .O)) → Within r
+          → unlessLong (recordLength (wordsOf r)) (unlessFault fault (onRead (readRecord (L .value) (wordsOf r)) (λ x. unlessOther (hasNumber (wordsOf r) number) (k x)))) ≡ unlessFault fault (k r)
+      called-on-record fault k r h =
+          called (recordLength (wordsOf r)) fault (λ x. unlessOther (hasNumber (wordsOf r) number) (k x)) (readRecord (L .value) (wordsOf r)) r [] (few-words r h) (back r h)
+          ∙ ap (λ b. unlessFault fault (unlessOther b (k r))) (eq-eqb (sheetNumber (wordsOf r)) number (number-back r))
 
       called-on-sheet : (fault : Option ℕ) (room : ℕ) (f : Policy (L .O) → Record (L .O))
           → unlessLong (sheetLength sheet) (unlessFault fault (onRead (readSheet (L .value) sheet) (λ x. unlessOther (isSheetNumber number) (under number (write L room (f x)))))) ≡ unlessFault fault (put room (f t))
       called-on-sheet fault room f =
           called (sheetLength sheet) fault (λ x. unlessOther (isSheetNumber number) (under number (write L room (f x)))) (readSheet (L .value) sheet) t [] long-enough reads
-          ∙ ap (unlessFault fault) (put-is (isSheetNumber number) said room (f t))
+          ∙ ap (λ b. unlessFault fault (unlessOther b (under number (write L room (f t))))) said
+          ∙ ap (unlessFault fault) (put-is room (f t))
 
-      narrow-is : (o : Order) (room : ℕ) (bs : List ℕ) (r : Record (L .O)) → Within r
-          → narrowResidual L o number (wordsOf r) bs room ≡ unlessFault (tableFault partialFacts bs) (put room (narrowed L o (tableOf bs) r))
-      narrow-is o room bs r h = called-on-record (tableFault partialFacts bs) room (narrowed L o (tableOf bs)) r h
+      -- What a narrowing answers to a table without fault.
+      abbrev narrowedTo : Order → ℕ → List ℕ → Record (L .O) → Answer
+      narrowedTo o room bs r = unlessContradicted (anyContradicted (tableOf bs) (r .log)) (put room (narrowed L o (tableOf bs) r))
+
+      narrow-is : (o : Order) (room : ℕ) (bs : List ℕ) (r : Record (L .O)) → Within r → narrowResidual L o number (wordsOf r) bs room ≡ unlessFault (tableFault partialFacts bs) (narrowedTo o room bs r)
+      narrow-is o room bs r h =
+          called-on-record (tableFault partialFacts bs) (λ x. unlessContradicted (anyContradicted (tableOf bs) (x .log)) (under number (write L room (narrowed L o (tableOf bs) x)))) r h
+          ∙ ap (λ a. unlessFault (tableFault partialFacts bs) (unlessContradicted (anyContradicted (tableOf bs) (r .log)) a)) (put-is room (narrowed L o (tableOf bs) r))
 
       complete-is : (room : ℕ) (bs : List ℕ) (r : Record (L .O)) → Within r
           → completeResidual L number (wordsOf r) bs room ≡ unlessFault (tableFault knownFacts bs) (put room (completed L (tableOf bs) r))
-      complete-is room bs r h = called-on-record (tableFault knownFacts bs) room (completed L (tableOf bs)) r h
+      complete-is room bs r h =
+          called-on-record (tableFault knownFacts bs) (λ x. under number (write L room (completed L (tableOf bs) x))) r h
+          ∙ ap (unlessFault (tableFault knownFacts bs)) (put-is room (completed L (tableOf bs) r))
 
       reduce-is : (o : Order) (room : ℕ) (bs : List ℕ) → partialEvaluate L o number sheet bs room ≡ unlessFault (tableFault partialFacts bs) (put room (reduced L o (tableOf bs) t))
       reduce-is o room bs = called-on-sheet (tableFault partialFacts bs) room (reduced L o (tableOf bs))
@@ -212,20 +227,22 @@ module _ (L : Outcomes) (G : L .O → Type 0) (codec : Written L G) where
       Runs : Record (L .O) → List Call → Type 0
       Runs r cs = after L number (wordsOf r) cs ≡ wordsOf (run L r (accepted L number (wordsOf r) cs))
 
-      runs-by : (s : Step) (r : Record (L .O)) (cs : List Call) (fault : Option ℕ) (b : Bool) (a : Answer) → a ≡ unlessFault fault (cond b (wrote (wordsOf (narrowed L (s .order) (s .table) r))) (refusal 11))
+      runs-by : (s : Step) (r : Record (L .O)) (cs : List Call) (fault : Option ℕ) (contradicted b : Bool) (a : Answer)
+          → a ≡ unlessFault fault (unlessContradicted contradicted (cond b (wrote (wordsOf (narrowed L (s .order) (s .table) r))) (refusal 11)))
           → Runs r cs → Runs (narrowed L (s .order) (s .table) r) cs
           → after L number (handedOn a (wordsOf r)) cs ≡ wordsOf (run L r (ifWrote a s (accepted L number (handedOn a (wordsOf r)) cs)))
       unfolding Runs
-      runs-by s r cs (some n) b a e same more = rw e same
-      runs-by s r cs none false a e same more = rw e same
-      runs-by s r cs none true a e same more = rw e more
+      runs-by s r cs (some n) contradicted b a e same more = rw e same
+      runs-by s r cs none true b a e same more = rw e same
+      runs-by s r cs none false false a e same more = rw e same
+      runs-by s r cs none false true a e same more = rw e more
 
       runs : (cs : List Call) (r : Record (L .O)) → Within r → Runs r cs
       unfolding Runs
       runs [] r h = refl
       runs (c ∷ cs) r h =
           let n = narrowed L (c .order) (tableOf (c .facts)) r in
-          runs-by (stepOf c) r cs (tableFault partialFacts (c .facts)) (fits L (length (c .out)) n) (answerTo L number (wordsOf r) c) (narrow-is (c .order) (length (c .out)) (c .facts) r h)
+          runs-by (stepOf c) r cs (tableFault partialFacts (c .facts)) (anyContradicted (tableOf (c .facts)) (r .log)) (fits L (length (c .out)) n) (answerTo L number (wordsOf r) c) (narrow-is (c .order) (length (c .out)) (c .facts) r h)
           (runs cs r h) (runs cs n (within-narrowed (c .order) (tableOf (c .facts)) r h))
 
       -- ---- the theorem
@@ -268,6 +285,20 @@ module _ (L : Outcomes) (G : L .O → Type 0) (codec : Written L G) where
             staged L K o P t ss (each-of (Agrees K P) t agrees)
             (all-map (λ s. AgreesOn t K (s .table)) (λ s. Each (Agrees K (s .table)) t) ss (λ s h. each-of (Agrees K (s .table)) t h) later)
 
+        -- Every entry of the record says what the known table says.
+        faithful : Faithful L K t lastly
+        unfolding K P r₀ ss lastly
+        faithful = faithful-run L K t r₀ ss later (faithful-reduced L K t o P agrees)
+
+        untouched-by : (bs : List ℕ) → AgreesOn t K (tableOf bs) → anyContradicted (tableOf bs) (lastly .log) ≡ false
+        untouched-by bs agree = no-contradiction L K t (tableOf bs) agree (lastly .log) (faithful .entries)
+
+        narrowed-agreeing : (by : Order) (room : ℕ) (bs : List ℕ) → AgreesOn t K (tableOf bs)
+            → narrowResidual L by number (after L number given calls) bs room ≡ unlessFault (tableFault partialFacts bs) (put room (narrowed L by (tableOf bs) lastly))
+        narrowed-agreeing by room bs agree =
+            ap (λ v. narrowResidual L by number v bs room) after-is ∙ narrow-is by room bs lastly fit
+            ∙ ap (λ b. unlessFault (tableFault partialFacts bs) (unlessContradicted b (put room (narrowed L by (tableOf bs) lastly)))) (untouched-by bs agree)
+
         completion-is : (room : ℕ) (ws : List ℕ) → completeResidual L number (after L number given calls) known room ≡ wrote ws → ws ≡ wordsOf (completed L K lastly)
         unfolding K
         completion-is room ws e =
@@ -292,12 +323,15 @@ module _ (L : Outcomes) (G : L .O → Type 0) (codec : Written L G) where
           resolves = steps .completes;
           same-products = steps .same-products;
           same-but-facts = steps .same-but-facts;
+          untouched = untouched-by;
+          never-17 = λ by room bs agree e.
+              not-17 (tableFault partialFacts bs) (table-faulty partialFacts bs) (fits L room (narrowed L by (tableOf bs) lastly)) (wordsOf (narrowed L by (tableOf bs) lastly)) (sym (narrowed-agreeing by room bs agree) ∙ e);
           room-evaluate = λ room h. evaluate-fits known room knows h;
           room-reduce = λ by room bs h f.
               reduce-is by room bs
               ∙ write-is room (reduced L by (tableOf bs) t) (tableFault partialFacts bs) f (fits-within (reduced L by (tableOf bs) t) room (fit-reduce L G (codec .meets) (codec .joins) by (tableOf bs) t (good .0)) h);
-          room-narrow = λ by room bs h f.
-              ap (λ v. narrowResidual L by number v bs room) after-is ∙ narrow-is by room bs lastly fit
+          room-narrow = λ by room bs h f agree.
+              narrowed-agreeing by room bs agree
               ∙ write-is room (narrowed L by (tableOf bs) lastly) (tableFault partialFacts bs) f (fits-within (narrowed L by (tableOf bs) lastly) room (within-narrowed by (tableOf bs) lastly fit) h);
           room-complete = λ room h.
               ap (λ v. completeResidual L number v known room) after-is ∙ complete-is room known lastly fit
@@ -305,8 +339,8 @@ module _ (L : Outcomes) (G : L .O → Type 0) (codec : Written L G) where
         }
 
 -- For every accepted sheet and known table, every reduction of the sheet by either order that was accepted, and every list of narrowings, each by either order,
--- all under one number: if the reduction's table and every accepted one agree with the known table, the whole list is as document 01's "Stages" and requests 6
--- and 8 say.
+-- all under one number: if the reduction's table and every accepted one agree with the known table, the whole list is as document 01's "Stages" and requests 6,
+-- 7 and 8 say.
 pub demand3 : (L : Outcomes) (G : L .O → Type 0) → Written L G
     → (number : ℕ) (o : Order) (sheet known facts given : List ℕ) (calls : List Call) (t : Policy (L .O)) (room : ℕ)
     → readSheet (L .value) sheet ≡ got t [] → tableFault knownFacts known ≡ none

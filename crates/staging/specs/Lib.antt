@@ -12,6 +12,7 @@ pub mod Chain
 pub mod Bound
 pub mod Entries
 pub mod Stages
+pub mod Contradictions
 pub mod Statement
 pub mod Demand3
 pub mod Witness

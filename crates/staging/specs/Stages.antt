@@ -159,7 +159,7 @@ module _ (L : Outcomes) where
   narrow-left Q o P (resolved d) l h = tt
   narrow-left Q o P (pending t) l h = red-left L o P Q t h
 
-  narrow-keeps : (Q : ℕ → Type 0) (s : Step) (r : Record (L .O)) → Each Q (tree r) → Each Q (tree (narrowed L (s .order) (s .table) r))
+  pub narrow-keeps : (Q : ℕ → Type 0) (s : Step) (r : Record (L .O)) → Each Q (tree r) → Each Q (tree (narrowed L (s .order) (s .table) r))
   narrow-keeps Q s r h = each-map (λ n x. x .0) (tree (narrowed L (s .order) (s .table) r)) (narrow-left Q (s .order) (s .table) (r .body) (r .log) h)
 
   narrow-settles : (s : Step) (r : Record (L .O)) → Each (λ f. s .table f ≡ unknown) (tree (narrowed L (s .order) (s .table) r))

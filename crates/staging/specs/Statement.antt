@@ -1,7 +1,8 @@
--- Demand 3: what is claimed of a list of calls, each by either order, all under one number. Document 01, "Stages", and requests 6 and 8. The proof is in
--- Demand3.
+-- Demand 3: what is claimed of a list of calls, each by either order, all under one number. Document 01, "Stages", and requests 6, 7 and 8. The proof is
+-- in Demand3.
 use mathlib.Core.Path.{_≡_}
 use mathlib.Core.Logic.{_⊎_}
+use mathlib.Core.Bool.{false}
 use mathlib.Core.Option.{Option, none}
 use mathlib.Core.List.{List, [], _∷_}
 use Prim.Native.Nat.{ℕ, _+_, _*_, _≤_}
@@ -12,6 +13,7 @@ use Rattle.model.specs.Decision.{Decision, products}
 use Rattle.model.specs.Policy.{Policy}
 use Rattle.model.specs.Evaluate.{evalPolicy}
 use Rattle.model.specs.Partial.{resolved, Order, sheetOrder}
+use Rattle.model.specs.Consulted.{anyContradicted}
 use Rattle.model.specs.Record.{Record, tree, evaluated, reduced, narrowed, completed}
 use Rattle.model.specs.Writing.{encodeR, numbered}
 use Rattle.model.specs.Reading.{got, sheetNumber, readRecord}
@@ -85,11 +87,14 @@ module _ (L : Outcomes) (number : ℕ) where
     pub same-products : Lawful L → products decision ≡ products (evalPolicy L (tableOf known) t)
     -- If the reduction and every accepted narrowing are in sheet order, it is direct evaluation's decision but for the facts, whatever meet and join are.
     pub same-but-facts : o ≡ sheetOrder → AllOf InOrder (accepted given calls) → bare decision ≡ bare (evalPolicy L (tableOf known) t)
+    -- A table that agrees contradicts no entry of the record, so that no narrowing with it, by either order, is turned back for one.
+    pub untouched : (bs : List ℕ) → AgreesOn t (tableOf known) (tableOf bs) → anyContradicted (tableOf bs) (last .log) ≡ false
+    pub never-17 : (by : Order) (room : ℕ) (bs : List ℕ) → AgreesOn t (tableOf known) (tableOf bs) → narrowResidual L by number (after given calls) bs room ≡ refusal 17 → ⊥
     -- With room enough direct evaluation, a reduction of the sheet, a narrowing, these by either order, and the completion are accepted whenever their table
-    -- is faultless.
+    -- is faultless and, in a narrowing, agrees.
     pub room-evaluate : (room : ℕ) → Roomy sheet room → evaluate L number sheet known room ≡ wrote (numbered number (encodeR (L .number) (evaluated L (tableOf known) t)))
     pub room-reduce : (by : Order) (room : ℕ) (bs : List ℕ) → Roomy sheet room → tableFault partialFacts bs ≡ none
         → partialEvaluate L by number sheet bs room ≡ wrote (numbered number (encodeR (L .number) (reduced L by (tableOf bs) t)))
-    pub room-narrow : (by : Order) (room : ℕ) (bs : List ℕ) → Roomy sheet room → tableFault partialFacts bs ≡ none
+    pub room-narrow : (by : Order) (room : ℕ) (bs : List ℕ) → Roomy sheet room → tableFault partialFacts bs ≡ none → AgreesOn t (tableOf known) (tableOf bs)
         → narrowResidual L by number (after given calls) bs room ≡ wrote (numbered number (encodeR (L .number) (narrowed L by (tableOf bs) last)))
     pub room-complete : (room : ℕ) → Roomy sheet room → completeResidual L number (after given calls) known room ≡ wrote (numbered number (encodeR (L .number) (completed L (tableOf known) last)))

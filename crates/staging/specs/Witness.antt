@@ -15,13 +15,13 @@ use Rattle.model.specs.Evaluate.{evalPolicy}
 use Rattle.model.specs.Partial.{ReducedPolicy, resolved, pending, permitsFirst, sheetOrder}
 use Rattle.model.specs.Record.{Record}
 use Rattle.model.specs.Reading.{Parsed, refuse, got}
-use Rattle.model.specs.Calls.{wrote, evaluate, completeResidual}
+use Rattle.model.specs.Calls.{refusal, wrote, evaluate, completeResidual}
 use Rattle.staging.specs.Bare.{bare}
-use Rattle.staging.specs.Statement.{Call, AgreesOn, after, accepted, Staged}
+use Rattle.staging.specs.Statement.{Call, AgreesOn, answerTo, after, accepted, Staged}
 use Rattle.staging.specs.Demand3.{demand3-products}
 
 -- Sheet D, reduced under number 7 with fact 5 Unknown; then a narrowing refused for a field 3 in its table, one refused for want of room,
--- one accepted that leaves 5 open, and one accepted that reads 5 as Present.
+-- one accepted that leaves 5 open, one accepted that reads 5 as Present, and one refused by 17, since it reads 5 as Absent.
 abbrev sheetD : List ℕ
 sheetD = 0x88000003 ∷ 0 ∷ 0x20000005 ∷ []
 
@@ -34,6 +34,9 @@ knownD = 0 ∷ 0x10 ∷ []
 abbrev openD : List ℕ
 openD = 0 ∷ 0x20 ∷ []
 
+abbrev otherD : List ℕ
+otherD = 0 ∷ 0 ∷ []
+
 abbrev givenD : List ℕ
 givenD = 0xF0007000 ∷ 0x88000003 ∷ 0 ∷ 0x20000005 ∷ []
 
@@ -43,6 +46,7 @@ callsD =
     ∷ record { order = permitsFirst; facts = knownD; out = replicate 2 7 }
     ∷ record { order = permitsFirst; facts = openD; out = replicate 4 1 }
     ∷ record { order = permitsFirst; facts = knownD; out = replicate 522 0 }
+    ∷ record { order = permitsFirst; facts = otherD; out = replicate 522 0 }
     ∷ []
 
 -- Fact 5 is the only one that the sheet names.
@@ -55,12 +59,16 @@ known-agrees f n = inr refl
 pub chainD : Staged productSets 7 permitsFirst sheetD knownD openD givenD callsD treeD
 chainD = demand3-products 7 permitsFirst sheetD knownD openD givenD callsD treeD 4 refl refl refl open-agrees (open-agrees, (known-agrees, tt))
 
--- What the list comes to: two of its calls are refused, and the record after it is Resolved.
+-- What the list comes to: three of its calls are refused, and the record after it is Resolved.
 pub acceptedD : length (accepted productSets 7 givenD callsD) ≡ 2
 acceptedD = refl
 
 pub afterD : after productSets 7 givenD callsD ≡ 0xE0007001 ∷ 0x40050000 ∷ 0xC0000003 ∷ 1 ∷ 0x00050000 ∷ []
 afterD = refl
+
+-- The last call, refused.
+pub contradictedD : answerTo productSets 7 (after productSets 7 givenD callsD) (record { order = permitsFirst; facts = otherD; out = replicate 522 0 }) ≡ refusal 17
+contradictedD = refl
 
 -- Any of a grant of product 1 on fact 0 and a grant of product 2 on fact 1: the relay knows neither, the district brings fact 0,
 -- the archive completes with both. One sitting permits both products, and so do the stages.

@@ -33,6 +33,8 @@ Example:
   vierskof reduce licence.txt --facts 6=absent > relay.txt")]
     Reduce(Reduction),
     /// Narrows a record with further facts.
+    ///
+    /// Facts that say the contrary of what the record consulted are refused, with 17. Unknown contradicts nothing, nor does a table that ends before the fact.
     #[command(after_help = "\
 Example:
   vierskof narrow relay.txt --facts 7=present > district.txt")]

@@ -5,6 +5,7 @@ use std::fmt::Write as _;
 use std::iter;
 
 use clap::ValueEnum;
+use vierskof::read::{Observation, Reading, Record};
 use vierskof::{Fact, FactTable, Presence, Refusal};
 
 use crate::numbers;
@@ -84,6 +85,25 @@ pub fn faulty(table: &[u8], refusal: Refusal) -> Option<usize> {
         _ => return None,
     };
     fields(table).position(|found| found == field)
+}
+
+/// The first fact of which a table says the contrary of a record's entry, and what that says.
+pub fn contradicted(record: &[u32], table: &[u8]) -> Option<String> {
+    let entries = Record::read(record).ok()?.consulted();
+    let fields: Vec<u8> = fields(table).collect();
+    let against = |entry: &Observation| {
+        let field = fields.get(usize::from(entry.fact.number()));
+        match entry.reading {
+            Reading::Absent => field == Some(&1),
+            Reading::Present => field == Some(&0),
+            _ => false,
+        }
+    };
+    let entry = entries.into_iter().find(against)?;
+    Some(format!(
+        "the record has fact {} as {}",
+        entry.fact, entry.reading
+    ))
 }
 
 /// The first fact that is Present in one of two tables and Absent in the other, past an end too.

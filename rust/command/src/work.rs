@@ -114,10 +114,13 @@ fn decide(
     let table = table(&call.facts, rest)?;
     let mut out = vec![0; RECORD_WORDS];
     let record = proved(&given.words, call.sheet, &table, &mut out).map_err(|refusal| {
-        let fact = facts::faulty(&table, refusal);
-        fact.map_or_else(
+        let told = match refusal {
+            Refusal::Contradiction => facts::contradicted(&given.words, &table),
+            _ => facts::faulty(&table, refusal).map(|fact| format!("fact {fact}")),
+        };
+        told.map_or_else(
             || given.refused(refusal, due),
-            |fact| Failure::Refused(refusal, Some(format!("fact {fact}"))),
+            |told| Failure::Refused(refusal, Some(told)),
         )
     })?;
     let document = Document::read(record).map_err(|refusal| Failure::Refused(refusal, None))?;

@@ -213,7 +213,7 @@ fn proved(sample: &Sample) -> io::Result<()> {
     use compare::{proved, repeats, silence};
 
     const BATCH: usize = 20_000;
-    let [mut half_known, mut numbered, mut of_others] = [0; 3];
+    let [mut half_known, mut numbered, mut of_others, mut against] = [0; 4];
     let mut repeated = repeats::Tally::default();
     let mut silent = silence::Tally::default();
     for (batch, first) in (0..sample.count).step_by(BATCH).enumerate() {
@@ -237,6 +237,7 @@ fn proved(sample: &Sample) -> io::Result<()> {
             }
             numbered += usize::from(case.number > 0 && answer.is_ok());
             of_others += usize::from(answer == Err(Refusal::SheetNumber));
+            against += usize::from(answer == Err(Refusal::Contradiction));
             half_known += usize::from(cases::is_half_known(&case));
             repeated.add(&case);
             silent.add(&case);
@@ -250,7 +251,7 @@ fn proved(sample: &Sample) -> io::Result<()> {
         }
     }
     println!(
-        "{} cases and {0} joins, seed {}: no difference; {numbered} accepted under a number, {of_others} refused by 16; {half_known} with a known grant whose condition names an Unknown fact; {repeated}; {silent}",
+        "{} cases and {0} joins, seed {}: no difference; {numbered} accepted under a number, {of_others} refused by 16, {against} by 17; {half_known} with a known grant whose condition names an Unknown fact; {repeated}; {silent}",
         sample.count, sample.seed
     );
     Ok(())

@@ -110,7 +110,7 @@ fn told(returned: u64, out: &[u32]) -> Result<Vec<u32>, u32> {
 }
 
 /// Whether the call answers under 0 as it does under a number, but for the sixteen bits of the number. Where that is another sheet's, there is an answer
-/// under 0, or no room for it.
+/// under 0, or 17, or no room for it.
 fn is_masked(case: &Case, found: &Result<Vec<u32>, u32>, call: Writer) -> bool {
     let mut out = vec![0; case.room];
     let plain = called(call(&case.unnumbered().words, 0, &case.table, &mut out));
@@ -120,7 +120,7 @@ fn is_masked(case: &Case, found: &Result<Vec<u32>, u32>, call: Writer) -> bool {
                 && sheet_number(&plain) == 0
                 && numbered(0, record.clone()) == plain
         }
-        (Err(16), plain) => matches!(plain, Ok(_) | Err(11)),
+        (Err(16), plain) => matches!(plain, Ok(_) | Err(11 | 17)),
         (found, plain) => *found == plain,
     }
 }

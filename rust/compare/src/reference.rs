@@ -5,14 +5,14 @@
 
 use std::collections::BTreeSet;
 
-use gatekeep::{FactId, ResidualPolicy};
+use gatekeep::{FactId, Presence, ResidualPolicy};
 
 use crate::narrow::{self, Order};
 use crate::products::Products;
 use crate::refusal::Refusal;
 use crate::silence::{marked, standing};
 use crate::words::table::Table;
-use crate::words::tree::Record;
+use crate::words::tree::{Entry, Record, Seen};
 use crate::words::{FACTS, RECORD_WORDS, convert, read, write};
 
 /// Sixteen 64-bit numbers, fact 0 the top bit of the first.
@@ -181,7 +181,20 @@ fn narrowed(
     let table = Table::partial(table)?;
     let record = read::record(words)?;
     let number = expected(words, number)?;
+    if contradicted(&record, &table) {
+        return Err(Refusal::Contradiction);
+    }
     fitted(&narrow::narrow(&record, &table, order), number, room)
+}
+
+/// Whether the table enters a fact as Present that some entry of the record has as Absent, or the reverse.
+pub fn contradicted(record: &Record, table: &Table) -> bool {
+    let against = |(fact, seen): &Entry| match table.observation(*fact) {
+        Some(Presence::Present) => *seen == Seen::Absent,
+        Some(Presence::Absent) => *seen == Seen::Present,
+        Some(Presence::Unknown) | None => false,
+    };
+    record.consulted().iter().any(against)
 }
 
 /// The number for the record that is to be written, if one can carry it.

@@ -34,6 +34,8 @@ pub enum Refusal {
     Register = 15,
     /// Record of another sheet, or a number that no record carries.
     SheetNumber = 16,
+    /// A narrowing's table has as Present what the record consulted as Absent, or the reverse.
+    Contradiction = 17,
 }
 
 impl Refusal {

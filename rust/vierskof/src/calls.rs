@@ -68,12 +68,14 @@ pub fn partial_evaluate<'o>(
 
 /// Narrows a record with a table of further facts: the new record is the first words of `out`.
 ///
-/// What the table leaves Unknown stays open; a Resolved record comes back equal. The number is that of the sheet that the record has to be of, and the new
+/// What the table leaves Unknown stays open; a Resolved record comes back equal. A table that has a fact as Present which the record consulted as Absent, or the
+/// reverse, is turned back; Unknown, and facts past the table's end, contradict nothing. The number is that of the sheet that the record has to be of, and the new
 /// record carries it too; 0 is the number of a record without one, and not of any. Output and table are as with [`partial_evaluate`].
 ///
 /// # Errors
 ///
-/// [`Refusal::Length`] to [`Refusal::Room`], but not [`Refusal::UnknownFact`]; and [`Refusal::SheetNumber`].
+/// [`Refusal::Length`] to [`Refusal::Room`], but not [`Refusal::UnknownFact`]; [`Refusal::SheetNumber`]; and [`Refusal::Contradiction`], also of a Resolved
+/// record.
 ///
 /// # Examples
 ///
@@ -89,6 +91,12 @@ pub fn partial_evaluate<'o>(
 /// assert_eq!(Record::read(record)?.number(), 7);
 /// let other = vierskof::narrow_residual(&pending, 8, &[0x00, 0x10], &mut out);
 /// assert_eq!(other, Err(Refusal::SheetNumber));
+///
+/// // Fact 5 was Present: a table that has it as Absent is turned back, one that ends before it isn't.
+/// let resolved = [0xE000_7001, 0x4005_0000, 0xC000_0003, 0x0000_0001, 0x0005_0000];
+/// let contradicted = vierskof::narrow_residual(&resolved, 7, &[0x00, 0x00], &mut out);
+/// assert_eq!(contradicted, Err(Refusal::Contradiction));
+/// assert_eq!(vierskof::narrow_residual(&resolved, 7, &[0x00], &mut out), Ok(&resolved[..]));
 /// # Ok::<(), vierskof::Refusal>(())
 /// ```
 pub fn narrow_residual<'o>(
@@ -168,7 +176,7 @@ pub fn narrow_residual_in_order<'o>(
 
 /// Completes a record with a known table: the Resolved record is the first words of `out`.
 ///
-/// A Resolved record comes back equal, whatever the table says. The number is as with [`narrow_residual`], the output as with [`evaluate`].
+/// A Resolved record comes back equal, whatever the table says, and no table is turned back for what a record consulted. The number is as with [`narrow_residual`], the output as with [`evaluate`].
 ///
 /// # Errors
 ///

@@ -9,7 +9,8 @@ use crate::OutOfRange;
 ///
 /// The discriminant is the cause's number; 9 is free, and no call returns it. Where there are several causes, the call names the first
 /// that its reading meets: the length of the words, then the table, then the words from the first,
-/// then what follows them, then a record's number, then the room. A register has one cause alone. A join looks at both
+/// then what follows them, then a record's number, then, of a narrowing, whether the table contradicts
+/// the record, then the room. A register has one cause alone. A join looks at both
 /// lengths, both tables' fields, whether they clash, then the room. For windows it is the dates,
 /// the list, the table, the room.
 ///
@@ -57,6 +58,8 @@ pub enum Refusal {
     Register = 15,
     /// A record is of another sheet than the one that is expected.
     SheetNumber = 16,
+    /// A narrowing's table has a fact as Present that the record consulted as Absent, or the reverse.
+    Contradiction = 17,
 }
 
 impl Refusal {
@@ -77,6 +80,7 @@ impl Refusal {
         Self::Clash,
         Self::Register,
         Self::SheetNumber,
+        Self::Contradiction,
     ];
 
     /// The number of the cause.
@@ -104,6 +108,7 @@ impl Refusal {
             Self::Clash => "a fact is Present in one table and Absent in the other",
             Self::Register => "the words are no register of sheets",
             Self::SheetNumber => "the record is not of the sheet that is expected",
+            Self::Contradiction => "the table contradicts a reading that the record has",
         }
     }
 }

@@ -1,6 +1,6 @@
 -- `calls::complete_residual` meets its contract. Assumes nothing.
 use mathlib.Core.Path.{refl, sym, ap, _∙_}
-use mathlib.Core.Bool.{true}
+use mathlib.Core.Bool.{true, false}
 use Rattle.model.specs.Facts.{tableOf}
 use Rattle.model.specs.Products.{completedFrom}
 use Rattle.policy_model.specs.Answers.{recordLead}
@@ -46,7 +46,7 @@ returns : tie.Need-returns
 returns c =
     let judge = c .before .before .before in
     let args = judge .before .before .before .before .args in
-    record-refused true (args .number) (args .words .now) (args .facts .now) (completedFrom (tableOf (args .facts .now))) (args .out .now) _ (ap recordLead (sym (c .before .cause .given .1)) ∙ judge .judge-record .ensures)
+    record-refused true (args .number) (args .words .now) (args .facts .now) (completedFrom (tableOf (args .facts .now))) (λ l. false) (args .out .now) _ (ap recordLead (sym (c .before .cause .given .1)) ∙ judge .judge-record .ensures)
 
 same-length : tie.Need-same-length
 same-length c = search needs
@@ -57,7 +57,7 @@ returns-2 c =
     let told = done .before .before in
     let judge = told .before .before in
     let args = judge .before .before .before .before .args in
-    record-copied true (args .number) (args .words .now) (args .facts .now) (completedFrom (tableOf (args .facts .now))) (args .out .now) (λ d l. refl) _ _ (ap recordLead (sym (told .enum-told .given .1)) ∙ judge .judge-record .ensures) (done .copy-record .ensures)
+    record-copied true (args .number) (args .words .now) (args .facts .now) (completedFrom (tableOf (args .facts .now))) (λ l. false) (args .out .now) (λ d l. refl) _ _ (ap recordLead (sym (told .enum-told .given .1)) ∙ judge .judge-record .ensures) (λ x vs q k. refl) (done .copy-record .ensures)
 
 same-length-2 : tie.Need-same-length-2
 same-length-2 c = search needs
@@ -69,7 +69,7 @@ returns-3 c =
     let told = made .before .before .before in
     let judge = told .before .before in
     let args = judge .before .before .before .before .args in
-    record-made true (args .number) (args .words .now) (args .facts .now) (completedFrom (tableOf (args .facts .now))) (args .out .now) (completedAfter (tableOf (args .facts .now))) (λ t l. refl) _ _ (ap recordLead (sym (told .consulted .given .1)) ∙ judge .judge-record .ensures) (made .complete .ensures) (done .under-number .ensures)
+    record-made true (args .number) (args .words .now) (args .facts .now) (completedFrom (tableOf (args .facts .now))) (λ l. false) (args .out .now) (completedAfter (tableOf (args .facts .now))) (λ t l. refl) _ _ (ap recordLead (sym (told .consulted .given .1)) ∙ judge .judge-record .ensures) (λ x vs q k. refl) (made .complete .ensures) (done .under-number .ensures)
 
 pub complete-residual-spec : {M : Type 1} → statement M
 complete-residual-spec =

@@ -2,11 +2,12 @@
 use mathlib.Core.Path.{refl, sym, ap, _∙_}
 use mathlib.Core.Bool.{false}
 use Rattle.model.specs.Facts.{tableOf}
+use Rattle.model.specs.Consulted.{anyContradicted}
 use Rattle.model.specs.Products.{narrowedFrom}
 use Rattle.policy_model.specs.Answers.{recordLead}
 use Rattle.partial_policy.specs.Reducing.{orderOf}
 use Rattle.partial.specs.Answers.{reducedAfter}
-use Rattle.calls.proofs.Records.{record-few, record-number, record-refused, record-copied, record-made}
+use Rattle.calls.proofs.Records.{record-few, record-number, record-refused, entries-found, record-contradicted, record-copied, record-made}
 use borrow.Author.Needs.{needs}
 use Rattle.calls.proofs.narrow_residual_by.Statement.{statement}
 use Rattle.calls.proofs.narrow_residual_by.Tie as tie
@@ -17,60 +18,93 @@ judge-record-requires c κs = search needs
 enum-known-cause : tie.Need-enum-known-cause
 enum-known-cause c = search needs
 
-enum-told : tie.Need-enum-told
-enum-told c = search needs
+enum-known-consulted : tie.Need-enum-known-consulted
+enum-known-consulted c = search needs
+
+cast-contradicted : tie.Need-cast-contradicted
+cast-contradicted c = search needs
+
+contradicted-requires : tie.Need-contradicted-requires
+contradicted-requires c κs = search needs
+
+returns : tie.Need-returns
+returns c =
+    let found = c .before in
+    let told = found .before .before in
+    let judge = told .before .before in
+    let args = judge .before .before .before .before .args in
+    record-contradicted false (args .number) (args .words .now) (args .facts .now) (narrowedFrom (orderOf (args .in-order)) (tableOf (args .facts .now))) (anyContradicted (tableOf (args .facts .now))) (args .out .now) _ _ _ (ap recordLead (sym (told .consulted .given .1)) ∙ judge .judge-record .ensures) (λ x vs q k. sym (c .if1 .taken) ∙ entries-found false (args .number) (args .words .now) (args .facts .now) (found .contradicted .ensures) x vs q k)
 
 copy-record-requires : tie.Need-copy-record-requires
 copy-record-requires c κs = search needs
 
-enum-known-consulted : tie.Need-enum-known-consulted
-enum-known-consulted c = search needs
+enum-known-consulted-2 : tie.Need-enum-known-consulted-2
+enum-known-consulted-2 c = search needs
+
+cast-contradicted-2 : tie.Need-cast-contradicted-2
+cast-contradicted-2 c = search needs
+
+contradicted-requires-2 : tie.Need-contradicted-requires-2
+contradicted-requires-2 c κs = search needs
+
+returns-2 : tie.Need-returns-2
+returns-2 c =
+    let found = c .before in
+    let told = found .before .before in
+    let judge = told .before .before in
+    let args = judge .before .before .before .before .args in
+    record-contradicted false (args .number) (args .words .now) (args .facts .now) (narrowedFrom (orderOf (args .in-order)) (tableOf (args .facts .now))) (anyContradicted (tableOf (args .facts .now))) (args .out .now) _ _ _ (ap recordLead (sym (told .consulted2 .given .1)) ∙ judge .judge-record .ensures) (λ x vs q k. sym (c .if2 .taken) ∙ entries-found false (args .number) (args .words .now) (args .facts .now) (found .contradicted2 .ensures) x vs q k)
 
 cast-narrow : tie.Need-cast-narrow
 cast-narrow c = search needs
 
 narrow-requires : tie.Need-narrow-requires
 narrow-requires c κs =
-    let told = c .before .before in
+    let told = c .before .before .before .before in
     let judge = told .before .before in
     let args = judge .before .before .before .before .args in
-    record-few false (args .number) (args .words .now) (args .facts .now) _ (ap recordLead (sym (told .consulted .given .1)) ∙ judge .judge-record .ensures)
+    record-few false (args .number) (args .words .now) (args .facts .now) _ (ap recordLead (sym (told .consulted2 .given .1)) ∙ judge .judge-record .ensures)
 
 under-number-requires : tie.Need-under-number-requires
 under-number-requires c κs =
-    let told = c .before .before .before .before .before .before in
+    let told = c .before .before .before .before .before .before .before .before in
     let judge = told .before .before in
     let args = judge .before .before .before .before .args in
-    record-number false (args .number) (args .words .now) (args .facts .now) _ (ap recordLead (sym (told .consulted .given .1)) ∙ judge .judge-record .ensures)
+    record-number false (args .number) (args .words .now) (args .facts .now) _ (ap recordLead (sym (told .consulted2 .given .1)) ∙ judge .judge-record .ensures)
 
-returns : tie.Need-returns
-returns c =
-    let judge = c .before .before .before in
+returns-3 : tie.Need-returns-3
+returns-3 c =
+    let told = c .before in
+    let judge = told .before .before in
     let args = judge .before .before .before .before .args in
-    record-refused false (args .number) (args .words .now) (args .facts .now) (narrowedFrom (orderOf (args .in-order)) (tableOf (args .facts .now))) (args .out .now) _ (ap recordLead (sym (c .before .cause .given .1)) ∙ judge .judge-record .ensures)
+    record-refused false (args .number) (args .words .now) (args .facts .now) (narrowedFrom (orderOf (args .in-order)) (tableOf (args .facts .now))) (anyContradicted (tableOf (args .facts .now))) (args .out .now) _ (ap recordLead (sym (told .cause .given .1)) ∙ judge .judge-record .ensures)
 
 same-length : tie.Need-same-length
 same-length c = search needs
 
-returns-2 : tie.Need-returns-2
-returns-2 c =
+returns-4 : tie.Need-returns-4
+returns-4 c =
     let done = c .before .before in
-    let told = done .before .before in
+    let test = done .before .before in
+    let found = test .before in
+    let told = found .before .before in
     let judge = told .before .before in
     let args = judge .before .before .before .before .args in
-    record-copied false (args .number) (args .words .now) (args .facts .now) (narrowedFrom (orderOf (args .in-order)) (tableOf (args .facts .now))) (args .out .now) (λ d l. refl) _ _ (ap recordLead (sym (told .enum-told .given .1)) ∙ judge .judge-record .ensures) (done .copy-record .ensures)
+    record-copied false (args .number) (args .words .now) (args .facts .now) (narrowedFrom (orderOf (args .in-order)) (tableOf (args .facts .now))) (anyContradicted (tableOf (args .facts .now))) (args .out .now) (λ d l. refl) _ _ (ap recordLead (sym (told .consulted .given .1)) ∙ judge .judge-record .ensures) (λ x vs q k. sym (test .if1 .left) ∙ entries-found false (args .number) (args .words .now) (args .facts .now) (found .contradicted .ensures) x vs q k) (done .copy-record .ensures)
 
 same-length-2 : tie.Need-same-length-2
 same-length-2 c = search needs
 
-returns-3 : tie.Need-returns-3
-returns-3 c =
+returns-5 : tie.Need-returns-5
+returns-5 c =
     let done = c .before .before in
     let made = done .before .before .before .before in
-    let told = made .before .before .before in
+    let test = made .before .before in
+    let found = test .before in
+    let told = found .before .before in
     let judge = told .before .before in
     let args = judge .before .before .before .before .args in
-    record-made false (args .number) (args .words .now) (args .facts .now) (narrowedFrom (orderOf (args .in-order)) (tableOf (args .facts .now))) (args .out .now) (reducedAfter (orderOf (args .in-order)) (tableOf (args .facts .now))) (λ t l. refl) _ _ (ap recordLead (sym (told .consulted .given .1)) ∙ judge .judge-record .ensures) (made .narrow .ensures) (done .under-number .ensures)
+    record-made false (args .number) (args .words .now) (args .facts .now) (narrowedFrom (orderOf (args .in-order)) (tableOf (args .facts .now))) (anyContradicted (tableOf (args .facts .now))) (args .out .now) (reducedAfter (orderOf (args .in-order)) (tableOf (args .facts .now))) (λ t l. refl) _ _ (ap recordLead (sym (told .consulted2 .given .1)) ∙ judge .judge-record .ensures) (λ x vs q k. sym (test .if2 .left) ∙ entries-found false (args .number) (args .words .now) (args .facts .now) (found .contradicted2 .ensures) x vs q k) (made .narrow .ensures) (done .under-number .ensures)
 
 pub narrow-residual-by-spec : {M : Type 1} → statement M
 narrow-residual-by-spec =
@@ -78,14 +112,20 @@ narrow-residual-by-spec =
     (tie.spec
     judge-record-requires
     enum-known-cause
-    enum-told
-    copy-record-requires
     enum-known-consulted
+    cast-contradicted
+    contradicted-requires
+    returns
+    copy-record-requires
+    enum-known-consulted-2
+    cast-contradicted-2
+    contradicted-requires-2
+    returns-2
     cast-narrow
     narrow-requires
     under-number-requires
-    returns
+    returns-3
     same-length
-    returns-2
+    returns-4
     same-length-2
-    returns-3)
+    returns-5)

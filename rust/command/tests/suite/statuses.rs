@@ -110,6 +110,16 @@ fn refusals_say_where() {
             "E0000000 C0000001 00000000",
             "the record has no sheet number",
         ),
+        (
+            "narrow --facts 9=absent,5=absent,8=present",
+            "pending\nconsulted 3=silent,5=present,8=absent\ndeny",
+            "the record has fact 5 as present",
+        ),
+        (
+            "narrow --in-order --facts 5=present,8=present",
+            "pending\nconsulted 3=silent,5=present,8=absent\ndeny",
+            "the record has fact 8 as absent",
+        ),
     ] {
         let message = failure(1, arguments, input);
         assert!(

@@ -120,7 +120,7 @@ pub fn draw_silent(seed: u64, count: usize, calls: &[Call]) -> Vec<Case> {
             case.table.truncate(rng.below(case.table.len() + 1));
         }
     }
-    cases
+    numbers::give(seed, cases)
 }
 
 /// Whether an accepted reduction or narrowing has a grant that is known, though its condition names an Unknown fact.

@@ -3,6 +3,7 @@
 mod codec;
 #[cfg(feature = "proved")]
 mod command;
+mod contradictions;
 mod files;
 mod in_order;
 #[cfg(feature = "proved")]

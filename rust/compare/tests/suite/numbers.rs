@@ -53,7 +53,7 @@ fn the_number_stands_in_the_lead() {
     writes(7, CompleteResidual, PENDING, "", DENY);
     // A Resolved record comes back word for word.
     for call in [NarrowResidual, NarrowResidualInOrder, CompleteResidual] {
-        writes(7, call, PERMIT, "00 00", PERMIT);
+        writes(7, call, PERMIT, "00 10", PERMIT);
     }
 }
 
@@ -126,7 +126,8 @@ fn nothing_else_depends_on_the_number() {
                 assert_eq!(plain, Ok(Answer::Record(masked)), "{case:X?}");
             }
             Err(Refusal::SheetNumber) => {
-                let taken = matches!(plain, Ok(_) | Err(Refusal::Room));
+                let later = [Refusal::Contradiction, Refusal::Room];
+                let taken = plain.map_or_else(|refusal| later.contains(&refusal), |_| true);
                 assert!(taken, "{case:X?}");
                 others += 1;
             }

@@ -19,7 +19,7 @@ use compare::words::write;
 use compare::{reference, repeats, silence};
 
 use super::in_order::{clause, layered};
-use super::silence::{entered, without_silence};
+use super::silence::{contradicts, entered, without_silence};
 use super::stages::{decided, settled, small_chains};
 
 const SEED: u64 = 20_261_115;
@@ -62,9 +62,12 @@ fn completed(rng: &mut Rng, chain: &Chain, orders: &[Order]) -> Vec<u32> {
     for table in &chain.narrowings {
         let (_, narrow) = pair(rng.pick(orders));
         let room = if rng.percent(30) { rng.below(9) } else { room };
-        if let Ok(narrowed) = written(narrow, &record, number, table, room) {
-            record = narrowed;
-            accepted.push(table);
+        match written(narrow, &record, number, table, room) {
+            Ok(narrowed) => {
+                record = narrowed;
+                accepted.push(table);
+            }
+            Err(refusal) => assert_eq!(refusal, vierskof::Refusal::Room, "{chain:X?}"),
         }
         let faulty = [table.as_slice(), &[0xFF]].concat();
         let (_, refused) = pair(rng.pick(&BOTH));
@@ -235,7 +238,7 @@ fn silence_agrees() {
 /// With silence read as Absent, a record is the one that the proved call gives of a table that enters every fact, and of a record without silence: the one
 /// that it gave before there was silence.
 #[test]
-fn silence_changes_nothing_but_the_trace() {
+fn silence_changes_no_decision() {
     let calls: Vec<Call> = Call::ALL.into_iter().filter(|call| call.writes()).collect();
     let mut told = 0;
     for case in draw_silent(SEED, 20_000, &calls) {
@@ -251,11 +254,17 @@ fn silence_changes_nothing_but_the_trace() {
         };
         let found = written(call, &case.words, number, &case.table, case.room);
         let before = entered(&case);
-        let before = written(call, &before.words, number, &before.table, before.room);
+        let in_full = written(call, &before.words, number, &before.table, before.room);
+        // What is entered may contradict what a silent table or entry does not.
+        if in_full == Err(vierskof::Refusal::Contradiction) {
+            assert!(contradicts(&before), "{case:X?}");
+            continue;
+        }
+        let before = in_full;
         assert_eq!(found.clone().map(without_silence), before, "{case:X?}");
         told += usize::from(found != before);
     }
-    assert!(told > 4_000, "{told}");
+    assert!(told > 3_000, "{told}");
 }
 
 /// The reductions and narrowings of both pairs.
@@ -284,7 +293,7 @@ fn lists_in_lists_agree() {
     };
     // The two orders differ on many of them.
     let differ = cases.iter().filter(other).count();
-    assert!(differ > 1_500, "{differ}");
+    assert!(differ > 1_300, "{differ}");
     all_agree(cases);
 }
 

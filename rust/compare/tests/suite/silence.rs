@@ -12,6 +12,7 @@ use compare::generate::grow::{Alphabet, Grower};
 use compare::generate::rng::Rng;
 use compare::narrow::Order;
 use compare::reference;
+use compare::refusal::Refusal;
 use compare::silence::{Tally, heard, marked, standing};
 use compare::words::table::Table;
 use compare::words::tree::Seen::{self, Absent, Present, Silent, Unknown};
@@ -36,6 +37,14 @@ pub fn without_silence(words: Vec<u32>) -> Vec<u32> {
         Ok(record) => write::numbered(number, write::record(&heard(record))),
         Err(_) => words,
     }
+}
+
+/// Whether the case is a narrowing with a table that contradicts an entry.
+pub fn contradicts(case: &Case) -> bool {
+    let narrows = [NarrowResidual, NarrowResidualInOrder].contains(&case.call);
+    let record = read::record(&case.words).expect("a record");
+    let table = Table::partial(&case.table).expect("an accepted table");
+    narrows && reference::contradicted(&record, &table)
 }
 
 /// The same call without silence: with a table that enters every fact, and no silent entry.
@@ -98,15 +107,13 @@ fn an_entry_that_stands_stays() {
 
 #[test]
 fn a_resolved_record_comes_back_equal() {
-    for record in [
-        "E0000001 C0050000 C0000001 00000000",
-        "E0000004 C0050005 4005C005 C0000001 00000000",
-    ] {
-        for call in RECORDS {
-            for table in ["", "00 10", "00 00"] {
-                writes(call, record, table, record);
-            }
+    let silent = "E0000001 C0050000 C0000001 00000000";
+    let all = "E0000004 C0050005 4005C005 C0000001 00000000";
+    for call in RECORDS {
+        for table in ["", "00 10", "00 00"] {
+            writes(call, silent, table, silent);
         }
+        writes(call, all, "", all);
     }
 }
 
@@ -160,8 +167,8 @@ fn marking() {
     assert_eq!(heard(told), original);
 }
 
-/// A relay whose table ended before a fact agrees with an archive that entered it as Absent, and the other way about: with 00, which is silent on fact 5, the
-/// sheet is reduced, and with 00 00 or 40 00 completed.
+/// A relay whose table ended before a fact agrees with an archive that entered it as Absent, the other way about, and where both ended before it: with 80 or 40,
+/// which are silent on fact 5, or with 80 00 or 40 00, which enter it, the sheet is reduced and completed.
 #[test]
 fn a_short_table_agrees_with_one_that_enters_absent() {
     let sheet = words(&format!("A0000002 80000001 00000000 20000000 {D}"));
@@ -189,12 +196,17 @@ fn a_short_table_agrees_with_one_that_enters_absent() {
 
 /// With silence read as Absent, a record is what the call gives without any.
 #[test]
-fn silence_changes_nothing_but_the_trace() {
+fn silence_changes_no_decision() {
     let calls: Vec<Call> = Call::ALL.into_iter().filter(|call| call.writes()).collect();
     let cases = draw_silent(1, 20_000, &calls);
     let mut told = 0;
     for case in &cases {
         let (found, before) = (case.answer(), entered(case).answer());
+        // What is entered may contradict what a silent table or entry does not.
+        if before == Err(Refusal::Contradiction) {
+            assert!(contradicts(&entered(case)), "{case:X?}");
+            continue;
+        }
         told += usize::from(found != before);
         let found = found.map(|answer| match answer {
             Answer::Record(record) => Answer::Record(without_silence(record)),
@@ -202,24 +214,38 @@ fn silence_changes_nothing_but_the_trace() {
         });
         assert_eq!(found, before, "{case:X?}");
     }
-    assert!(told > 4_000, "{told}");
+    assert!(told > 3_000, "{told}");
 }
 
 /// The original's completion, marked, is the plain walk that reads silence itself.
 #[test]
 fn what_is_marked_is_what_is_read() {
     let cases = draw_silent(2, 20_000, &[Evaluate, PartialEvaluate, CompleteResidual]);
+    let mut against = 0;
     for case in &cases {
+        let Ok(Answer::Record(found)) = case.answer() else {
+            continue;
+        };
         let words = if case.call.reads_sheet() {
-            [&[0xF000_0000], case.words.as_slice()].concat()
+            let number = u16::try_from(case.number).expect("a sheet's number");
+            write::numbered(number, [&[0xF000_0000], case.words.as_slice()].concat())
         } else {
             case.words.clone()
         };
-        if let Ok(Answer::Record(found)) = case.answer() {
-            let narrowed = reference::narrow_residual(&words, 0, &case.table, case.room);
+        let narrowed = reference::narrow_residual(&words, case.number, &case.table, case.room);
+        // A completion goes by its table, whatever the record has.
+        if narrowed == Err(Refusal::Contradiction) {
+            let (record, table) = (read::record(&words), Table::partial(&case.table));
+            assert!(reference::contradicted(
+                &record.expect("a record"),
+                &table.expect("a table")
+            ));
+            against += 1;
+        } else {
             assert_eq!(narrowed, Ok(found), "{case:X?}");
         }
     }
+    assert!(against > 100 && against < 4_000, "{against}");
     let met = Tally::of(&cases);
     assert!(met.given > 1_000 && met.cut > 3_000, "{met}");
     assert!(met.told > 2_000 && met.entered > 1_500, "{met}");

@@ -186,6 +186,43 @@ fn another_sheet_is_16() {
     }
 }
 
+/// A table that says the contrary of an entry, of a Pending and a Resolved record: after 16 and before 11, of narrowings alone.
+#[test]
+fn a_contradiction_is_17() {
+    let pending = [
+        0xF000_7001,
+        0x4005_0000,
+        0x8000_0001,
+        0x0000_0000,
+        0x2000_0006,
+    ];
+    let resolved = [
+        0xE000_7001,
+        0x4005_0000,
+        0xC000_0003,
+        0x0000_0001,
+        0x0005_0000,
+    ];
+    for record in [pending, resolved] {
+        for call in [narrow_residual, narrow_residual_in_order] {
+            for room in [0, 2, 8] {
+                let mut out = vec![0x5A5A_5A5A; room];
+                let refused = call(&record, 7, &[0x00, 0x00], &mut out);
+                assert_eq!(refused, Err(Refusal::Contradiction));
+                let refused = call(&record, 8, &[0x00, 0x00], &mut out);
+                assert_eq!(refused, Err(Refusal::SheetNumber));
+                assert_eq!(out, vec![0x5A5A_5A5A; room]);
+            }
+            let mut out = [0; 8];
+            for table in [&[0x00, 0x10][..], &[0x00, 0x20], &[0x00], &[]] {
+                assert!(call(&record, 7, table, &mut out).is_ok());
+            }
+        }
+        let mut out = [0; 8];
+        assert!(complete_residual(&record, 7, &[0x00, 0x00], &mut out).is_ok());
+    }
+}
+
 /// A register at its limit and past it, whatever group is asked for.
 #[test]
 fn no_register_is_15() {
@@ -214,14 +251,14 @@ fn no_register_is_15() {
 
 #[test]
 fn numbers_and_refusals_belong_together() {
-    let numbers = [1, 2, 3, 4, 5, 6, 7, 8, 10, 11, 12, 13, 14, 15, 16];
+    let numbers = [1, 2, 3, 4, 5, 6, 7, 8, 10, 11, 12, 13, 14, 15, 16, 17];
     assert_eq!(numbers.len(), Refusal::ALL.len());
     for (number, &refusal) in numbers.into_iter().zip(Refusal::ALL) {
         assert_eq!(refusal.number(), number);
         assert_eq!(u32::from(refusal), number);
         assert_eq!(Refusal::try_from(number), Ok(refusal));
     }
-    for number in [0, 9, 17, u32::MAX] {
+    for number in [0, 9, 18, u32::MAX] {
         assert!(Refusal::try_from(number).is_err());
     }
     let sentences: BTreeSet<String> = Refusal::ALL.iter().map(ToString::to_string).collect();

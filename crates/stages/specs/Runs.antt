@@ -1,4 +1,4 @@
--- Calls that were run one after the other under one number, each answered as its contract says. Document 01, "Stages", and requests 6 to 8.
+-- Calls that were run one after the other under one number, each answered as its contract says. Document 01, "Stages", and requests 6 to 8, and 13.
 use mathlib.Core.Path.{_≡_}
 use mathlib.Core.Option.{none}
 use mathlib.Core.List.{List, [], _∷_}
@@ -11,7 +11,9 @@ use Rattle.model.specs.Policy.{Policy}
 use Rattle.model.specs.Partial.{resolved, Order, sheetOrder}
 use Rattle.model.specs.Record.{Record, tree}
 use Rattle.model.specs.Reading.{got, sheetNumber}
-use Rattle.model.specs.Products.{Outcome, evalPolicy, reduced, readRecord, evaluate, partialEvaluate, narrowResidual, completeResidual}
+use Rattle.model.specs.Products.{Outcome, evalPolicy, reduced, readRecord, evaluate, partialEvaluate, narrowResidual, completeResidual, requiredResidualFacts}
+use Rattle.required.specs.declared.Required.{Required}
+use Rattle.required.specs.Answers as required
 use Rattle.answer.specs.declared.Answer.{Answer}
 use Rattle.answer.specs.declared.Answer.the-variants.{Written, Refused}
 use Rattle.answer.specs.Answers.{Answered}
@@ -71,6 +73,18 @@ Narrowed o number given s = Answered (narrowResidual o number given (s .facts) (
 
 abbrev pub Completed : ℕ → List ℕ → Run → Type 0
 Completed number given s = Answered (completeResidual number given (s .facts) (length (s .before))) (s .before) (s .after) (s .answer)
+
+-- The required facts of a record: the set before and after, and what was answered.
+pub record Asking : Type 0 where
+  pub before : List ℕ
+  pub after : List ℕ
+  pub answer : Required
+
+abbrev pub askingOf : List ℕ → List ℕ → Required → Asking
+askingOf before after answer = record { before = before; after = after; answer = answer }
+
+abbrev pub Asked : List ℕ → Asking → Type 0
+Asked given a = required.Answered (requiredResidualFacts given) (required.treeOf (readRecord given)) (a .before) (a .after) (a .answer)
 
 -- Narrowings one after the other, refused ones included.
 abbrev pub NarrowedAll : ℕ → List ℕ → List Narrowing → Type 0

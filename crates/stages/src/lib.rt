@@ -1,7 +1,8 @@
 // The staged guarantee of what the calls return, in specs/. The functions say that the runs it speaks of are the calls' own.
 use answer::Answer;
+use required::Required;
 ghost use Rattle.model.specs.Partial.{permitsFirst, sheetOrder};
-ghost use Rattle.stages.specs.Runs.{runOf, Evaluated, Reduced, Narrowed, Completed};
+ghost use Rattle.stages.specs.Runs.{runOf, Evaluated, Reduced, Narrowed, Completed, askingOf, Asked};
 
 pub fn evaluated(sheet: &[u32], number: u32, facts: &[u8], out: &mut [u32]) -> Answer
     ensures { λ r. ⌜ Evaluated number (now (sheet .entry)) (runOf (now (facts .entry)) (now (out .entry)) (now (out .exit)) r) ⌝ }
@@ -37,4 +38,10 @@ pub fn completed(given: &[u32], number: u32, facts: &[u8], out: &mut [u32]) -> A
     ensures { λ r. ⌜ Completed number (now (given .entry)) (runOf (now (facts .entry)) (now (out .entry)) (now (out .exit)) r) ⌝ }
 {
     calls::complete_residual(given, number, facts, out)
+}
+
+pub fn asked(given: &[u32], set: &mut [u64]) -> Required
+    ensures { λ r. ⌜ Asked (now (given .entry)) (askingOf (now (set .entry)) (now (set .exit)) r) ⌝ }
+{
+    required::required_residual_facts(given, set)
 }

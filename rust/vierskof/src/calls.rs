@@ -256,6 +256,8 @@ pub fn required_facts(sheet: &[u32]) -> Result<FactSet, Refusal> {
 
 /// The facts that a record's tree names, and that it therefore waits for.
 ///
+/// Of a table, [`complete_residual`] depends on these alone: to send them is enough (see [the crate's example](crate#only-what-is-required)).
+///
 /// # Errors
 ///
 /// [`Refusal::Length`], and the causes that words have, [`Refusal::Kind`] to [`Refusal::WordsAfterTree`].

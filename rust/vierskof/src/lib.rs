@@ -86,6 +86,40 @@
 //! deny are wanted as well, [`partial_evaluate_in_order`] and [`narrow_residual_in_order`] take the place
 //! of the first two calls. Either way no table may contradict the one that completes the record.
 //!
+//! # Only what is required
+//!
+//! A completion depends on the facts that its record requires, and on nothing else of its table. That
+//! is proved, for any words: two known tables that read these facts alike, silence included, leave the
+//! same record, or the same refusal. So the archive need not send the district all that it knows. It
+//! asks which facts are required, and sends a table of these.
+//!
+//! ```
+//! use vierskof::Presence::{Absent, Present};
+//! use vierskof::{Fact, FactTable};
+//!
+//! const CURATOR: Fact = Fact::new(0).unwrap();
+//! const SIGNED: Fact = Fact::new(5).unwrap();
+//!
+//! # fn main() -> Result<(), vierskof::Refusal> {
+//! // A record of sheet 7 that waits for fact 5, and what the archive knows.
+//! let record = [0xF000_7000, 0x8800_0003, 0x0000_0000, 0x2000_0005];
+//! let archive = FactTable::new().with(CURATOR, Present).with(SIGNED, Present).with(Fact::MAX, Absent);
+//!
+//! // What the archive never entered it leaves out, so that the trace tells silence as its own would.
+//! let required = vierskof::required_residual_facts(&record)?;
+//! let entered = required.iter().filter_map(|fact| Some((fact, archive.observation(fact)?)));
+//! let sent = FactTable::from_iter(entered);
+//! assert_eq!(sent.as_bytes(), [0x00, 0x10]);
+//!
+//! // The district completes with these facts as the archive would with all of its own.
+//! let (mut out, mut archived) = ([0; 8], [0; 8]);
+//! let completed = vierskof::complete_residual(&record, 7, sent.as_bytes(), &mut out)?;
+//! let by_all = vierskof::complete_residual(&record, 7, archive.as_bytes(), &mut archived)?;
+//! assert_eq!(completed, by_all);
+//! # Ok(())
+//! # }
+//! ```
+//!
 //! # Refusals
 //!
 //! A call that can't answer says why by a [`Refusal`], and leaves its output as it was.

@@ -41,6 +41,29 @@ pub fn agreeing(rng: &mut Rng, known: &[u8], facts: &[u16]) -> Vec<u8> {
     table
 }
 
+/// Two known tables that read each of these facts alike and every other fact apart, of unlike lengths where these facts allow it. A table's end reads as
+/// what it is: both enter a fact, or both end before it.
+pub fn alike(rng: &mut Rng, facts: &[u16]) -> [Vec<u8>; 2] {
+    let byte = |fact: &u16| usize::from(*fact) / 4;
+    let end = if facts.is_empty() || rng.percent(70) {
+        TABLE_BYTES
+    } else {
+        byte(&rng.pick(facts))
+    };
+    let entered = facts.iter().map(byte).filter(|at| *at < end);
+    let least = entered.max().map_or(0, |at| at + 1);
+    let most = end.min(least + rng.pick(&[1, 3, TABLE_BYTES]));
+    let lengths = rng.choose(&(least..=most).collect::<Vec<_>>(), 2);
+    let one: Vec<u8> = (0..4 * most).map(|_| rng.pick(&[0, 1])).collect();
+    let apart = |(fact, reading): (u16, &u8)| reading ^ u8::from(!facts.contains(&fact));
+    let two: Vec<u8> = (0..).zip(&one).map(apart).collect();
+    let mut tables = [pack(&one), pack(&two)];
+    for (table, length) in tables.iter_mut().zip(lengths.iter().cycle()) {
+        table.truncate(*length);
+    }
+    tables
+}
+
 /// A table that reads each of these facts as Unknown.
 pub fn unknown(facts: &[u16]) -> Vec<u8> {
     pack(&vec![2; span(facts)])

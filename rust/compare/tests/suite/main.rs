@@ -4,6 +4,8 @@ mod codec;
 #[cfg(feature = "proved")]
 mod command;
 mod contradictions;
+#[cfg(feature = "proved")]
+mod dependence;
 mod files;
 mod in_order;
 #[cfg(feature = "proved")]

@@ -4,6 +4,7 @@
 #define CALLS_H
 
 #include <stdint.h>
+#include <stdio.h>
 #include <stdlib.h>
 #include <string.h>
 
@@ -25,9 +26,16 @@ enum call {
     CALLS
 };
 
-// An input of the fuzzer may be a join too, whose first table stands where a table does and its second where words do; or windows, whose dates stand before
-// their words.
-enum { JOIN_TABLES = CALLS, APPLY_WINDOWS, INPUTS };
+// An input of the fuzzer may be a join too, whose first table stands where a table does and its second where words do; windows, whose dates stand before
+// their words; words that are packed; or a tight form, whose bytes stand where words do.
+enum { JOIN_TABLES = CALLS, APPLY_WINDOWS, PACK_SHEET, PACK_RECORD, UNPACK_SHEET, UNPACK_RECORD, INPUTS };
+
+#define SO(claim) ((claim) ? (void)0 : not_so(#claim, __FILE__, __LINE__))
+
+static inline void not_so(const char *claim, const char *file, int line) {
+    fprintf(stderr, "%s:%d: not so: %s\n", file, line, claim);
+    abort();
+}
 
 // An input of the fuzzer begins with call, room and table bytes, as a stored answer does, and a sheet's number, of 32 bits.
 enum { SHEET_AT = 6, LEAD = 10 };

@@ -1,9 +1,8 @@
 // The fuzzer's harness over the C interface. An input is a call, a room and a table's length, 16 bits each, a sheet's number, 32 bits, the table and the
-// words, or a second table, all most significant byte first; the numbers after the last call's are those of joins and windows. Every claim holds of every input; one that doesn't
-// ends the run.
-#include <stdio.h>
-
+// words, a second table or a tight form, all most significant byte first; the numbers after the last call's are those of joins, windows, packing and unpacking.
+// Every claim holds of every input; one that doesn't ends the run.
 #include "calls.h"
+#include "tight.h"
 #include "windows.h"
 
 enum { FACTS = 1024 };
@@ -465,6 +464,40 @@ static void hold(struct given given) {
 // Nothing is told of bytes here: the address checks see what they must.
 static void as_it_is(uint8_t *bytes, size_t count) { (void)bytes, (void)count; }
 
+// ---- tight forms
+
+// The comparison's own calls, where they are linked.
+__attribute__((weak)) uint64_t judge_pack(bool record, const uint32_t *words, size_t count, uint8_t *out, size_t room);
+__attribute__((weak)) uint64_t judge_unpack(bool record, const uint8_t *bytes, size_t count, uint32_t *out, size_t room);
+
+// The comparison's own call answers the same, and would leave the same output; and the words come back.
+static void hold_pack(enum form form, const uint32_t *words, size_t count, size_t room) {
+    uint8_t *out;
+    uint64_t told = pack_once(form, words, count, room, as_it_is, as_it_is, &out);
+    if (judge_pack) {
+        uint8_t *expected = before(room, as_it_is);
+        HOLDS(judge_pack(form == RECORD_FORM, words, count, expected, room) == told);
+        HOLDS(same(expected, out, room));
+        free(expected);
+    }
+    words_come_back(form, words, count, told, as_it_is, as_it_is);
+    free(out);
+}
+
+// Likewise of bytes.
+static void hold_unpack(enum form form, const uint8_t *bytes, size_t count, size_t room) {
+    uint32_t *out;
+    uint64_t told = unpack_once(form, bytes, count, room, as_it_is, as_it_is, &out);
+    if (judge_unpack) {
+        uint32_t *expected = before(room * sizeof *out, as_it_is);
+        HOLDS(judge_unpack(form == RECORD_FORM, bytes, count, expected, room) == told);
+        HOLDS(same(expected, out, room * sizeof *out));
+        free(expected);
+    }
+    bytes_come_back(form, bytes, count, told, out, as_it_is, as_it_is);
+    free(out);
+}
+
 int LLVMFuzzerTestOneInput(const uint8_t *data, size_t size) {
     if (size < LEAD) return 0;
     size_t bytes = table_bytes(data, size), words = LEAD + bytes;
@@ -473,11 +506,17 @@ int LLVMFuzzerTestOneInput(const uint8_t *data, size_t size) {
         hold_join((struct join){(uint8_t *)data + LEAD, bytes, (uint8_t *)data + words, size - words, number_at(data + 2, 2)});
         return 0;
     }
+    if (input == UNPACK_SHEET || input == UNPACK_RECORD) {
+        hold_unpack(input == UNPACK_SHEET ? SHEET_FORM : RECORD_FORM, data + words, size - words, number_at(data + 2, 2));
+        return 0;
+    }
     struct given given = {input, NULL, (size - words) / 4, number_at(data + SHEET_AT, 4), NULL, bytes, number_at(data + 2, 2)};
     given.table = copy(data + LEAD, bytes);
     given.words = words_at(data + words, given.count);
     if (input == APPLY_WINDOWS) {
         windows_hold(given.words, given.count, given.table, given.bytes, given.room, as_it_is, as_it_is);
+    } else if (input == PACK_SHEET || input == PACK_RECORD) {
+        hold_pack(input == PACK_SHEET ? SHEET_FORM : RECORD_FORM, given.words, given.count, given.room);
     } else {
         hold(given);
     }

@@ -1,5 +1,6 @@
 // Changes of the fuzzer's inputs that keep most trees whole, so that many get past the reader. The others are the fuzzer's own.
 #include "calls.h"
+#include "tight.h"
 
 size_t LLVMFuzzerMutate(uint8_t *data, size_t size, size_t max);
 
@@ -181,27 +182,69 @@ static void change_register(struct input *input, size_t bytes, size_t words, siz
     }
 }
 
+// Whether an input of this number has a sheet, in words or in the tight form.
+static int has_sheet(uint32_t number) { return reads_sheet(number) || number == PACK_SHEET || number == UNPACK_SHEET; }
+
+// Words become their tight form, or a tight form its words, if they have one; the input is then one of the other call.
+static void turn(struct input *input, size_t words, uint32_t number) {
+    enum form form = has_sheet(number) ? SHEET_FORM : RECORD_FORM;
+    size_t left = input->size - words, room = input->max - words;
+    if (number == PACK_SHEET || number == PACK_RECORD) {
+        uint32_t *given = words_at(input->data + words, left / 4);
+        uint64_t told = packed(form, given, left / 4, input->data + words, room);
+        if (vierskof_refusal(told) == 0) {
+            input->size = words + vierskof_value(told);
+            put(input->data, form == SHEET_FORM ? UNPACK_SHEET : UNPACK_RECORD, 2);
+        }
+        free(given);
+        return;
+    }
+    uint32_t *out = block(room / 4 * sizeof *out);
+    uint64_t told = unpacked(form, input->data + words, left, out, room / 4);
+    if (vierskof_refusal(told) == 0) {
+        for (size_t i = 0; i < vierskof_value(told); i++) put(input->data + words + 4 * i, out[i], 4);
+        input->size = words + 4 * (size_t)vierskof_value(told);
+        put(input->data, form == SHEET_FORM ? PACK_SHEET : PACK_RECORD, 2);
+    }
+    free(out);
+}
+
+// A bit of a tight form turned, its end cut off, or a byte more.
+static void change_bits(struct input *input, size_t words) {
+    size_t left = input->size - words;
+    switch (draw(input, 4)) {
+    case 0:
+        if (left) cut(input, input->size - 1, 1);
+        break;
+    case 1:
+        if (gap(input, input->size, 1)) input->data[input->size - 1] = (uint8_t)(draw(input, 2) ? 0 : draw(input, 256));
+        break;
+    default:
+        if (left) input->data[words + draw(input, (uint32_t)left)] ^= (uint8_t)(1U << draw(input, 8));
+    }
+}
+
 // The lead of a Pending record without consulted entries, of this sheet.
 static uint32_t lead_of(uint32_t number) { return 0xF0000000 | (number & 0xFFFF) << 12; }
 
 // Another sheet's number, most often of the record too.
-static void change_number(struct input *input, size_t words, enum call call) {
+static void change_number(struct input *input, size_t words, uint32_t call) {
     uint32_t numbers[] = {0, 1, 7, 4095, 4096, 65535, 65536, 65543, UINT32_MAX};
     uint32_t number = draw(input, 8) ? numbers[draw(input, 9)] : draw(input, 65536);
     put(input->data + SHEET_AT, number, 4);
-    if (reads_sheet(call) || input->size < words + 4 || draw(input, 4) == 0) return;
+    if (has_sheet(call) || input->size < words + 4 || draw(input, 4) == 0) return;
     uint32_t lead = number_at(input->data + words, 4);
     if (lead >> 28 >= 14) put(input->data + words, (lead & 0xF0000FFF) | (lead_of(number) & 0x0FFFF000), 4);
 }
 
-// Another call. A sheet becomes a record by a lead before it, and such a record a sheet again.
-static void change_call(struct input *input, size_t words, enum call call) {
-    enum call other = draw(input, INPUTS);
+// Another call. A sheet becomes a record by a lead before it, and such a record a sheet again; in the tight form the lead has the same bits.
+static void change_call(struct input *input, size_t words, uint32_t call) {
+    uint32_t other = draw(input, INPUTS);
     uint32_t plain = lead_of(number_at(input->data + SHEET_AT, 4));
     int lead = input->size >= words + 4 && number_at(input->data + words, 4) == plain;
     put(input->data, other, 2);
-    if (reads_sheet(call) && !reads_sheet(other)) insert(input, words, plain);
-    if (!reads_sheet(call) && reads_sheet(other) && lead) cut(input, words, 4);
+    if (has_sheet(call) && !has_sheet(other)) insert(input, words, plain);
+    if (!has_sheet(call) && has_sheet(other) && lead) cut(input, words, 4);
 }
 
 // Another reading of a fact, or four more or fewer.
@@ -253,20 +296,28 @@ size_t LLVMFuzzerCustomMutator(uint8_t *data, size_t size, size_t max, unsigned 
         change_register(&input, bytes, words, count);
         return input.size;
     }
-    enum call call = number;
+    int bits = number == UNPACK_SHEET || number == UNPACK_RECORD;
+    if (change && (bits || number == PACK_SHEET || number == PACK_RECORD) && draw(&input, bits ? 3 : 6) == 0) {
+        turn(&input, words, number);
+        return input.size;
+    }
+    if (bits && change > 1) {
+        change_bits(&input, words);
+        return input.size;
+    }
     switch (change) {
-    case 0: change_call(&input, words, call); break;
+    case 0: change_call(&input, words, number); break;
     case 1:
         if (draw(&input, 2)) {
             put(data + 2, draw(&input, draw(&input, 2) ? 16 : 2000), 2);
         } else {
-            change_number(&input, words, call);
+            change_number(&input, words, number);
         }
         break;
     case 2:
     case 3: change_table(&input, bytes); break;
     default:
-        if (count) change_word(&input, words + 4 * draw(&input, (uint32_t)count), reads_sheet(call));
+        if (count) change_word(&input, words + 4 * draw(&input, (uint32_t)count), has_sheet(number));
     }
     return input.size;
 }

@@ -1,8 +1,9 @@
-// Replays files of stored answers on the C interface, and says how many calls were made. Under valgrind's memcheck the output of each call is
+// Replays files of stored answers on the C interface, packs and unpacks the words of some, and says how many calls were made. Under valgrind's memcheck the output of each call is
 // undefined beforehand, so that a call that reads it, or leaves a word of its record unwritten, is seen.
 #include <valgrind/memcheck.h>
 
 #include "stored.h"
+#include "tight.h"
 #include "windows.h"
 
 // A word for each place of an output, so that one that is wrongly written or moved shows.
@@ -62,16 +63,59 @@ static void unset(uint8_t *bytes, size_t count) { VALGRIND_MAKE_MEM_UNDEFINED(by
 
 // Still undefined, where memcheck runs.
 static void left_unset(uint8_t *bytes, size_t count) {
-    uint8_t bits;
-    for (size_t i = 0; i < count; i++) {
-        if (VALGRIND_GET_VBITS(bytes + i, &bits, 1) == 1) SO(bits == UINT8_MAX);
-        VALGRIND_MAKE_MEM_DEFINED(bytes + i, 1);
+    uint8_t bits[1024];
+    for (size_t at = 0; at < count; at += sizeof bits) {
+        size_t part = count - at < sizeof bits ? count - at : sizeof bits;
+        if (VALGRIND_GET_VBITS(bytes + at, bits, part) != 1) return;
+        for (size_t i = 0; i < part; i++) SO(bits[i] == UINT8_MAX);
+        VALGRIND_MAKE_MEM_DEFINED(bytes + at, part);
     }
 }
 
 static uint32_t draw(uint64_t *seed, uint32_t bound) {
     *seed = *seed * 6364136223846793005 + 1442695040888963407;
     return (uint32_t)(*seed >> 33) % bound;
+}
+
+// ---- tight forms
+
+// The words of one stored answer in so many are packed.
+enum { PACKED = 8 };
+
+// How many forms were accepted and refused.
+static size_t unpackings[2];
+
+static void unpack(enum form form, const uint8_t *bytes, size_t count, size_t room) {
+    uint32_t *out;
+    uint64_t told = unpack_once(form, bytes, count, room, unset, left_unset, &out);
+    bytes_come_back(form, bytes, count, told, out, unset, left_unset);
+    unpackings[vierskof_refusal(told) != 0]++;
+    free(out);
+}
+
+// The words of a stored answer, with some room and with enough; their tight form, whole, with a bit turned, cut short, and with a byte more.
+static void tight(const struct given *given, uint64_t *seed) {
+    enum form form = reads_sheet(given->call) ? SHEET_FORM : RECORD_FORM;
+    uint8_t *out;
+    size_t most = VIERSKOF_TIGHT_ROOM(given->count), words = given->count + draw(seed, 3);
+    uint64_t told = pack_once(form, given->words, given->count, draw(seed, (uint32_t)most + 1), unset, left_unset, &out);
+    words_come_back(form, given->words, given->count, told, unset, left_unset);
+    free(out);
+    told = pack_once(form, given->words, given->count, most, unset, left_unset, &out);
+    size_t bytes = vierskof_value(told);
+    if (bytes) {
+        uint8_t *form_at = copy(out, bytes + 1 <= most ? bytes + 1 : bytes), *at = form_at + draw(seed, (uint32_t)bytes);
+        unpack(form, form_at, bytes, words);
+        *at ^= (uint8_t)(1U << draw(seed, 8));
+        unpack(form, form_at, bytes, words);
+        unpack(form, form_at, draw(seed, (uint32_t)bytes), words);
+        if (bytes < most) {
+            form_at[bytes] = (uint8_t)draw(seed, 2);
+            unpack(form, form_at, bytes + 1, words);
+        }
+        free(form_at);
+    }
+    free(out);
 }
 
 // Lists, dates and tables of which about half are accepted, and how many calls these are.
@@ -103,6 +147,7 @@ static size_t windows(void) {
 
 int main(int files, char **names) {
     size_t calls = windows();
+    uint64_t seed = 1;
     for (int i = 1; i < files; i++) {
         struct file file = stored_in(names[i]);
         struct stored stored;
@@ -111,10 +156,12 @@ int main(int files, char **names) {
                 fprintf(stderr, "%s: answer %zu differs\n", names[i], place);
                 return 1;
             }
+            if (stored.given.call != SHEET_IN_FORCE && place % PACKED == 0) tight(&stored.given, &seed);
             drop_stored(&stored);
         }
         free(file.bytes);
     }
-    printf("%zu calls", calls);
+    SO(files < 2 || (unpackings[0] > 100 && unpackings[1] > 100));
+    printf("%zu calls and %zu tight forms", calls, unpackings[0] + unpackings[1]);
     return calls ? 0 : 2;
 }

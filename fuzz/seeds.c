@@ -35,9 +35,27 @@ static void write_windows(const char *folder) {
     }
 }
 
+// Inputs of tight forms: a sheet and a record.
+static void write_tight(const char *folder) {
+    static const uint8_t forms[][12] = {{0x88, 0x00, 0x00, 0x30, 0x80, 0x50}, {0xE0, 0x00, 0x70, 0x01, 0x40, 0x5C, 0x00, 0x00, 0x06, 0x00, 0x10, 0x14}};
+    static const size_t bytes[] = {6, 12};
+    for (size_t i = 0; i < sizeof forms / sizeof *forms; i++) {
+        char name[4096];
+        uint8_t input[LEAD + 12] = {0, (uint8_t)(UNPACK_SHEET + i), 0, 16};
+        memcpy(input + LEAD, forms[i], bytes[i]);
+        snprintf(name, sizeof name, "%s/tight-%zu", folder, i);
+        FILE *to = fopen(name, "wb");
+        if (!to || fwrite(input, 1, LEAD + bytes[i], to) != LEAD + bytes[i] || fclose(to)) {
+            perror(name);
+            exit(2);
+        }
+    }
+}
+
 int main(int words, char **word) {
     if (words != 3) return 2;
     write_windows(word[2]);
+    write_tight(word[2]);
     struct file file = stored_in(word[1]);
     struct stored stored;
     for (size_t place = 1; next_stored(&file, &stored); place++) {

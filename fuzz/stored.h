@@ -4,8 +4,6 @@
 #ifndef STORED_H
 #define STORED_H
 
-#include <stdio.h>
-
 #include "calls.h"
 
 enum { HEAD = 16 };

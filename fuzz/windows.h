@@ -2,19 +2,10 @@
 #ifndef WINDOWS_H
 #define WINDOWS_H
 
-#include <stdio.h>
-
 #include "calls.h"
 
 // Six numbers stand before the list: year, month and day of the reading, and of today.
 enum { DATES = 6 };
-
-#define SO(claim) ((claim) ? (void)0 : not_so(#claim, __LINE__))
-
-static inline void not_so(const char *claim, int line) {
-    fprintf(stderr, "windows.h:%d: not so: %s\n", line, claim);
-    abort();
-}
 
 static inline uint64_t set_by_age(const uint32_t *dates, const uint32_t *list, size_t words, const uint8_t *table, size_t bytes, uint8_t *out, size_t room) {
     return vierskof_apply_windows(list, words, dates[0], dates[1], dates[2], dates[3], dates[4], dates[5], table, bytes, out, room);

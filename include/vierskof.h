@@ -44,19 +44,24 @@ enum {
     VIERSKOF_SET_NUMBERS = 16,     /* a set of facts, fact 0 the top bit of the first number */
     VIERSKOF_REGISTER_WORDS = 512, /* the longest register of sheets, two words an entry */
     VIERSKOF_NO_SHEET = 65536,     /* in the place of a sheet's number: none */
-    VIERSKOF_WINDOWS = 32          /* the most windows of a list */
+    VIERSKOF_WINDOWS = 32,         /* the most windows of a list */
+    VIERSKOF_TIGHT_BYTES = 65536   /* the most bytes that are unpacked */
 };
 
 /* An output of so many words is room enough for the calls on a sheet of `words` words and on what comes of it. */
 #define VIERSKOF_ROOM(words) (3 * (size_t)(words) + 513)
 
+/* An output of so many bytes is room enough for the tight form of `words` words: it is never longer than four bytes a word. */
+#define VIERSKOF_TIGHT_ROOM(words) (4 * (size_t)(words))
+
 /* Why a call is turned back. Of several causes a call names the first in this order: 1, 2, then 3 and 4 from fact 0 on,
    then 5 to 8 from the first word on, then 10, then 16, then 17, then 11. 9 is not used. A register has 15 alone. A join has an order of
-   its own: 2 in either table, 3 in either, 14, then 11; for windows it is 12, 13, 3, 11. Later versions may have further
-   numbers. */
+   its own: 2 in either table, 3 in either, 14, then 11; for windows it is 12, 13, 3, 11. Packing has 1, then 5 to 8 from the
+   first word on, then 10, then 11. Unpacking has 1; then field by field 19 if the bits end before it is complete, 5 or 8 for
+   its value and, right after a kind, 7; then 20; then 11. Later versions may have further numbers. */
 enum vierskof_cause {
     VIERSKOF_ACCEPTED = 0,
-    VIERSKOF_REFUSED_LENGTH = 1,            /* the sheet or record has no word, or too many */
+    VIERSKOF_REFUSED_LENGTH = 1,            /* the sheet or record has no word or too many, or a tight form over 65,536 bytes */
     VIERSKOF_REFUSED_TABLE_LENGTH = 2,      /* the fact table has more than 256 bytes */
     VIERSKOF_REFUSED_TABLE_FIELD = 3,       /* a field of the table is 3, which is no presence */
     VIERSKOF_REFUSED_UNKNOWN_FACT = 4,      /* a fact is Unknown, where evaluating or completing needs all */
@@ -71,7 +76,9 @@ enum vierskof_cause {
     VIERSKOF_REFUSED_CLASH = 14,            /* a fact is Present in one of two joined tables and Absent in the other */
     VIERSKOF_REFUSED_REGISTER = 15,         /* the words are no register of sheets */
     VIERSKOF_REFUSED_SHEET_NUMBER = 16,     /* the record is of another sheet, or the number is one that no record carries */
-    VIERSKOF_REFUSED_CONTRADICTION = 17     /* a narrowing's table has as Present what the record consulted as Absent, or the reverse */
+    VIERSKOF_REFUSED_CONTRADICTION = 17,    /* a narrowing's table has as Present what the record consulted as Absent, or the reverse */
+    VIERSKOF_REFUSED_BITS_END = 19,         /* the bits of a tight form end before a field is complete */
+    VIERSKOF_REFUSED_FILLER = 20            /* a tight form's last byte isn't filled with 0 bits, or a byte follows, 0 too */
 };
 
 /* The number of the refusal, 0 when the call was accepted; and the call's value. */
@@ -144,6 +151,20 @@ uint64_t vierskof_join_tables(const uint8_t *one, size_t one_bytes, const uint8_
 uint64_t vierskof_apply_windows(const uint32_t *windows, size_t words, uint32_t year, uint32_t month, uint32_t day,
                                 uint32_t today_year, uint32_t today_month, uint32_t today_day, const uint8_t *facts,
                                 size_t bytes, uint8_t *VIERSKOF_RESTRICT out, size_t room);
+
+/* The tight form of a sheet or of a record, for a narrow link: one run of bits, most significant first, every field of the
+   words in order without zero fields and unused tails; an absent label, reason or denied outcome is one bit; the last byte is
+   filled with 0 bits. Value: the bytes written. VIERSKOF_TIGHT_ROOM of the words is room enough. `out` doesn't overlap the
+   words. */
+uint64_t vierskof_pack_sheet(const uint32_t *sheet, size_t words, uint8_t *VIERSKOF_RESTRICT out, size_t room);
+uint64_t vierskof_pack_record(const uint32_t *record, size_t words, uint8_t *VIERSKOF_RESTRICT out, size_t room);
+
+/* The words of a tight form. Value: the words written. Packed words come back the same, and bytes that are accepted are those
+   that their words are packed as. More words than a sheet or record has are refused by 11, as too small an output is:
+   VIERSKOF_SHEET_WORDS or VIERSKOF_RECORD_WORDS are room enough. A run doesn't say whether it is a sheet or a record, but its
+   first four bits are 14 or 15 in a record alone. `out` doesn't overlap the bytes. */
+uint64_t vierskof_unpack_sheet(const uint8_t *bytes, size_t count, uint32_t *VIERSKOF_RESTRICT out, size_t room);
+uint64_t vierskof_unpack_record(const uint8_t *bytes, size_t count, uint32_t *VIERSKOF_RESTRICT out, size_t room);
 
 /*
  * Readers of a record that a call wrote or accepted. They judge nothing; of other words they say something or other, but

@@ -2,3 +2,4 @@ pub mod Original
 pub mod Narrowing
 pub mod InOrder
 pub mod Agree
+pub mod TightLimits

@@ -64,7 +64,7 @@ module _ (W : List ℕ) (d : ℕ) (enough : min 32 (length W) ≤ d) where
           let ok = h .it in
           let few-words = deep t in
           fine (ap (readPolicy res d) (sym (e .it))
-          ∙ back-T InRange (productSets .number) (productSets .value) (writtenProducts .small) (writtenProducts .again) t res d rest (omega (arith, few-words, ok .1, ok .2)) (ok .0) (ok .3))
+          ∙ back-T InRange Few (productSets .number) (productSets .value) (writtenProducts .small) (writtenProducts .again) t res d rest (omega (arith, few-words, ok .1, ok .2)) (ok .0) (ok .3))
 
   levels-by : (res few : Bool) → leb (length W) 4096 ≡ few → d ≤ 32 → Holds (λ t rest. readPolicy res d W ≡ got t rest) (readPolicy res 32 W)
   levels-by res true is most = levels-within res (leb-true (length W) 4096 is)

@@ -91,7 +91,7 @@ module _ (width : ℕ) where
   pub joined-split : (n w : ℕ) → joined width (suc n) (split width (suc n) w) ≡ w
   joined-split n w = ap (λ x. w / 2 ^ (width * n) * 2 ^ (width * n) + x) (joined-split-below n (w % 2 ^ (width * n)) (mod-lt w (pow-pos (width * n)))) ∙ div-add-mod' w (2 ^ (width * n))
 
-  joined-padded : (n : ℕ) (vs : List ℕ) → joined width n (padded n vs) ≡ joined width n vs
+  pub joined-padded : (n : ℕ) (vs : List ℕ) → joined width n (padded n vs) ≡ joined width n vs
   joined-padded zero vs = refl
   joined-padded (suc n) [] = ap (λ x. 0 * 2 ^ (width * n) + x) (joined-padded n [] ∙ joined-nil width n) ∙ omega arith
   joined-padded (suc n) (v ∷ vs) = ap (λ x. v * 2 ^ (width * n) + x) (joined-padded n vs)

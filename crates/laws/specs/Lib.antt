@@ -32,3 +32,10 @@ pub mod Overlap
 pub mod OverlapLaws
 pub mod FieldSetLaws
 pub mod Former
+pub mod BitLaws
+pub mod TightConditions
+pub mod TightBack
+pub mod TightRead
+pub mod TightRecords
+pub mod TightTrips
+pub mod TightNumbers

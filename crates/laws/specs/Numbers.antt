@@ -26,9 +26,13 @@ use Rattle.model.specs.Calls.{Answer, refusal, wrote, unlessLong, unlessFault, 
 abbrev pub Cause : ℕ → Type 0
 Cause n = (1 ≤ n) × (n ≤ 11) × (n ≡ 9 → ⊥)
 
--- What reads, or is refused with a number of the table.
+-- Those that reading gives: 1, 5, 6, 7, 8 and 10.
+abbrev pub Reads : ℕ → Type 0
+Reads n = (1 ≤ n) × (n ≤ 10) × (n ≡ 9 → ⊥) × (n ≡ 2 → ⊥) × (n ≡ 3 → ⊥) × (n ≡ 4 → ⊥)
+
+-- What reads, or is refused with such a number.
 abbrev pub Numbered : {A : Type 0} → Parsed A → Type 0
-Numbered (refuse n) = Cause n
+Numbered (refuse n) = Reads n
 Numbered (got a ws) = Unit {0}
 
 -- ---- steps of reading
@@ -40,27 +44,27 @@ made-numbered : {A B : Type 0} (p : Parsed A) (f : A → B) → Numbered p → N
 made-numbered (refuse n) f h = h
 made-numbered (got a ws) f h = tt
 
-unless-numbered : {A : Type 0} (b : Bool) (n : ℕ) (p : Parsed A) → Cause n → Numbered p → Numbered (unless b n p)
+unless-numbered : {A : Type 0} (b : Bool) (n : ℕ) (p : Parsed A) → Reads n → Numbered p → Numbered (unless b n p)
 unless-numbered true n p c h = h
 unless-numbered false n p c h = c
 
-one : Cause 1
-one = (omega arith, omega arith, λ e. omega arith)
+one : Reads 1
+one = (omega arith, omega arith, (λ e. omega arith), (λ e. omega arith), (λ e. omega arith), λ e. omega arith)
 
-five : Cause 5
-five = (omega arith, omega arith, λ e. omega arith)
+five : Reads 5
+five = (omega arith, omega arith, (λ e. omega arith), (λ e. omega arith), (λ e. omega arith), λ e. omega arith)
 
-six : Cause 6
-six = (omega arith, omega arith, λ e. omega arith)
+six : Reads 6
+six = (omega arith, omega arith, (λ e. omega arith), (λ e. omega arith), (λ e. omega arith), λ e. omega arith)
 
-seven : Cause 7
-seven = (omega arith, omega arith, λ e. omega arith)
+seven : Reads 7
+seven = (omega arith, omega arith, (λ e. omega arith), (λ e. omega arith), (λ e. omega arith), λ e. omega arith)
 
-eight : Cause 8
-eight = (omega arith, omega arith, λ e. omega arith)
+eight : Reads 8
+eight = (omega arith, omega arith, (λ e. omega arith), (λ e. omega arith), (λ e. omega arith), λ e. omega arith)
 
-ten : Cause 10
-ten = (omega arith, omega arith, λ e. omega arith)
+ten : Reads 10
+ten = (omega arith, omega arith, (λ e. omega arith), (λ e. omega arith), (λ e. omega arith), λ e. omega arith)
 
 plain-numbered : {A : Type 0} (r : ℕ) (p : Parsed A) → Numbered p → Numbered (plain r p)
 plain-numbered r p h = unless-numbered (eqb r 0) 8 p eight h
@@ -84,7 +88,7 @@ many-numbered nil cons p h (suc n) ws =
 
 -- ---- lists of fields
 abbrev Kept : {A : Type 0} → Fields A → Type 0
-Kept (bad n) = Cause n
+Kept (bad n) = Reads n
 Kept (ok xs n) = Unit {0}
 
 module _ {A : Type 0} (chk : List A → ℕ → Parsed A) (sound : (xs : List A) (b : ℕ) → Numbered (chk xs b)) where
@@ -347,6 +351,9 @@ table-faulty k bs = by (leb (length bs) tableBytes)
     by false = (omega arith, omega arith, λ e. omega arith)
 
 -- ---- the calls: a number of the table, or one besides
+read-cause : (n : ℕ) → Reads n → Cause n
+read-cause n h = (h .0, omega (arith, h .1), h .2)
+
 abbrev pub Told : (ℕ → Type 0) → Answer → Type 0
 Told Besides (refusal n) = Cause n ⊎ Besides n
 Told Besides (wrote ws) = Unit {0}
@@ -361,14 +368,14 @@ OtherOrContradicted n = OtherNumber n ⊎ (n ≡ 17)
 module _ (Besides : ℕ → Type 0) where
   long-told : (b : Bool) (a : Answer) → Told Besides a → Told Besides (unlessLong b a)
   long-told true a h = h
-  long-told false a h = inl one
+  long-told false a h = inl (read-cause 1 one)
 
   fault-told : (o : Option ℕ) (a : Answer) → Faulty o → Told Besides a → Told Besides (unlessFault o a)
   fault-told none a h g = g
   fault-told (some n) a h g = inl h
 
   read-told : {A : Type 0} (p : Parsed A) (k : A → Answer) → Numbered p → ((a : A) → Told Besides (k a)) → Told Besides (onRead p k)
-  read-told (refuse n) k h g = inl h
+  read-told (refuse n) k h g = inl (read-cause n h)
   read-told (got a ws) k h g = g a
 
   other-told : (b : Bool) (a : Answer) → Besides 16 → Told Besides a → Told Besides (unlessOther b a)

@@ -23,14 +23,14 @@ use Rattle.laws.specs.FieldAt.{Narrow}
 use Rattle.laws.specs.FieldLaws.{Passes, back-list}
 use Rattle.laws.specs.FieldAtLaws.{narrow-below, presence-few, seen-back, narrow-entries}
 use Rattle.laws.specs.Size.{IsSheet, SheetIf, SheetsIf}
-use Rattle.laws.specs.Form.{FormC, FormCs, IfThere, FormL, Countable, FormP, FormN, FormD, FormG, FormOf, FormsOf, Few, depthC, depthCs, depth, depths}
+use Rattle.laws.specs.Form.{FormC, FormCs, IfThere, FormL, Countable, FormP, FormN, FormD, FormG, FormOf, FormsOf, depthC, depthCs, depth, depths}
 use Rattle.laws.specs.ReadForm.{Named}
 
 -- ---- tests
 unless-is : {A : Type 0} {b : Bool} (n : ℕ) (p : Parsed A) → b ≡ true → unless b n p ≡ p
 unless-is n p e = ap (λ x. unless x n p) e
 
-both-is : (a b : Bool) → a ≡ true → b ≡ true → (a && b) ≡ true
+pub both-is : (a b : Bool) → a ≡ true → b ≡ true → (a && b) ≡ true
 both-is a b p q = rw (p, q)
 
 -- ---- a word's kind and its other number
@@ -133,8 +133,8 @@ pub shape-small : (s : Shape) → shapeBit s ≤ 1
 shape-small forbidden = omega arith
 shape-small hidden = omega arith
 
--- ---- policies. `number` writes an outcome in 16 number, `value` reads it.
-module _ {O : Type 0} (G : O → Type 0) (number : O → ℕ) (value : ℕ → Option O)
+-- ---- policies. `number` writes an outcome in 16 bits, `value` reads it; B says what is asked of a grant's condition, and nothing here needs it.
+module _ {O : Type 0} (G : O → Type 0) (B : Condition → Type 0) (number : O → ℕ) (value : ℕ → Option O)
     (small : (o : O) → G o → number o < 65536) (again : (o : O) → G o → value (number o) ≡ some o) where
   outcome-back : {A : Type 0} (o : O) → G o → (k : O → Parsed A) → outcomeOf value (value (number o)) k ≡ k o
   outcome-back o h k = ap (λ x. outcomeOf value x k) (again o h)
@@ -305,7 +305,7 @@ module _ {O : Type 0} (G : O → Type 0) (number : O → ℕ) (value : ℕ → O
   rest-if false t ts s = s .1
 
   mutual
-    pub back-T : (t : Policy O) (res : Bool) (d : ℕ) (ws : List ℕ) → depth t ≤ d → FormOf G Few Countable t → SheetIf res t → readPolicy value res d (encode number t ++ ws) ≡ got t ws
+    pub back-T : (t : Policy O) (res : Bool) (d : ℕ) (ws : List ℕ) → depth t ≤ d → FormOf G B Countable t → SheetIf res t → readPolicy value res d (encode number t ++ ws) ≡ got t ws
     back-T (permit o) res zero ws h f s = let z : ⊥ = omega arith in absurd z
     back-T (permit o) res (suc d) ws h f s =
         let so = small o f in
@@ -346,7 +346,7 @@ module _ {O : Type 0} (G : O → Type 0) (number : O → ℕ) (value : ℕ → O
     back-T (stored e) true (suc d) ws h f s = back-D d e ws f
     back-T (stored e) false (suc d) ws h f s = absurd s
 
-    back-Ts : (ts : Policies O) (res : Bool) (d : ℕ) (ws : List ℕ) → depths ts ≤ d → FormsOf G Few Countable ts → SheetsIf res ts → many pnil pcons (λ vs. readPolicy value res d vs) (count ts) (encodes number ts ++ ws) ≡ got ts ws
+    back-Ts : (ts : Policies O) (res : Bool) (d : ℕ) (ws : List ℕ) → depths ts ≤ d → FormsOf G B Countable ts → SheetsIf res ts → many pnil pcons (λ vs. readPolicy value res d vs) (count ts) (encodes number ts ++ ws) ≡ got ts ws
     back-Ts pnil res d ws h f s = refl
     back-Ts (pcons t ts) res d ws h f s =
         ap (λ vs. many pnil pcons (λ us. readPolicy value res d us) (suc (count ts)) vs) (append-assoc (encode number t) (encodes number ts) ws)
@@ -354,7 +354,7 @@ module _ {O : Type 0} (G : O → Type 0) (number : O → ℕ) (value : ℕ → O
         ∙ ap (λ q. next q (λ xs us. got (pcons t xs) us)) (back-Ts ts res d ws (omega arith) (f .1) (rest-if res t ts s))
 
   -- A sheet of good form is read back from its words.
-  pub back-sheet : (t : Policy O) → IsSheet t → FormOf G Few Countable t → depth t ≤ 32 → length (encode number t) ≤ 4096 → 1 ≤ length (encode number t) → readSheet value (encode number t) ≡ got t []
+  pub back-sheet : (t : Policy O) → IsSheet t → FormOf G B Countable t → depth t ≤ 32 → length (encode number t) ≤ 4096 → 1 ≤ length (encode number t) → readSheet value (encode number t) ≡ got t []
   back-sheet t s f d k m =
       unless-is 1 (whole (readPolicy value false 32 (encode number t))) (both-is (leb 1 (length (encode number t))) (leb (length (encode number t)) 4096) (le-leb 1 (length (encode number t)) m) (le-leb (length (encode number t)) 4096 k))
       ∙ ap (λ us. whole (readPolicy value false 32 us)) (sym (append-nil (encode number t)))
@@ -402,7 +402,7 @@ module _ {O : Type 0} (G : O → Type 0) (number : O → ℕ) (value : ℕ → O
       let many : (k * 268435456 + length es) % 4096 ≡ length es = omega arith in
       λ i. word (kind i) (sheet * 4096 + many i) ∷ (pack entryBits (map entryField es) ++ encode number (asResidual b))
 
-  back-lead : (sheet : ℕ) → sheet < 65536 → (b : ReducedPolicy O) (es : Consulted) (ws : List ℕ) → length es < 4096 → Named es → FormOf G Few Countable (asResidual b) → depth (asResidual b) ≤ 32
+  back-lead : (sheet : ℕ) → sheet < 65536 → (b : ReducedPolicy O) (es : Consulted) (ws : List ℕ) → length es < 4096 → Named es → FormOf G B Countable (asResidual b) → depth (asResidual b) ≤ 32
       → readLead value (word (leadKind number b) (sheet * 4096 + length es) ∷ ((pack entryBits (map entryField es) ++ encode number (asResidual b)) ++ ws)) ≡ got (record { body = b; log = es }) ws
   back-lead sheet s (resolved e) es ws n f g h =
       lead-word 14 (sheet * 4096 + length es) ((pack entryBits (map entryField es) ++ encodeD number e) ++ ws) (omega arith)
@@ -412,7 +412,7 @@ module _ {O : Type 0} (G : O → Type 0) (number : O → ℕ) (value : ℕ → O
       ∙ back-rest (parse15 value) (pending t) es (encode number t) ws n f (ap (λ q. next q (λ x us. got (pending x) us)) (back-T t true 32 ws h g tt)) sheet
 
   -- A record of good form is read back from its words under a sheet's number, and the number is that one.
-  pub back-R : (sheet : ℕ) → sheet < 65536 → (r : Record O) → length (r .log) < 4096 → Named (r .log) → FormOf G Few Countable (tree r) → depth (tree r) ≤ 32 → length (encodeR number r) ≤ 16384
+  pub back-R : (sheet : ℕ) → sheet < 65536 → (r : Record O) → length (r .log) < 4096 → Named (r .log) → FormOf G B Countable (tree r) → depth (tree r) ≤ 32 → length (encodeR number r) ≤ 16384
       → readRecord value (numbered sheet (encodeR number r)) ≡ got r []
   back-R sheet s r n f g h k =
       let ws = numbered sheet (encodeR number r) in

@@ -101,7 +101,7 @@ named-end [] e h k = (k, tt)
 named-end (x ∷ es) e h k = (h .0, named-end es e (h .1) k)
 
 -- A presence is written as the number that it was read from.
-seen-field : (k : ℕ) → k < presenceCount → presenceField (seenIn k) ≡ k
+pub seen-field : (k : ℕ) → k < presenceCount → presenceField (seenIn k) ≡ k
 seen-field zero h = refl
 seen-field (suc zero) h = refl
 seen-field (suc (suc zero)) h = refl
@@ -312,7 +312,7 @@ module _ {O : Type 0} (G : O → Type 0) (value : ℕ → Option O) (sound : (n 
 
   -- A sheet has no node 12, so whatever is asked of one holds.
   mutual
-    sheet-form : (B : Condition → Type 0) (R S : List ℕ → Type 0) (t : Policy O) → IsSheet t → FormOf G B R t → FormOf G B S t
+    pub sheet-form : (B : Condition → Type 0) (R S : List ℕ → Type 0) (t : Policy O) → IsSheet t → FormOf G B R t → FormOf G B S t
     sheet-form B R S (permit o) s f = f
     sheet-form B R S deny s f = f
     sheet-form B R S (grant g c) s f = f

@@ -27,3 +27,6 @@ pub mod WorkedWindows
 pub mod WorkedRepeats
 pub mod WorkedSilence
 pub mod WorkedContradictions
+pub mod Bits
+pub mod Tight
+pub mod WorkedTight

@@ -1008,7 +1008,7 @@ fn facts_at(words: &[u32], at: usize) -> usize
 }
 
 // The words of the node at `at` itself after its first one. A condition has none.
-fn own_of(words: &[u32], at: usize) -> usize
+pub fn own_of(words: &[u32], at: usize) -> usize
     requires { ⌜ at < length (now words) ⌝ }
     ensures own { λ r. ⌜ r ≡ ownOf (getD (now (words .entry)) at 0) (drop (at + 1) (now (words .entry))) ⌝ }
     ensures few { λ r. ⌜ r ≤ 4096 ⌝ }

@@ -24,7 +24,7 @@ use Rattle.laws.specs.FieldLaws.{Holds}
 use Rattle.laws.specs.Each.{Each, Agrees}
 use Rattle.laws.specs.Names.{each-of, of-each}
 use Rattle.laws.specs.Numbers.{Faulty, table-faulty}
-use Rattle.laws.specs.Form.{FewRepeats, FormD, Form, Forms, depth}
+use Rattle.laws.specs.Form.{Few, FewRepeats, FormD, Form, Forms, depth}
 use Rattle.laws.specs.FormLaws.{few-countable, countable-form}
 use Rattle.laws.specs.Lengths.{length-encodeR, length-numbered}
 use Rattle.laws.specs.ReadBack.{back-R, back-number}
@@ -164,7 +164,7 @@ module _ (L : Outcomes) (G : L .O → Type 0) (codec : Written L G) where
       few-words r h = ap (λ n. leb 1 n && leb n 16384) (length-numbered number (encodeR (L .number) r)) ∙ few r h
 
       number-back : (r : Record (L .O)) → sheetNumber (wordsOf r) ≡ number
-      number-back r = back-number G (L .number) (L .value) (codec .small) (codec .again) number small r
+      number-back r = back-number G Few (L .number) (L .value) (codec .small) (codec .again) number small r
 
       back : (r : Record (L .O)) → Within r → readRecord (L .value) (wordsOf r) ≡ got r []
       back r h =
@@ -172,7 +172,7 @@ module _ (L : Outcomes) (G : L .O → Type 0) (codec : Written L G) where
           let n = within-words r h in
           let m = good .4 in
           let e = good .2 in
-          back-R G (L .number) (L .value) (codec .small) (codec .again) number small r (omega (arith, log-length (r .log) (h .consulted))) (facts-of (r .log) (h .consulted .1)) (countable-form G (tree r) (h .form)) (y .nested) (omega arith)
+          back-R G Few (L .number) (L .value) (codec .small) (codec .again) number small r (omega (arith, log-length (r .log) (h .consulted))) (facts-of (r .log) (h .consulted .1)) (countable-form G (tree r) (h .form)) (y .nested) (omega arith)
 
       -- ---- calls on such a record, and on the sheet
       called-on-record : (fault : Option ℕ) (k : Record (L .O) → Answer) (r : Record (L .O)) → Within r

@@ -10,6 +10,8 @@ ghost use Rattle.model.specs.Partial.{permitsFirst, sheetOrder};
 ghost use Rattle.model.specs.Register.{sheetInForce};
 ghost use Rattle.model.specs.Join.{joinTables};
 ghost use Rattle.model.specs.Windows.{applyWindows};
+ghost use Rattle.model.specs.Outcome.{productSets};
+ghost use Rattle.model.specs.Tight.{packSheet, packRecord, unpackSheet, unpackRecord};
 ghost use mathlib.Core.Path.{_≡_};
 ghost use lib.ListN.{length};
 ghost use Rattle.answer.specs.Answers.{numberOf as Answer·numberOf, writtenOf};
@@ -216,4 +218,36 @@ pub extern "C" fn vierskof_apply_windows(
         day: today_day,
     };
     written(windows::apply_windows(windows, reading, today, facts, out))
+}
+
+// Packs a sheet in the tight form, and writes the bytes.
+#[no_mangle]
+pub extern "C" fn vierskof_pack_sheet(sheet: &[u32], out: &mut [u8]) -> u64
+    ensures { λ r. ⌜ Writes (packSheet productSets (now (sheet .entry)) (length (now (out .entry)))) (now (out .entry)) (now (out .exit)) r ⌝ }
+{
+    written(pack::pack_sheet(sheet, out))
+}
+
+// Packs a record.
+#[no_mangle]
+pub extern "C" fn vierskof_pack_record(residual: &[u32], out: &mut [u8]) -> u64
+    ensures { λ r. ⌜ Writes (packRecord productSets (now (residual .entry)) (length (now (out .entry)))) (now (out .entry)) (now (out .exit)) r ⌝ }
+{
+    written(pack::pack_record(residual, out))
+}
+
+// Unpacks a sheet, and writes its words.
+#[no_mangle]
+pub extern "C" fn vierskof_unpack_sheet(bytes: &[u8], out: &mut [u32]) -> u64
+    ensures { λ r. ⌜ Writes (unpackSheet productSets (now (bytes .entry)) (length (now (out .entry)))) (now (out .entry)) (now (out .exit)) r ⌝ }
+{
+    written(unpack::unpack_sheet(bytes, out))
+}
+
+// Unpacks a record.
+#[no_mangle]
+pub extern "C" fn vierskof_unpack_record(bytes: &[u8], out: &mut [u32]) -> u64
+    ensures { λ r. ⌜ Writes (unpackRecord productSets (now (bytes .entry)) (length (now (out .entry)))) (now (out .entry)) (now (out .exit)) r ⌝ }
+{
+    written(unpack::unpack_record(bytes, out))
 }

@@ -4,17 +4,20 @@
 //! twice. `original` is its function alone: its policy and facts are made beforehand, and its answer
 //! is dropped. `from words` is the original for the same job, with the comparison's reader before it
 //! and the comparison's writer after it. `1,365 by 256` is an Any of 1,365 grants on fact 0 with a
-//! table of 256 bytes. Windows, which the original lacks, stand beside the comparison's own call.
+//! table of 256 bytes. Windows and the tight form, which the original lacks, stand beside the
+//! comparison's own calls.
 
 mod calls;
 mod join;
 mod sheets;
+mod tight;
 mod timing;
 mod windows;
 
 use calls::CALLS;
 use compare::words::TABLE_BYTES;
 use sheets::Sheet;
+use tight::Scene;
 use timing::Timed;
 
 fn main() {
@@ -33,6 +36,7 @@ fn main() {
     registers();
     joins();
     by_windows();
+    tight_forms();
     growth("words", &sheets::lengths());
     growth("levels", &sheets::depths());
 }
@@ -148,6 +152,31 @@ fn by_windows() {
             "{count:>24} {proved:>14.0} {own:>10.0} {:>7.4}",
             proved / own
         );
+    }
+}
+
+/// Words packed and unpacked, and the time of a word as sheets grow.
+fn tight_forms() {
+    println!(
+        "\nnanoseconds a call that packs or unpacks, beside the comparison's own, and nanoseconds a word; the bars are 80 for three words, 15 a word packed, 25 a word unpacked, and 1 for the ratio\n"
+    );
+    println!(
+        "{:10} {:>14} {:>6} {:>6} {:>10} {:>7} {:>10} {:>7}",
+        "call", "words of", "words", "bytes", "proved", "a word", "own", "ratio"
+    );
+    let call: fn(&Scene) -> [f64; 2] = Scene::packed;
+    for (name, call) in [("pack", call), ("unpack", Scene::unpacked)] {
+        for scene in tight::scenes().into_iter().chain(tight::lengths()) {
+            let [proved, own] = call(&scene);
+            println!(
+                "{name:10} {:>14} {:>6} {:>6} {proved:>10.0} {:>7.2} {own:>10.0} {:>7.3}",
+                scene.name,
+                scene.words.len(),
+                scene.bytes(),
+                scene.a_word(proved),
+                proved / own
+            );
+        }
     }
 }
 

@@ -81,6 +81,16 @@ Example:
   echo 'open 6 0..90 days' |
     vierskof window --reading 2026-08-17 --today 2026-11-15")]
     Window(Windowed),
+    /// Packs a sheet or a record into its tight form, for a narrow link.
+    #[command(after_help = "\
+Example:
+  vierskof pack licence.txt > licence.tight")]
+    Pack(Packed),
+    /// Gives the sheet or record of a tight form.
+    #[command(after_help = "\
+Example:
+  vierskof unpack licence.tight")]
+    Unpack(Unpacked),
 }
 
 /// Where words come from.
@@ -205,6 +215,39 @@ pub struct Windowed {
     /// The form of the table that is written.
     #[arg(long, value_name = "FORM", default_value = "facts")]
     pub to: windows::TableForm,
+}
+
+/// A document to be packed.
+#[derive(Args, Debug)]
+pub struct Packed {
+    /// What is packed.
+    #[command(flatten)]
+    pub input: Input,
+    /// Writes two hexadecimal digits a byte, in place of the bytes.
+    #[arg(long)]
+    pub hex: bool,
+}
+
+/// A tight form.
+#[derive(Args, Debug)]
+pub struct Unpacked {
+    /// The tight form's file, its bytes taken as they are; - is standard input.
+    #[arg(default_value = "-")]
+    pub file: PathBuf,
+    /// Takes what is in the file for hexadecimal digits, two a byte; white space may stand between.
+    #[arg(long)]
+    pub hex: bool,
+    /// Takes the bytes for a sheet.
+    ///
+    /// Without --sheet or --record they are a record if their first four bits are 14 or 15, with which no sheet begins, and a sheet if not.
+    #[arg(long, conflicts_with = "record")]
+    pub sheet: bool,
+    /// Takes the bytes for a record.
+    #[arg(long)]
+    pub record: bool,
+    /// The form that is written.
+    #[arg(long, value_name = "FORM", default_value = "text")]
+    pub to: Form,
 }
 
 /// The facts about a request, in one of three ways.

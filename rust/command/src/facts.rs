@@ -31,12 +31,7 @@ impl TableForm {
         let mut text = String::new();
         match self {
             Self::Binary => return table.to_vec(),
-            Self::Hex => {
-                for byte in table {
-                    let _ = write!(text, "{byte:02X}");
-                }
-                text.push('\n');
-            }
+            Self::Hex => text = digits(table),
             Self::Facts => {
                 for (fact, field) in fields(table).enumerate() {
                     let presence = [Presence::Absent, Presence::Present, Presence::Unknown];
@@ -112,6 +107,15 @@ pub fn clash(one: &[u8], two: &[u8]) -> Option<usize> {
     let readings = |table| fields(table).chain(iter::repeat(0));
     let mut pairs = facts.zip(readings(one).zip(readings(two)));
     pairs.find_map(|(fact, (one, two))| (one < 2 && two < 2 && one != two).then_some(fact))
+}
+
+/// A line of two hexadecimal digits a byte.
+pub fn digits(bytes: &[u8]) -> String {
+    let mut text = String::new();
+    for byte in bytes {
+        let _ = write!(text, "{byte:02X}");
+    }
+    text + "\n"
 }
 
 /// Bytes of two hexadecimal digits each; white space between them may be left out.

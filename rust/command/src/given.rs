@@ -158,16 +158,7 @@ impl Given {
     /// that cause too, and a shorter one because it ends.
     fn stops(&self, refusal: Refusal, due: Due) -> usize {
         let same = |words: &[u32]| judged(words, due).err() == Some(refusal);
-        let (mut shorter, mut refused) = (0, self.words.len());
-        while refused - shorter > 1 {
-            let middle = usize::midpoint(shorter, refused);
-            if same(&self.words[..middle]) {
-                refused = middle;
-            } else {
-                shorter = middle;
-            }
-        }
-        shorter
+        last_of_shortest(self.words.len(), |length| same(&self.words[..length]))
     }
 
     /// A word in a message: its line, or its number and digits.
@@ -177,6 +168,20 @@ impl Given {
             None => format!("word {}, {:08X}", at + 1, self.words[at]),
         }
     }
+}
+
+/// The place of the last item of the shortest beginning that is refused, of so many items; every longer one is refused as well.
+pub fn last_of_shortest(length: usize, is_refused: impl Fn(usize) -> bool) -> usize {
+    let (mut shorter, mut refused) = (0, length);
+    while refused - shorter > 1 {
+        let middle = usize::midpoint(shorter, refused);
+        if is_refused(middle) {
+            refused = middle;
+        } else {
+            shorter = middle;
+        }
+    }
+    shorter
 }
 
 /// What the proved reader says of words.

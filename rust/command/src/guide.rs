@@ -90,6 +90,13 @@ Windows
   open, in whatever order the windows stand. The command window sets the facts
   of a table by such a list.
 
+The tight form
+  For a narrow link the command pack makes one run of bits of a sheet or a
+  record, without the words' unused bits and with one bit for what is absent:
+  often about half of the words' bytes, and never more of them. The command
+  unpack gives the same words again, which is proved; no other command takes
+  the tight form.
+
 The road in four commands
   Two relays join their tables: one knows that fact 6 is absent, the other
   that fact 8 is. With what both know the sheet is reduced, the district

@@ -16,5 +16,6 @@ pub mod guide;
 pub mod numbers;
 pub mod register;
 pub mod text;
+pub mod tight;
 pub mod windows;
 pub mod work;

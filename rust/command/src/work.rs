@@ -6,13 +6,16 @@ use std::io::Read;
 use std::path::Path;
 
 use vierskof::read::{Decision, Record};
-use vierskof::{Presence, RECORD_WORDS, Refusal, TABLE_BYTES};
+use vierskof::{Presence, RECORD_WORDS, Refusal, TABLE_BYTES, tight_room};
 
-use crate::arguments::{Arguments, Asked, Call, Command, Facts, Input, Join, Reduction, Windowed};
+use crate::arguments::{
+    Arguments, Asked, Call, Command, Facts, Input, Join, Packed, Reduction, Unpacked, Windowed,
+};
 use crate::document::Document;
 use crate::facts;
 use crate::form::Form;
 use crate::given::{Due, Given, bytes_of, open};
+use crate::tight::{self, Tight};
 use crate::windows::{self, List};
 
 /// Why there is no answer.
@@ -100,6 +103,8 @@ pub fn run(arguments: &Arguments, stdin: impl Read) -> Result<Done, Failure> {
         Command::InForce(asked) => in_force(asked, stdin),
         Command::Join(tables) => join(tables),
         Command::Window(windowed) => window(windowed, stdin),
+        Command::Pack(packed) => pack(packed, stdin),
+        Command::Unpack(unpacked) => unpack(unpacked, stdin),
     }
 }
 
@@ -217,6 +222,42 @@ fn window(windowed: &Windowed, stdin: impl Read) -> Result<Done, Failure> {
         windowed.to,
         &windowed.facts.facts,
     )))
+}
+
+fn pack(packed: &Packed, stdin: impl Read) -> Result<Done, Failure> {
+    let given = Given::read(&packed.input, stdin)?;
+    let call = tight::packing(&given.words);
+    let mut out = vec![0; tight_room(given.words.len())];
+    let bytes = call(&given.words, &mut out);
+    let bytes = bytes.map_err(|refusal| given.refused(refusal, Due::Either))?;
+    Ok(Done::plainly(if packed.hex {
+        facts::digits(bytes).into_bytes()
+    } else {
+        bytes.to_vec()
+    }))
+}
+
+fn unpack(unpacked: &Unpacked, stdin: impl Read) -> Result<Done, Failure> {
+    let (name, bytes) = bytes_of(&unpacked.file, stdin);
+    let named = |message: &str| Failure::Usage(format!("{name}: {message}"));
+    let mut bytes = bytes.map_err(|message| named(&message))?;
+    if unpacked.hex {
+        let text = String::from_utf8_lossy(&bytes);
+        bytes = facts::bytes(&text).map_err(named)?.0;
+    }
+    let told = unpacked.sheet || unpacked.record;
+    let record = if told {
+        unpacked.record
+    } else {
+        tight::begins_record(&bytes)
+    };
+    let form = Tight { bytes, record };
+    let words = form.unpack().map_err(|refusal| match form.mistaken() {
+        Some(mistaken) if !unpacked.hex => named(mistaken),
+        _ => Failure::Refused(refusal, form.place(refusal)),
+    })?;
+    let document = Document::read(&words).map_err(|refusal| Failure::Refused(refusal, None))?;
+    Ok(Done::plainly(unpacked.to.write(&document)))
 }
 
 fn table(facts: &Facts, rest: Presence) -> Result<Vec<u8>, Failure> {

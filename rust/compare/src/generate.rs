@@ -11,4 +11,5 @@ pub mod numbers;
 pub mod registers;
 pub mod rng;
 pub mod tables;
+pub mod tight;
 pub mod windows;

@@ -54,6 +54,13 @@ enum Command {
         #[command(flatten)]
         sample: Sample,
     },
+    /// Compares the proved calls on so many sheets and records, and on as many tight forms, drawn and damaged, with the comparison's own, there and back, and shows
+    /// the first case in which they differ.
+    #[cfg(feature = "proved")]
+    Tight {
+        #[command(flatten)]
+        sample: Sample,
+    },
     /// Compares the proved call on windows, each list in two orders, with the comparison's own, and shows the first case in which they differ.
     #[cfg(feature = "proved")]
     Windows {
@@ -200,6 +207,8 @@ fn main() -> io::Result<()> {
         #[cfg(feature = "proved")]
         Command::Registers { sample } => registers(&sample),
         #[cfg(feature = "proved")]
+        Command::Tight { sample } => tight(&sample),
+        #[cfg(feature = "proved")]
         Command::Windows { sample } => windows(&sample),
     }
 }
@@ -269,6 +278,41 @@ fn registers(sample: &Sample) -> io::Result<()> {
     }
     println!(
         "{} registers, seed {}: no difference",
+        sample.count, sample.seed
+    );
+    Ok(())
+}
+
+/// Packed, unpacked, and how many were refused by each cause.
+#[cfg(feature = "proved")]
+fn tight(sample: &Sample) -> io::Result<()> {
+    use std::collections::BTreeMap;
+
+    use compare::generate::tight::{packings, unpackings};
+    use compare::proved::{packs, unpacks};
+    use compare::refusal::Refusal;
+
+    let differs = |case: String| io::Error::other(format!("differs: {case}"));
+    let (mut packed, mut unpacked) = (BTreeMap::new(), BTreeMap::new());
+    let count = |answers: &mut BTreeMap<u8, usize>, refused: Option<Refusal>| {
+        *answers
+            .entry(refused.map_or(0, Refusal::number))
+            .or_default() += 1;
+    };
+    for packing in packings(sample.seed, sample.count) {
+        if !packs(&packing) {
+            return Err(differs(format!("{packing:X?}")));
+        }
+        count(&mut packed, packing.answer().err());
+    }
+    for unpacking in unpackings(sample.seed, sample.count) {
+        if !unpacks(&unpacking) {
+            return Err(differs(format!("{unpacking:X?}")));
+        }
+        count(&mut unpacked, unpacking.answer().err());
+    }
+    println!(
+        "{} packed and {0} unpacked, seed {}: no difference; accepted (0) and refused by number: {packed:?} and {unpacked:?}",
         sample.count, sample.seed
     );
     Ok(())

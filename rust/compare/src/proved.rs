@@ -7,6 +7,7 @@ use crate::join::Join;
 use crate::narrow::Order;
 use crate::refusal::Refusal;
 use crate::register::Question;
+use crate::tight::{Kind, Packing, Unpacking};
 use crate::windows;
 use crate::words::read::sheet_number;
 use crate::words::write::numbered;
@@ -140,6 +141,43 @@ pub fn joins(join: &Join) -> bool {
     }
 }
 
+/// Whether the proved call packs words as the comparison's own does, and leaves what it must; and whether the same words come back. The form of accepted words
+/// has four bytes a word at most.
+pub fn packs(packing: &Packing) -> bool {
+    let Packing { kind, words, room } = packing;
+    let before: Vec<u8> = (0xC3..=0xFF).cycle().take(*room).collect();
+    let mut out = before.clone();
+    let found = packed(*kind, words, &mut out).map(<[u8]>::to_vec);
+    match packing.answer() {
+        Ok(bytes) => {
+            found.as_ref() == Ok(&bytes)
+                && out[..bytes.len()] == bytes[..]
+                && out[bytes.len()..] == before[bytes.len()..]
+                && bytes.len() <= vierskof::tight_room(words.len())
+                && unpacked(*kind, &bytes, &mut vec![0; words.len()]) == Ok(words)
+        }
+        Err(refusal) => refused(&found, refusal) && out == before,
+    }
+}
+
+/// Whether the proved call unpacks bytes as the comparison's own does, and leaves what it must; and whether the words are packed as the same bytes.
+pub fn unpacks(unpacking: &Unpacking) -> bool {
+    let Unpacking { kind, bytes, room } = unpacking;
+    // Words that no sheet or record has at these places.
+    let before: Vec<u32> = (0x0F0F_0F0F..).take(*room).collect();
+    let mut out = before.clone();
+    let found = unpacked(*kind, bytes, &mut out).map(<[u32]>::to_vec);
+    match unpacking.answer() {
+        Ok(words) => {
+            found.as_ref() == Ok(&words)
+                && out[..words.len()] == words[..]
+                && out[words.len()..] == before[words.len()..]
+                && packed(*kind, &words, &mut vec![0; bytes.len()]) == Ok(bytes)
+        }
+        Err(refusal) => refused(&found, refusal) && out == before,
+    }
+}
+
 fn requires(
     case: &Case,
     expected: &Result<Answer, Refusal>,
@@ -181,6 +219,30 @@ pub fn sets_as(case: &windows::Case) -> bool {
                 && out[bytes.len()..] == before[bytes.len()..]
         }
         Err(refusal) => refused(&found, refusal) && out == before,
+    }
+}
+
+/// The proved call that packs words of this kind.
+pub fn packed<'o>(
+    kind: Kind,
+    words: &[u32],
+    out: &'o mut [u8],
+) -> Result<&'o [u8], vierskof::Refusal> {
+    match kind {
+        Kind::Sheet => vierskof::pack_sheet(words, out),
+        Kind::Record => vierskof::pack_record(words, out),
+    }
+}
+
+/// The proved call that unpacks bytes of this kind.
+pub fn unpacked<'o>(
+    kind: Kind,
+    bytes: &[u8],
+    out: &'o mut [u32],
+) -> Result<&'o [u32], vierskof::Refusal> {
+    match kind {
+        Kind::Sheet => vierskof::unpack_sheet(bytes, out),
+        Kind::Record => vierskof::unpack_record(bytes, out),
     }
 }
 

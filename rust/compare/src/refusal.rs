@@ -36,6 +36,10 @@ pub enum Refusal {
     SheetNumber = 16,
     /// A narrowing's table has as Present what the record consulted as Absent, or the reverse.
     Contradiction = 17,
+    /// The bits of a tight form end before a field is complete.
+    BitsEnd = 19,
+    /// The last byte of a tight form isn't filled with 0 bits, or a byte follows.
+    Filler = 20,
 }
 
 impl Refusal {

@@ -5,7 +5,9 @@ use std::slice;
 use compare::case::{Answer, Call, Case};
 use compare::join::Join;
 use compare::reference::{FactSet, evaluate};
+use compare::refusal::Refusal;
 use compare::register::Question;
+use compare::tight::{Kind, Packing, Unpacking};
 use compare::words::tree::{Decided, Record};
 use compare::words::{RECORD_WORDS, read};
 
@@ -131,10 +133,67 @@ pub unsafe extern "C" fn judge_join(
         )
     };
     let (one, two) = (one.to_vec(), two.to_vec());
-    match (Join { one, two, room }).answer() {
-        Ok(bytes) => {
-            out[..bytes.len()].copy_from_slice(&bytes);
-            bytes.len() as u64
+    returned((Join { one, two, room }).answer(), out)
+}
+
+/// Packs a sheet or a record as the C interface does, and leaves in `out` what it leaves.
+///
+/// # Safety
+///
+/// As for [`judge_answer`].
+#[unsafe(no_mangle)]
+pub unsafe extern "C" fn judge_pack(
+    record: bool,
+    words: *const u32,
+    count: usize,
+    out: *mut u8,
+    room: usize,
+) -> u64 {
+    // SAFETY: what the caller has to see to.
+    let (words, out) = unsafe {
+        (
+            slice::from_raw_parts(words, count),
+            slice::from_raw_parts_mut(out, room),
+        )
+    };
+    let (kind, words) = (kind(record), words.to_vec());
+    returned(Packing { kind, words, room }.answer(), out)
+}
+
+/// Unpacks a tight form as the C interface does, and leaves in `out` what it leaves.
+///
+/// # Safety
+///
+/// As for [`judge_answer`].
+#[unsafe(no_mangle)]
+pub unsafe extern "C" fn judge_unpack(
+    record: bool,
+    bytes: *const u8,
+    count: usize,
+    out: *mut u32,
+    room: usize,
+) -> u64 {
+    // SAFETY: what the caller has to see to.
+    let (bytes, out) = unsafe {
+        (
+            slice::from_raw_parts(bytes, count),
+            slice::from_raw_parts_mut(out, room),
+        )
+    };
+    let (kind, bytes) = (kind(record), bytes.to_vec());
+    returned(Unpacking { kind, bytes, room }.answer(), out)
+}
+
+const fn kind(record: bool) -> Kind {
+    if record { Kind::Record } else { Kind::Sheet }
+}
+
+/// What a call returns that writes this into `out`, or is turned back.
+fn returned<T: Copy>(answer: Result<Vec<T>, Refusal>, out: &mut [T]) -> u64 {
+    match answer {
+        Ok(written) => {
+            out[..written.len()].copy_from_slice(&written);
+            written.len() as u64
         }
         Err(refusal) => u64::from(refusal.number()) << 32,
     }

@@ -67,6 +67,34 @@ macro_rules! joins {
     };
 }
 
+/// Calls that pack: words and an output of bytes. The value is the count of bytes written.
+macro_rules! packs {
+    ($($call:ident = $symbol:ident;)*) => {
+        unsafe extern "C" {
+            $(fn $symbol(words: *const u32, count: usize, out: *mut u8, room: usize) -> u64;)*
+        }
+        $(pub fn $call(words: &[u32], out: &mut [u8]) -> u64 {
+            let room = out.len();
+            // SAFETY: as for the calls that write.
+            unsafe { $symbol(words.as_ptr(), words.len(), out.as_mut_ptr(), room) }
+        })*
+    };
+}
+
+/// Calls that unpack: bytes and an output of words. The value is the count of words written.
+macro_rules! unpacks {
+    ($($call:ident = $symbol:ident;)*) => {
+        unsafe extern "C" {
+            $(fn $symbol(bytes: *const u8, count: usize, out: *mut u32, room: usize) -> u64;)*
+        }
+        $(pub fn $call(bytes: &[u8], out: &mut [u32]) -> u64 {
+            let room = out.len();
+            // SAFETY: as for the calls that write.
+            unsafe { $symbol(bytes.as_ptr(), bytes.len(), out.as_mut_ptr(), room) }
+        })*
+    };
+}
+
 /// Calls that name facts: words and sixteen numbers. The value is the count of facts.
 macro_rules! names {
     ($($call:ident = $symbol:ident;)*) => {
@@ -104,6 +132,16 @@ writes! {
 
 joins! {
     join_tables = vierskof_join_tables;
+}
+
+packs! {
+    pack_sheet = vierskof_pack_sheet;
+    pack_record = vierskof_pack_record;
+}
+
+unpacks! {
+    unpack_sheet = vierskof_unpack_sheet;
+    unpack_record = vierskof_unpack_record;
 }
 
 names! {

@@ -365,6 +365,106 @@ pub fn apply_windows<'o>(
     written(c::apply_windows(windows, reading, today, facts, out), out)
 }
 
+/// Packs a sheet for a narrow link: its tight form is the first bytes of `out`.
+///
+/// The tight form is one run of bits, most significant first: every field of the words in order, without zero fields and unused tails. An absent label,
+/// reason or denied outcome takes one bit, and the last byte is filled with 0 bits. [`unpack_sheet`] gives the same words again.
+///
+/// Later bytes of `out` are left as they were, and so is all of it when the call is refused.
+///
+/// # Errors
+///
+/// [`Refusal::Length`], the causes that words have, [`Refusal::Kind`] to [`Refusal::WordsAfterTree`], and [`Refusal::Room`]. The last doesn't come with an
+/// output of [`tight_room`](crate::tight_room) bytes.
+///
+/// # Examples
+///
+/// ```
+/// // Twelve bytes of words in six.
+/// let sheet = [0x8800_0003, 0x0000_0000, 0x2000_0005];
+/// let mut bytes = [0; vierskof::tight_room(3)];
+/// let tight = vierskof::pack_sheet(&sheet, &mut bytes)?;
+/// assert_eq!(tight, [0x88, 0x00, 0x00, 0x30, 0x80, 0x50]);
+///
+/// let mut words = [0; vierskof::SHEET_WORDS];
+/// assert_eq!(vierskof::unpack_sheet(tight, &mut words)?, sheet);
+/// # Ok::<(), vierskof::Refusal>(())
+/// ```
+pub fn pack_sheet<'o>(sheet: &[u32], out: &'o mut [u8]) -> Result<&'o [u8], Refusal> {
+    written(c::pack_sheet(sheet, out), out)
+}
+
+/// Packs a record, of any sheet, as [`pack_sheet`] does a sheet: the number of its sheet, the consulted entries and its tree.
+///
+/// # Errors
+///
+/// Those of [`pack_sheet`].
+///
+/// # Examples
+///
+/// ```
+/// let record = [0xE000_7001, 0x4005_0000, 0xC000_0003, 0x0000_0001, 0x0005_0000];
+/// let mut bytes = [0; vierskof::tight_room(5)];
+/// let tight = vierskof::pack_record(&record, &mut bytes)?;
+/// assert_eq!(tight.len(), 12);
+///
+/// let mut words = [0; 5];
+/// assert_eq!(vierskof::unpack_record(tight, &mut words)?, record);
+/// # Ok::<(), vierskof::Refusal>(())
+/// ```
+pub fn pack_record<'o>(record: &[u32], out: &'o mut [u8]) -> Result<&'o [u8], Refusal> {
+    written(c::pack_record(record, out), out)
+}
+
+/// Unpacks the tight form of a sheet: its words are the first ones of `out`.
+///
+/// Bytes that are accepted are those that [`pack_sheet`] makes of the words. An output of [`SHEET_WORDS`](crate::SHEET_WORDS) is room enough for every sheet.
+/// Later words of `out` are left as they were, and so is all of it when the call is refused.
+///
+/// A run of bytes doesn't say whether it is a sheet or a record, but the first four bits of a record are 14 or 15, and those of a sheet aren't.
+///
+/// # Errors
+///
+/// [`Refusal::Length`] for more than [`TIGHT_BYTES`](crate::TIGHT_BYTES); then, field by field, [`Refusal::BitsEnd`] if it isn't complete, and
+/// [`Refusal::Kind`], [`Refusal::Level`] or [`Refusal::Field`] for what it holds; then [`Refusal::Filler`]; then [`Refusal::Room`], for more words than a
+/// sheet can have as for too short an output.
+///
+/// # Examples
+///
+/// ```
+/// use vierskof::Refusal;
+///
+/// let mut words = [0; vierskof::SHEET_WORDS];
+/// assert_eq!(vierskof::unpack_sheet(&[0x60, 0x00, 0x10], &mut words)?, [0x6000_0001]);
+/// let refused = |bytes: &[u8]| vierskof::unpack_sheet(bytes, &mut [0; 8]).unwrap_err();
+/// assert_eq!(refused(&[0x60, 0x00]), Refusal::BitsEnd);
+/// assert_eq!(refused(&[0x60, 0x00, 0x11]), Refusal::Filler);
+/// assert_eq!(refused(&[0x60, 0x00, 0x10, 0x00]), Refusal::Filler);
+/// # Ok::<(), Refusal>(())
+/// ```
+pub fn unpack_sheet<'o>(bytes: &[u8], out: &'o mut [u32]) -> Result<&'o [u32], Refusal> {
+    written(c::unpack_sheet(bytes, out), out)
+}
+
+/// Unpacks the tight form of a record, as [`unpack_sheet`] does that of a sheet. An output of [`RECORD_WORDS`](crate::RECORD_WORDS) is room enough.
+///
+/// # Errors
+///
+/// Those of [`unpack_sheet`].
+///
+/// # Examples
+///
+/// ```
+/// // Pending, of no sheet's number, and nothing consulted: a Deny.
+/// let mut words = [0; 2];
+/// let record = vierskof::unpack_record(&[0xF0, 0x00, 0x00, 0x00, 0x70], &mut words)?;
+/// assert_eq!(record, [0xF000_0000, 0x7000_0000]);
+/// # Ok::<(), vierskof::Refusal>(())
+/// ```
+pub fn unpack_record<'o>(bytes: &[u8], out: &'o mut [u32]) -> Result<&'o [u32], Refusal> {
+    written(c::unpack_record(bytes, out), out)
+}
+
 /// The words or bytes written.
 fn written<T>(returned: u64, out: &mut [T]) -> Result<&[T], Refusal> {
     let count = value(returned)? as usize;

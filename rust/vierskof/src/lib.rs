@@ -9,8 +9,8 @@
 //! words, fact tables are bytes, and each call writes its record into an output that its caller
 //! lends. [`build`] makes a sheet's words, [`read`] gives words back as typed values, and
 //! [`FactTable`] holds what is known. [`in_force`] tells which sheet of a register rules for a group
-//! on a day, [`join_tables`] makes one table of two, and [`apply_windows`] sets facts by the age of a
-//! reading.
+//! on a day, [`join_tables`] makes one table of two, [`apply_windows`] sets facts by the age of a
+//! reading, and [`pack_sheet`] and [`pack_record`] make a tight form for a narrow link.
 //!
 //! No call blocks, allocates, keeps state or panics, and none needs more than 256 KiB of stack: on a
 //! thread with less, a deep or long sheet may overflow it. Calls on separate outputs may run at the
@@ -161,8 +161,9 @@ pub mod read;
 
 pub use calls::{
     apply_windows, carries_obligation, complete_residual, evaluate, is_deny_constant,
-    is_permit_constant, join_tables, narrow_residual, narrow_residual_in_order, partial_evaluate,
-    partial_evaluate_in_order, required_facts, required_residual_facts,
+    is_permit_constant, join_tables, narrow_residual, narrow_residual_in_order, pack_record,
+    pack_sheet, partial_evaluate, partial_evaluate_in_order, required_facts,
+    required_residual_facts, unpack_record, unpack_sheet,
 };
 pub use facts::{FactSet, FactSetIter, FactTable, Presence};
 pub use numbers::{Fact, Label, Obligation, OutOfRange, Reason};
@@ -190,6 +191,8 @@ pub const TRACE_OBLIGATIONS: usize = 127;
 pub const REGISTER_WORDS: usize = 512;
 /// The most windows of one list.
 pub const WINDOWS: usize = 32;
+/// The most bytes that are unpacked.
+pub const TIGHT_BYTES: usize = 65_536;
 
 /// An output that is room enough for every call on a sheet of so many words and on the records that come of it.
 ///
@@ -201,4 +204,14 @@ pub const WINDOWS: usize = 32;
 #[must_use]
 pub const fn room(sheet_words: usize) -> usize {
     sheet_words.saturating_mul(3).saturating_add(513)
+}
+
+/// An output, in bytes, that is room enough for the tight form of so many words: four bytes a word, which it is proved never to be longer than.
+///
+/// ```
+/// assert_eq!(vierskof::tight_room(vierskof::RECORD_WORDS), vierskof::TIGHT_BYTES);
+/// ```
+#[must_use]
+pub const fn tight_room(words: usize) -> usize {
+    words.saturating_mul(4)
 }

@@ -12,7 +12,8 @@ use crate::OutOfRange;
 /// then what follows them, then a record's number, then, of a narrowing, whether the table contradicts
 /// the record, then the room. A register has one cause alone. A join looks at both
 /// lengths, both tables' fields, whether they clash, then the room. For windows it is the dates,
-/// the list, the table, the room.
+/// the list, the table, the room. Unpacking looks at the length of the bytes, then at each field,
+/// whether it is complete and then what it holds, then at the filler, then at the room.
 ///
 /// ```
 /// use vierskof::Refusal;
@@ -27,7 +28,7 @@ use crate::OutOfRange;
 #[non_exhaustive]
 #[repr(u32)]
 pub enum Refusal {
-    /// A sheet is 1 to 4,096 words long, a record 1 to 16,384.
+    /// A sheet is 1 to 4,096 words long, a record 1 to 16,384, and a tight form at most 65,536 bytes.
     Length = 1,
     /// A table is at most 256 bytes long.
     TableLength = 2,
@@ -45,7 +46,7 @@ pub enum Refusal {
     Field = 8,
     /// There are words after the tree.
     WordsAfterTree = 10,
-    /// The result is longer than the output; or it is a record over 16,384 words, or with a list of over 4,095 facts or 127 obligations.
+    /// The result is longer than the output; or it is a sheet over 4,096 words, or a record over 16,384, or with a list of over 4,095 facts or 127 obligations.
     Room = 11,
     /// A date doesn't exist, or isn't of the years 1900 to 2199.
     Date = 12,
@@ -60,6 +61,10 @@ pub enum Refusal {
     SheetNumber = 16,
     /// A narrowing's table has a fact as Present that the record consulted as Absent, or the reverse.
     Contradiction = 17,
+    /// The bits of a tight form end before a field is complete.
+    BitsEnd = 19,
+    /// The last byte of a tight form isn't filled with 0 bits, or a byte follows, be it 0.
+    Filler = 20,
 }
 
 impl Refusal {
@@ -81,6 +86,8 @@ impl Refusal {
         Self::Register,
         Self::SheetNumber,
         Self::Contradiction,
+        Self::BitsEnd,
+        Self::Filler,
     ];
 
     /// The number of the cause.
@@ -109,6 +116,8 @@ impl Refusal {
             Self::Register => "the words are no register of sheets",
             Self::SheetNumber => "the record is not of the sheet that is expected",
             Self::Contradiction => "the table contradicts a reading that the record has",
+            Self::BitsEnd => "the bits end before a field is complete",
+            Self::Filler => "the last byte is not filled with 0 bits, or a byte follows",
         }
     }
 }

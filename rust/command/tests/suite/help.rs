@@ -10,9 +10,9 @@ use command::guide::ROAD;
 use super::{answer, folder};
 
 /// The subcommands, in an order in which each example finds the files that an earlier one wrote.
-const SUBCOMMANDS: [&str; 10] = [
+const SUBCOMMANDS: [&str; 12] = [
     "evaluate", "reduce", "narrow", "complete", "required", "show", "assemble", "in-force", "join",
-    "window",
+    "window", "pack", "unpack",
 ];
 
 /// Runs commands as they would be pasted into a shell, with this build's command on the path.
@@ -73,8 +73,9 @@ fn examples_of_the_subcommands() {
         &folder,
     );
     assert_eq!(decided(&completed), ["# Permit: products 0, 1, 2."]);
-    let assembled = shell("vierskof show licence.bin", &folder);
-    assert_eq!(assembled, shell("vierskof show licence.txt", &folder));
+    let shown = shell("vierskof show licence.txt", &folder);
+    assert_eq!(shell("vierskof show licence.bin", &folder), shown);
+    assert_eq!(shell("vierskof unpack licence.tight", &folder), shown);
 }
 
 #[test]
@@ -88,6 +89,7 @@ fn help_tells_of_each_subcommand_and_status() {
         "What a sheet is",
         "What a record is",
         "What a register is",
+        "The tight form",
     ] {
         assert!(help.contains(said), "{said}");
     }

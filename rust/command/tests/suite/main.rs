@@ -10,6 +10,7 @@ mod registers;
 mod run;
 mod show;
 mod statuses;
+mod tight;
 mod windows;
 
 use std::fs;

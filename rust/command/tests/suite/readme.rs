@@ -35,3 +35,18 @@ fn the_readme_sets_facts_by_age() {
     );
     assert!(said.contains("`6=absent,7=present`, and product 1 is permitted"));
 }
+
+/// A sheet packed, its size beside its words', and unpacked.
+#[test]
+fn the_readme_packs_a_sheet() {
+    let (_, example) = README
+        .split_once("## Over a narrow link")
+        .expect("a section");
+    let (_, example) = example.split_once("```sh\n").expect("an example");
+    let (typed, said) = example.split_once("```").expect("its end");
+    let shown = help::shell(&typed.replace("./run ", "vierskof "), &folder("packed"));
+    let lines: Vec<&str> = shown.lines().map(str::trim).collect();
+    assert_eq!(lines[..3], ["880000308050", "12", "6"]);
+    assert!(shown.ends_with("\ngrant 0003 hidden\n  has 5\n"), "{shown}");
+    assert!(said.contains("`880000308050`, the sizes 12 and 6, and the sheet again"));
+}

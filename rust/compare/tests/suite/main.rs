@@ -26,6 +26,7 @@ mod silence;
 #[cfg(feature = "proved")]
 mod sitting;
 mod stages;
+mod tight;
 #[cfg(feature = "proved")]
 mod typed;
 mod windows;

@@ -1,6 +1,9 @@
 //! The C header says what the crate says.
 
-use vierskof::{RECORD_WORDS, REGISTER_WORDS, Refusal, SHEET_WORDS, TABLE_BYTES, WINDOWS};
+use vierskof::{
+    RECORD_WORDS, REGISTER_WORDS, Refusal, SHEET_WORDS, TABLE_BYTES, TIGHT_BYTES, WINDOWS, room,
+    tight_room,
+};
 
 const HEADER: &str = include_str!("../../../../include/vierskof.h");
 
@@ -41,6 +44,7 @@ fn limits_and_version_are_the_same() {
     assert_eq!(number("VIERSKOF_REGISTER_WORDS"), REGISTER_WORDS);
     assert_eq!(number("VIERSKOF_NO_SHEET"), usize::from(u16::MAX) + 1);
     assert_eq!(number("VIERSKOF_WINDOWS"), WINDOWS);
+    assert_eq!(number("VIERSKOF_TIGHT_BYTES"), TIGHT_BYTES);
     let parts = ["MAJOR", "MINOR", "PATCH"];
     let parts = parts.map(|part| number(&format!("VIERSKOF_VERSION_{part}")).to_string());
     assert_eq!(parts.join("."), env!("CARGO_PKG_VERSION"));
@@ -48,11 +52,31 @@ fn limits_and_version_are_the_same() {
     assert!(HEADER.contains(&version));
 }
 
+/// The macros for outputs that are room enough, with a sheet's and a record's words in the place of their argument.
+#[test]
+fn rooms_are_the_same() {
+    for words in [0, 1, SHEET_WORDS, RECORD_WORDS] {
+        for (name, factor, more, found) in [
+            ("VIERSKOF_ROOM", 3, 513, room(words)),
+            ("VIERSKOF_TIGHT_ROOM", 4, 0, tight_room(words)),
+        ] {
+            let plus = if more > 0 {
+                format!(" + {more}")
+            } else {
+                String::new()
+            };
+            let line = format!("#define {name}(words) ({factor} * (size_t)(words){plus})\n");
+            assert!(HEADER.contains(&line), "{line}");
+            assert_eq!(found, factor * words + more);
+        }
+    }
+}
+
 /// An output is `restrict`, so that a compiler may tell of one that overlaps.
 #[test]
 fn each_output_is_restricted() {
     let calls: Vec<&str> = HEADER.split("\nuint64_t ").skip(1).collect();
-    assert_eq!(calls.len(), 14);
+    assert_eq!(calls.len(), 18);
     for call in calls {
         let (call, _) = call.split_once(");").expect("a prototype");
         let writes = call.contains(" out,") || call.contains(" set,");

@@ -9,6 +9,7 @@ mod linking;
 mod numbers;
 mod read;
 mod refusals;
+mod tight;
 mod windows;
 mod worked;
 

@@ -37,8 +37,19 @@ static inline void not_so(const char *claim, const char *file, int line) {
     abort();
 }
 
+// A call by an outcome table has this bit in its number, in stored answers and in inputs of the fuzzer. In front of the fact table, in its place, there stand
+// the count of levels, 32 bits, the bytes of the outcome table, 16 bits, and these bytes.
+enum { BY_LEVELS = 32, LEVELS_LEAD = 6 };
+
 // An input of the fuzzer begins with call, room and table bytes, as a stored answer does, and a sheet's number, of 32 bits.
 enum { SHEET_AT = 6, LEAD = 10 };
+
+// An outcome table.
+struct outcomes {
+    uint32_t levels;
+    uint8_t *table;
+    size_t bytes;
+};
 
 // What a call is given: a sheet's, a record's or a register's words, a sheet's number, a table, and the room of the output in words. A register is asked for
 // a group and a day, which stand in the table's place, four bytes each.
@@ -50,6 +61,8 @@ struct given {
     uint8_t *table;
     size_t bytes;
     size_t room;
+    // None for sets of products.
+    const struct outcomes *by;
 };
 
 static inline int writes(enum call call) {
@@ -123,8 +136,40 @@ static inline uint32_t group_of(const struct given *given) { return asked(given,
 
 static inline uint32_t day_of(const struct given *given) { return asked(given, 4); }
 
+// A table's bytes with an outcome table in front: takes that out of them. One that the bytes end before has as many as there are.
+static inline struct outcomes outcomes_in(struct given *given) {
+    size_t lead = given->bytes < LEVELS_LEAD ? given->bytes : LEVELS_LEAD, left = given->bytes - lead;
+    size_t told = lead == LEVELS_LEAD ? number_at(given->table + 4, 2) : 0, bytes = told < left ? told : left;
+    struct outcomes by = {lead == LEVELS_LEAD ? number_at(given->table, 4) : 0, copy(given->table + lead, bytes), bytes};
+    uint8_t *facts = copy(given->table + lead + bytes, left - bytes);
+    free(given->table);
+    given->table = facts;
+    given->bytes = left - bytes;
+    return by;
+}
+
+// What a call by an outcome table returns.
+static inline uint64_t returned_by(const struct given *given, uint32_t *out) {
+    uint32_t levels = given->by->levels, number = given->number;
+    const uint8_t *outcomes = given->by->table, *facts = given->table;
+    const uint32_t *words = given->words;
+    size_t outcome_bytes = given->by->bytes, count = given->count, bytes = given->bytes, room = given->room;
+    switch (given->call) {
+    case EVALUATE: return vierskof_evaluate_by_levels(levels, outcomes, outcome_bytes, words, count, number, facts, bytes, out, room);
+    case PARTIAL_EVALUATE: return vierskof_partial_evaluate_by_levels(levels, outcomes, outcome_bytes, words, count, number, facts, bytes, out, room);
+    case NARROW_RESIDUAL: return vierskof_narrow_residual_by_levels(levels, outcomes, outcome_bytes, words, count, number, facts, bytes, out, room);
+    case COMPLETE_RESIDUAL: return vierskof_complete_residual_by_levels(levels, outcomes, outcome_bytes, words, count, number, facts, bytes, out, room);
+    case PARTIAL_EVALUATE_IN_ORDER:
+        return vierskof_partial_evaluate_in_order_by_levels(levels, outcomes, outcome_bytes, words, count, number, facts, bytes, out, room);
+    case NARROW_RESIDUAL_IN_ORDER:
+        return vierskof_narrow_residual_in_order_by_levels(levels, outcomes, outcome_bytes, words, count, number, facts, bytes, out, room);
+    default: abort();
+    }
+}
+
 // What the call returns. `out` holds `out_bytes`.
 static inline uint64_t returned(const struct given *given, void *out) {
+    if (given->by && writes(given->call)) return returned_by(given, out);
     const uint32_t *words = given->words;
     size_t count = given->count;
     uint32_t number = given->number;

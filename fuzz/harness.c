@@ -1,6 +1,8 @@
 // The fuzzer's harness over the C interface. An input is a call, a room and a table's length, 16 bits each, a sheet's number, 32 bits, the table and the
-// words, a second table or a tight form, all most significant byte first; the numbers after the last call's are those of joins, windows, packing and unpacking.
-// Every claim holds of every input; one that doesn't ends the run.
+// words, a second table or a tight form, all most significant byte first; the numbers after the last call's are those of joins, windows, packing and unpacking,
+// and a bit of its own those of calls by an outcome table, which stands in front of the table. Every claim holds of every input; one that doesn't ends the run.
+#include <stdio.h>
+
 #include "calls.h"
 #include "tight.h"
 #include "windows.h"
@@ -45,7 +47,8 @@ static void in_range(const struct given *given, const struct answer *answer) {
     bool in_table = answer->number <= VIERSKOF_REFUSED_ROOM && answer->number != 9, no_register = answer->number == VIERSKOF_REFUSED_REGISTER;
     bool other_sheet = answer->number == VIERSKOF_REFUSED_SHEET_NUMBER && writes(given->call);
     bool against = answer->number == VIERSKOF_REFUSED_CONTRADICTION && narrows(given->call);
-    HOLDS(given->call == SHEET_IN_FORCE ? no_register || answer->number == 0 : in_table || other_sheet || against);
+    bool no_outcomes = answer->number == VIERSKOF_REFUSED_OUTCOME_TABLE && given->by && writes(given->call);
+    HOLDS(given->call == SHEET_IN_FORCE ? no_register || answer->number == 0 : in_table || other_sheet || against || no_outcomes);
     if (answer->number) {
         HOLDS(answer->value == 0);
     } else if (writes(given->call)) {
@@ -70,6 +73,12 @@ static struct answer call(struct given given, enum mark mark) {
     struct given own = given;
     own.words = copy(given.words, given.count * sizeof *given.words);
     own.table = copy(given.table, given.bytes);
+    struct outcomes by = {0};
+    if (given.by) {
+        by = *given.by;
+        by.table = copy(given.by->table, given.by->bytes);
+        own.by = &by;
+    }
     uint32_t *out = output(out_bytes(&given), mark);
     uint64_t told = returned(&own, out);
     struct answer answer = {(uint32_t)(told >> 32), (uint32_t)told, out};
@@ -80,6 +89,8 @@ static struct answer call(struct given given, enum mark mark) {
     HOLDS(!writes(given.call) || answer.number || vierskof_sheet_number(out, answer.value) == given.number);
     HOLDS(same(own.words, given.words, given.count * sizeof *given.words));
     HOLDS(same(own.table, given.table, given.bytes));
+    HOLDS(!given.by || same(by.table, given.by->table, by.bytes));
+    free(by.table);
     free(own.words);
     free(own.table);
     return answer;
@@ -103,28 +114,29 @@ static struct answer same_twice(struct given given) {
 }
 
 // The original, where it is linked: it answers as the C interface does.
-__attribute__((weak)) uint64_t judge_answer(size_t call, const uint32_t *words, size_t count, uint32_t number, const uint8_t *table, size_t bytes, uint32_t *out,
-                                            size_t room);
+__attribute__((weak)) uint64_t judge_answer(size_t call, const struct outcomes *by, const uint32_t *words, size_t count, uint32_t number, const uint8_t *table,
+                                            size_t bytes, uint32_t *out, size_t room);
 
 // The original returns the same, and would leave the same output.
 static void judged(struct given given, const struct answer *answer) {
     if (!judge_answer) return;
     size_t bytes = out_bytes(&given);
     uint32_t *out = output(bytes, FIRST);
-    uint64_t told = judge_answer(given.call, given.words, given.count, given.number, given.table, given.bytes, out, bytes / sizeof *out);
+    uint64_t told = judge_answer(given.call, given.by, given.words, given.count, given.number, given.table, given.bytes, out, bytes / sizeof *out);
     HOLDS(told == ((uint64_t)answer->number << 32 | answer->value));
     HOLDS(same(out, answer->out, bytes));
     free(out);
 }
 
 // Whether the original evaluates a sheet to the clause of a record, facts aside.
-__attribute__((weak)) bool judge_clause(const uint32_t *words, size_t count, const uint8_t *known, size_t bytes, const uint32_t *record, size_t length);
+__attribute__((weak)) bool judge_clause(const struct outcomes *by, const uint32_t *words, size_t count, const uint8_t *known, size_t bytes,
+                                        const uint32_t *record, size_t length);
 
 // ---- records
 
 // All calls that read only a record refuse the same ones for the same cause; the tree of a Resolved record is a permit or a deny, and no tree is both.
 static uint32_t as_record(const uint32_t *words, size_t count) {
-    struct given given = {REQUIRED_RESIDUAL_FACTS, (uint32_t *)words, count, 0, NULL, 0, 0};
+    struct given given = {REQUIRED_RESIDUAL_FACTS, (uint32_t *)words, count, 0, NULL, 0, 0, NULL};
     uint32_t number = number_of(given);
     uint32_t said[CALLS] = {0};
     for (given.call = IS_PERMIT_CONSTANT; given.call <= CARRIES_OBLIGATION; given.call++) {
@@ -143,7 +155,7 @@ static uint32_t as_record(const uint32_t *words, size_t count) {
 
 // The record that a call wrote, in a block of its own length: the calls that read records accept it.
 static struct given record_of(struct answer answer, size_t room) {
-    struct given record = {NARROW_RESIDUAL, copy(answer.out, answer.value * sizeof *answer.out), answer.value, 0, NULL, 0, room};
+    struct given record = {NARROW_RESIDUAL, copy(answer.out, answer.value * sizeof *answer.out), answer.value, 0, NULL, 0, room, NULL};
     record.number = vierskof_sheet_number(record.words, record.count);
     HOLDS(as_record(record.words, record.count) == 0);
     free(answer.out);
@@ -238,6 +250,7 @@ static int taken(struct given given, enum call which, const uint8_t *table, size
     HOLDS(against ? answer.number == VIERSKOF_REFUSED_CONTRADICTION : answer.number == 0 || answer.number == VIERSKOF_REFUSED_ROOM);
     if (answer.number == 0) {
         *record = record_of(answer, given.room);
+        record->by = given.by;
     } else {
         free(answer.out);
     }
@@ -265,7 +278,7 @@ static void ends_in_clause(struct given sheet, struct given record, const uint8_
     struct given completed;
     if (!judge_clause) return;
     HOLDS(taken(record, COMPLETE_RESIDUAL, known, sheet.bytes, &completed));
-    HOLDS(judge_clause(sheet.words, sheet.count, known, sheet.bytes, completed.words, completed.count));
+    HOLDS(judge_clause(sheet.by, sheet.words, sheet.count, known, sheet.bytes, completed.words, completed.count));
     free(completed.words);
 }
 
@@ -358,6 +371,54 @@ static void roads(struct given given, int sheet) {
     free(known);
 }
 
+// ---- levels
+
+static uint32_t meets(const struct outcomes *by, uint32_t one, uint32_t other) { return by->table[one * by->levels + other]; }
+
+static uint32_t joins(const struct outcomes *by, uint32_t one, uint32_t other) { return by->table[(by->levels + one) * by->levels + other]; }
+
+// Whether the table has levels alone, and operations that commute, associate and absorb each other.
+static bool is_lattice(const struct outcomes *by) {
+    uint32_t n = by->levels;
+    if (n < 1 || n > VIERSKOF_OUTCOME_LEVELS || by->bytes != 2 * (size_t)n * n) return false;
+    for (size_t i = 0; i < by->bytes; i++)
+        if (by->table[i] >= n) return false;
+    for (uint32_t a = 0; a < n; a++) {
+        for (uint32_t b = 0; b < n; b++) {
+            if (meets(by, a, b) != meets(by, b, a) || joins(by, a, b) != joins(by, b, a)) return false;
+            if (meets(by, a, joins(by, a, b)) != a || joins(by, a, meets(by, a, b)) != a) return false;
+            for (uint32_t c = 0; c < n; c++) {
+                if (meets(by, meets(by, a, b), c) != meets(by, a, meets(by, b, c))) return false;
+                if (joins(by, joins(by, a, b), c) != joins(by, a, joins(by, b, c))) return false;
+            }
+        }
+    }
+    return true;
+}
+
+// Why words are refused by levels, whatever the facts: with no facts, and with no room, for which all else would be refused.
+static uint32_t unread_by(struct given given, int sheet) {
+    given.call = sheet ? PARTIAL_EVALUATE : COMPLETE_RESIDUAL;
+    given.number = sheet ? 0 : vierskof_sheet_number(given.words, given.count);
+    given.bytes = given.room = 0;
+    uint32_t number = number_of(given);
+    return number == VIERSKOF_REFUSED_ROOM ? 0 : number;
+}
+
+// A table is refused exactly if it is no lattice, before all else: no words, and no room. What was written reads by the same table.
+static void by_levels(struct given given, const struct answer *answer) {
+    bool refused = answer->number == VIERSKOF_REFUSED_OUTCOME_TABLE;
+    HOLDS(refused == !is_lattice(given.by));
+    struct given none = given;
+    none.count = none.room = 0;
+    HOLDS(number_of(none) == (refused ? VIERSKOF_REFUSED_OUTCOME_TABLE : VIERSKOF_REFUSED_LENGTH));
+    if (answer->number) return;
+    struct given written = given;
+    written.words = answer->out;
+    written.count = answer->value;
+    HOLDS(unread_by(written, 0) == 0);
+}
+
 // ---- registers
 
 // The sheet in force is that of an entry that qualifies, and none is where no entry does. The order of the entries never matters.
@@ -448,6 +509,7 @@ static void hold(struct given given) {
         free(answer.out);
         return;
     }
+    if (given.by) by_levels(given, &answer);
     if (writes(given.call) && answer.number == 0) {
         tells_silence(given, &answer);
         free(record_of(answer, given.room).words);
@@ -457,7 +519,7 @@ static void hold(struct given given) {
     struct given facts = given;
     facts.call = REQUIRED_FACTS;
     int sheet = reads_sheet(given.call);
-    uint32_t number = sheet ? number_of(facts) : as_record(given.words, given.count);
+    uint32_t number = given.by ? unread_by(given, sheet) : sheet ? number_of(facts) : as_record(given.words, given.count);
     if (number == 0 && faultless(&given)) roads(given, sheet);
 }
 
@@ -501,7 +563,20 @@ static void hold_unpack(enum form form, const uint8_t *bytes, size_t count, size
 int LLVMFuzzerTestOneInput(const uint8_t *data, size_t size) {
     if (size < LEAD) return 0;
     size_t bytes = table_bytes(data, size), words = LEAD + bytes;
-    uint32_t input = number_at(data, 2) % INPUTS;
+    uint32_t number = number_at(data, 2), input = number % INPUTS;
+    if (number & BY_LEVELS) {
+        enum call which = writes(number % BY_LEVELS) ? number % BY_LEVELS : EVALUATE;
+        struct given given = {which, NULL, (size - words) / 4, number_at(data + SHEET_AT, 4), NULL, bytes, number_at(data + 2, 2), NULL};
+        given.table = copy(data + LEAD, bytes);
+        given.words = words_at(data + words, given.count);
+        struct outcomes by = outcomes_in(&given);
+        given.by = &by;
+        hold(given);
+        free(by.table);
+        free(given.table);
+        free(given.words);
+        return 0;
+    }
     if (input == JOIN_TABLES) {
         hold_join((struct join){(uint8_t *)data + LEAD, bytes, (uint8_t *)data + words, size - words, number_at(data + 2, 2)});
         return 0;
@@ -510,7 +585,7 @@ int LLVMFuzzerTestOneInput(const uint8_t *data, size_t size) {
         hold_unpack(input == UNPACK_SHEET ? SHEET_FORM : RECORD_FORM, data + words, size - words, number_at(data + 2, 2));
         return 0;
     }
-    struct given given = {input, NULL, (size - words) / 4, number_at(data + SHEET_AT, 4), NULL, bytes, number_at(data + 2, 2)};
+    struct given given = {input, NULL, (size - words) / 4, number_at(data + SHEET_AT, 4), NULL, bytes, number_at(data + 2, 2), NULL};
     given.table = copy(data + LEAD, bytes);
     given.words = words_at(data + words, given.count);
     if (input == APPLY_WINDOWS) {

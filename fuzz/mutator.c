@@ -283,10 +283,115 @@ static void change_windows(struct input *input, size_t words, size_t bytes, size
     }
 }
 
+// ---- levels
+
+// Whether a level is at most another: in a chain, among sets of four products, among three levels between two, and where two of these three are in a row.
+static int at_most(uint32_t kind, uint32_t one, uint32_t other) {
+    switch (kind) {
+    case 0: return one <= other;
+    case 1: return (one & other) == one;
+    default: return one == other || one == 0 || other == 4 || (kind == 3 && one == 1 && other == 2);
+    }
+}
+
+// The nearest bound of two levels: from below, or from above.
+static uint32_t bound(uint32_t kind, uint32_t levels, uint32_t one, uint32_t other, int above) {
+    uint32_t found = levels;
+    for (uint32_t level = 0; level < levels; level++) {
+        int bounds = above ? at_most(kind, one, level) && at_most(kind, other, level) : at_most(kind, level, one) && at_most(kind, level, other);
+        if (bounds && (found == levels || (above ? at_most(kind, level, found) : at_most(kind, found, level)))) found = level;
+    }
+    return found;
+}
+
+// Another outcome table, with two of its levels exchanged, and turned about now and then.
+static void other_levels(struct input *input, size_t bytes, size_t outcomes) {
+    uint32_t kind = draw(input, 4), levels = kind == 0 ? 1 + draw(input, 16) : kind == 1 ? 16 : 5;
+    uint32_t one = draw(input, levels), other = draw(input, levels), turned = draw(input, 2);
+    size_t square = (size_t)levels * levels;
+    cut(input, LEAD + LEVELS_LEAD, outcomes);
+    put(input->data + 4, (uint32_t)(bytes - outcomes), 2);
+    put(input->data + LEAD + 4, 0, 2);
+    if (!gap(input, LEAD + LEVELS_LEAD, 2 * square)) return;
+    put(input->data + 4, (uint32_t)(bytes - outcomes + 2 * square), 2);
+    put(input->data + LEAD, levels, 4);
+    put(input->data + LEAD + 4, (uint32_t)(2 * square), 2);
+    for (uint32_t a = 0; a < levels; a++) {
+        for (uint32_t b = 0; b < levels; b++) {
+            uint32_t from[] = {a == one ? other : a == other ? one : a, b == one ? other : b == other ? one : b};
+            for (uint32_t half = 0; half < 2; half++) {
+                uint32_t found = bound(kind, levels, from[0], from[1], (half ^ turned) != 0);
+                uint32_t named = found == one ? other : found == other ? one : found;
+                input->data[LEAD + LEVELS_LEAD + half * square + a * levels + b] = (uint8_t)named;
+            }
+        }
+    }
+}
+
+// A table's count, or a byte of it, or two, so that a damaged operation still commutes.
+static void damage_levels(struct input *input, size_t outcomes) {
+    uint32_t levels = number_at(input->data + LEAD, 4);
+    uint8_t *table = input->data + LEAD + LEVELS_LEAD;
+    if (outcomes == 0 || levels == 0 || levels > 16 || draw(input, 6) == 0) {
+        put(input->data + LEAD, draw(input, 8) ? draw(input, 19) : levels | 0x10000, 4);
+        return;
+    }
+    uint32_t one = draw(input, levels), other = draw(input, levels), half = draw(input, 2) * levels * levels;
+    uint8_t level = (uint8_t)draw(input, levels + !draw(input, 8));
+    if (half + one * levels + other < outcomes) table[half + one * levels + other] = level;
+    if (draw(input, 2) && half + other * levels + one < outcomes) table[half + other * levels + one] = level;
+}
+
+// A call by levels: another outcome table, or a damaged one, the facts behind it, another call, room or number, or a word. Most outcomes are levels.
+static void change_by_levels(struct input *input, size_t bytes, size_t words, size_t count) {
+    static const enum call calls[2][3] = {{NARROW_RESIDUAL, COMPLETE_RESIDUAL, NARROW_RESIDUAL_IN_ORDER}, {EVALUATE, PARTIAL_EVALUATE, PARTIAL_EVALUATE_IN_ORDER}};
+    if (bytes < LEVELS_LEAD) {
+        if (gap(input, LEAD + bytes, LEVELS_LEAD - bytes)) put(input->data + 4, LEVELS_LEAD, 2);
+        return;
+    }
+    size_t left = bytes - LEVELS_LEAD, told = number_at(input->data + LEAD + 4, 2), outcomes = told < left ? told : left;
+    enum call call = number_at(input->data, 2) % BY_LEVELS;
+    int sheet = !writes(call) || reads_sheet(call);
+    switch (draw(input, 12)) {
+    case 0: other_levels(input, bytes, outcomes); break;
+    case 1: damage_levels(input, outcomes); break;
+    case 2:
+        // A byte of the outcome table becomes the first of the facts, or the reverse.
+        put(input->data + LEAD + 4, (uint32_t)(draw(input, 2) ? outcomes + 1 : outcomes - (outcomes > 0)), 2);
+        break;
+    case 3:
+    case 4:
+        if (left > outcomes && draw(input, 4)) {
+            uint8_t *at = input->data + LEAD + LEVELS_LEAD + outcomes + draw(input, (uint32_t)(left - outcomes));
+            uint32_t shift = 2 * draw(input, 4);
+            *at = (uint8_t)((*at & ~(3U << shift)) | draw(input, 3) << shift);
+        } else if (gap(input, LEAD + bytes, 1)) {
+            put(input->data + 4, (uint32_t)bytes + 1, 2);
+        }
+        break;
+    case 5: {
+        int other = draw(input, 2) == 1;
+        uint32_t plain = lead_of(number_at(input->data + SHEET_AT, 4));
+        put(input->data, BY_LEVELS | calls[other][draw(input, 3)], 2);
+        if (sheet && !other) insert(input, words, plain);
+        if (!sheet && other && count && number_at(input->data + words, 4) == plain) cut(input, words, 4);
+        break;
+    }
+    case 6: put(input->data + 2, draw(input, draw(input, 2) ? 16 : 2000), 2); break;
+    case 7: change_number(input, words, sheet ? EVALUATE : COMPLETE_RESIDUAL); break;
+    default:
+        if (count) change_word(input, words + 4 * draw(input, (uint32_t)count), sheet);
+    }
+}
+
 size_t LLVMFuzzerCustomMutator(uint8_t *data, size_t size, size_t max, unsigned seed) {
     struct input input = {data, size, max, seed};
     if (size < LEAD || draw(&input, 4) == 0) return LLVMFuzzerMutate(data, size, max);
     size_t bytes = table_bytes(data, size), words = LEAD + bytes, count = (size - words) / 4;
+    if (number_at(data, 2) & BY_LEVELS) {
+        change_by_levels(&input, bytes, words, count);
+        return input.size;
+    }
     uint32_t number = number_at(data, 2) % INPUTS, change = draw(&input, 8);
     if (number == APPLY_WINDOWS && change) {
         change_windows(&input, words, bytes, count);

@@ -4,7 +4,7 @@
 // The sheet's number has 16 bits in a stored answer, where it is the last of the numbers.
 static void write_seed(const struct stored *stored, const char *name) {
     FILE *to = fopen(name, "wb");
-    size_t given = stored->given.bytes + 4 * stored->given.count;
+    size_t given = number_at(stored->at + 4, 2) + 4 * stored->given.count;
     uint8_t lead[LEAD] = {0};
     memcpy(lead, stored->at, SHEET_AT);
     memcpy(lead + LEAD - 2, stored->at + HEAD - 2, 2);
@@ -52,10 +52,39 @@ static void write_tight(const char *folder) {
     }
 }
 
+// Inputs by levels: the sheet of an Any of three levels that can't be compared, two of them on facts, of which the second is open; each of the six calls.
+static void write_levels(const char *folder) {
+    static const uint8_t table[] = {0, 0, 0, 5, 0, 50, 0, 0, 0, 0, 0, 0, 1, 0, 0, 1, 0, 0, 2, 0, 2, 0, 0, 0, 3, 3, 0, 1, 2, 3,    4,
+                                    0, 1, 2, 3, 4, 1,  1, 4, 4, 4, 2, 4, 2, 4, 4, 3, 4, 4, 3, 4, 4, 4, 4, 4, 4, 0, 0x24};
+    static const uint32_t list[] = {0xF0000000, 0xA0000003, 0x80000001, 0, 0x20000005, 0x80000002, 0, 0x20000006, 0x60000003};
+    static const enum call calls[] = {EVALUATE, PARTIAL_EVALUATE, PARTIAL_EVALUATE_IN_ORDER, NARROW_RESIDUAL, COMPLETE_RESIDUAL, NARROW_RESIDUAL_IN_ORDER};
+    for (size_t i = 0; i < sizeof calls / sizeof *calls; i++) {
+        char name[4096];
+        size_t first = reads_sheet(calls[i]) ? 1 : 0, count = sizeof list / sizeof *list;
+        uint8_t input[LEAD + sizeof table + sizeof list] = {0, (uint8_t)(BY_LEVELS | calls[i]), 2, 0, 0, sizeof table};
+        memcpy(input + LEAD, table, sizeof table);
+        // Evaluated and completed, both facts are Present.
+        if (calls[i] == EVALUATE || calls[i] == COMPLETE_RESIDUAL) input[LEAD + sizeof table - 1] = 0x14;
+        uint8_t *at = input + LEAD + sizeof table;
+        for (size_t k = first; k < count; k++, at += 4) {
+            uint32_t word = list[k];
+            for (size_t byte = 4; byte-- > 0; word >>= 8) at[byte] = (uint8_t)word;
+        }
+        snprintf(name, sizeof name, "%s/levels-%zu", folder, i);
+        FILE *to = fopen(name, "wb");
+        size_t size = (size_t)(at - input);
+        if (!to || fwrite(input, 1, size, to) != size || fclose(to)) {
+            perror(name);
+            exit(2);
+        }
+    }
+}
+
 int main(int words, char **word) {
     if (words != 3) return 2;
     write_windows(word[2]);
     write_tight(word[2]);
+    write_levels(word[2]);
     struct file file = stored_in(word[1]);
     struct stored stored;
     for (size_t place = 1; next_stored(&file, &stored); place++) {

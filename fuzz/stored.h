@@ -1,6 +1,6 @@
 // A file of stored answers: a line of text, then of each answer eight 16-bit numbers (call, room, table bytes, words, number, value, answer words, sheet
 // number), the table, the words, and the words that stand first in the output afterwards; all most significant byte first. A register's value, which 16
-// bits may not hold, is the one answer word.
+// bits may not hold, is the one answer word. A call by an outcome table has that in front of its table, as calls.h says.
 #ifndef STORED_H
 #define STORED_H
 
@@ -12,6 +12,8 @@ struct stored {
     // The call to its last given word.
     const uint8_t *at;
     struct given given;
+    // The outcome table that the call goes by, if it does.
+    struct outcomes by;
     uint32_t number;
     uint32_t value;
     uint32_t *answer;
@@ -57,19 +59,25 @@ static inline int next_stored(struct file *file, struct stored *stored) {
     }
     *stored = (struct stored){
         .at = at,
-        .given = {numbers[0], words_at(at + words, numbers[3]), numbers[3], numbers[7], copy(at + table, numbers[2]), numbers[2], numbers[1]},
+        .given = {numbers[0], words_at(at + words, numbers[3]), numbers[3], numbers[7], copy(at + table, numbers[2]), numbers[2], numbers[1], NULL},
         .number = numbers[4],
         .value = numbers[5],
         .answer = words_at(at + answer, numbers[6]),
         .answered = numbers[6],
     };
     file->at += end;
+    if (numbers[0] & BY_LEVELS) {
+        stored->given.call = numbers[0] % BY_LEVELS;
+        stored->by = outcomes_in(&stored->given);
+        stored->given.by = &stored->by;
+    }
     return 1;
 }
 
 static inline void drop_stored(struct stored *stored) {
     free(stored->given.table);
     free(stored->given.words);
+    free(stored->by.table);
     free(stored->answer);
 }
 

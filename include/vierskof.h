@@ -44,6 +44,7 @@ enum {
     VIERSKOF_SET_NUMBERS = 16,     /* a set of facts, fact 0 the top bit of the first number */
     VIERSKOF_REGISTER_WORDS = 512, /* the longest register of sheets, two words an entry */
     VIERSKOF_NO_SHEET = 65536,     /* in the place of a sheet's number: none */
+    VIERSKOF_OUTCOME_LEVELS = 16,  /* the most levels of an outcome table */
     VIERSKOF_WINDOWS = 32,         /* the most windows of a list */
     VIERSKOF_TIGHT_BYTES = 65536   /* the most bytes that are unpacked */
 };
@@ -54,7 +55,7 @@ enum {
 /* An output of so many bytes is room enough for the tight form of `words` words: it is never longer than four bytes a word. */
 #define VIERSKOF_TIGHT_ROOM(words) (4 * (size_t)(words))
 
-/* Why a call is turned back. Of several causes a call names the first in this order: 1, 2, then 3 and 4 from fact 0 on,
+/* Why a call is turned back. Of several causes a call names the first in this order: 21, 1, 2, then 3 and 4 from fact 0 on,
    then 5 to 8 from the first word on, then 10, then 16, then 17, then 11. 9 is not used. A register has 15 alone. A join has an order of
    its own: 2 in either table, 3 in either, 14, then 11; for windows it is 12, 13, 3, 11. Packing has 1, then 5 to 8 from the
    first word on, then 10, then 11. Unpacking has 1; then field by field 19 if the bits end before it is complete, 5 or 8 for
@@ -67,7 +68,7 @@ enum vierskof_cause {
     VIERSKOF_REFUSED_UNKNOWN_FACT = 4,      /* a fact is Unknown, where evaluating or completing needs all */
     VIERSKOF_REFUSED_KIND = 5,              /* a node's kind may not stand where it stands */
     VIERSKOF_REFUSED_WORDS_END = 6,         /* the words end before the record or tree is complete */
-    VIERSKOF_REFUSED_LEVEL = 7,             /* a node stands on a 33rd level */
+    VIERSKOF_REFUSED_LEVEL = 7,             /* a node is nested on a 33rd level; an outcome that is no level of a table is 8 */
     VIERSKOF_REFUSED_FIELD = 8,             /* a field holds a number that it may not hold */
     VIERSKOF_REFUSED_WORDS_AFTER_TREE = 10, /* there are words after the tree */
     VIERSKOF_REFUSED_ROOM = 11,             /* the result has no room in the output, or exceeds a limit */
@@ -78,7 +79,8 @@ enum vierskof_cause {
     VIERSKOF_REFUSED_SHEET_NUMBER = 16,     /* the record is of another sheet, or the number is one that no record carries */
     VIERSKOF_REFUSED_CONTRADICTION = 17,    /* a narrowing's table has as Present what the record consulted as Absent, or the reverse */
     VIERSKOF_REFUSED_BITS_END = 19,         /* the bits of a tight form end before a field is complete */
-    VIERSKOF_REFUSED_FILLER = 20            /* a tight form's last byte isn't filled with 0 bits, or a byte follows, 0 too */
+    VIERSKOF_REFUSED_FILLER = 20,           /* a tight form's last byte isn't filled with 0 bits, or a byte follows, 0 too */
+    VIERSKOF_REFUSED_OUTCOME_TABLE = 21     /* the outcome table is not accepted */
 };
 
 /* The number of the refusal, 0 when the call was accepted; and the call's value. */
@@ -118,6 +120,34 @@ uint64_t vierskof_narrow_residual_in_order(const uint32_t *record, size_t words,
    overlaps neither `record` nor `facts`. */
 uint64_t vierskof_complete_residual(const uint32_t *record, size_t words, uint32_t number, const uint8_t *facts, size_t bytes,
                                     uint32_t *VIERSKOF_RESTRICT out, size_t room);
+
+/* The same six by an outcome table: an outcome is then the number of a level, and no set of products. `levels` is 1 to 16;
+   `outcomes` has a byte for each ordered pair of levels, the first one slowest: the level in which the two meet, and after all
+   of these so the one in which they join, 2 * levels * levels bytes. Refused by 21, before all else, unless both operations
+   stay among the levels, are commutative and associative, and absorb each other; 0 levels are refused too. Level 0 may be the
+   greatest, and the operations need not distribute. An outcome in the words that is no level is refused by 8, where it stands. The calls
+   of a chain, direct evaluation included, are given the same table. All else is as in the call of the same name. `out` overlaps
+   no input, `outcomes` included. */
+uint64_t vierskof_evaluate_by_levels(uint32_t levels, const uint8_t *outcomes, size_t outcome_bytes, const uint32_t *sheet,
+                                     size_t words, uint32_t number, const uint8_t *facts, size_t bytes,
+                                     uint32_t *VIERSKOF_RESTRICT out, size_t room);
+uint64_t vierskof_partial_evaluate_by_levels(uint32_t levels, const uint8_t *outcomes, size_t outcome_bytes,
+                                             const uint32_t *sheet, size_t words, uint32_t number, const uint8_t *facts,
+                                             size_t bytes, uint32_t *VIERSKOF_RESTRICT out, size_t room);
+uint64_t vierskof_narrow_residual_by_levels(uint32_t levels, const uint8_t *outcomes, size_t outcome_bytes,
+                                            const uint32_t *record, size_t words, uint32_t number, const uint8_t *facts,
+                                            size_t bytes, uint32_t *VIERSKOF_RESTRICT out, size_t room);
+uint64_t vierskof_complete_residual_by_levels(uint32_t levels, const uint8_t *outcomes, size_t outcome_bytes,
+                                              const uint32_t *record, size_t words, uint32_t number, const uint8_t *facts,
+                                              size_t bytes, uint32_t *VIERSKOF_RESTRICT out, size_t room);
+uint64_t vierskof_partial_evaluate_in_order_by_levels(uint32_t levels, const uint8_t *outcomes, size_t outcome_bytes,
+                                                      const uint32_t *sheet, size_t words, uint32_t number,
+                                                      const uint8_t *facts, size_t bytes,
+                                                      uint32_t *VIERSKOF_RESTRICT out, size_t room);
+uint64_t vierskof_narrow_residual_in_order_by_levels(uint32_t levels, const uint8_t *outcomes, size_t outcome_bytes,
+                                                     const uint32_t *record, size_t words, uint32_t number,
+                                                     const uint8_t *facts, size_t bytes,
+                                                     uint32_t *VIERSKOF_RESTRICT out, size_t room);
 
 /* The facts that a sheet names, or the tree of a record of any number. Value: how many. Refused: an empty set. `numbers` is 16;
    a set of another length is left as it was. `set` doesn't overlap the words. */
@@ -191,7 +221,8 @@ static inline bool vierskof_permits(const uint32_t *record, size_t words) {
     return vierskof_is_resolved(record, words) && tree < words && record[tree] >> 28 == 12;
 }
 
-/* The products that it permits, product 0 the lowest bit; none where it doesn't permit. */
+/* The products that it permits, product 0 the lowest bit; none where it doesn't permit. By an outcome table, the level; but 0, which
+   is a level too, where it doesn't permit: ask vierskof_permits first. */
 static inline uint16_t vierskof_products(const uint32_t *record, size_t words) {
     return vierskof_permits(record, words) ? (uint16_t)(record[vierskof_tree(record, words)] & 0xFFFF) : (uint16_t)0;
 }

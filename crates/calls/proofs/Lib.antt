@@ -1,3 +1,4 @@
 pub mod Judging
 pub mod Sheets
 pub mod Records
+pub mod Levels

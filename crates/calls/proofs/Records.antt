@@ -1,6 +1,7 @@
 -- The answers of a call that reads a record. Assumes nothing.
 use mathlib.Core.Path.{_≡_, refl, sym, _∙_, ap, subst}
 use mathlib.Core.Bool.{Bool, true, false, cond, _&&_, and-true}
+use mathlib.Core.Option.{Option}
 use mathlib.Core.List.{List, []}
 use Prim.Native.Nat.{ℕ, _+_, _^_, _≤_, _<_}
 use native.Mathlib.Omega.{arith}
@@ -19,6 +20,7 @@ use Rattle.model.specs.Writing.{sheetBits, numbered, mostListed, mostHeld, shor
 use Rattle.model.specs.Reading.{Parsed, refuse, got, recordWords, recordLength, sheetNumber}
 use Rattle.model.specs.Calls as model
 use Rattle.model.specs.Calls.{hasNumber}
+use Rattle.model.specs.Levels.{OutcomeTable, outcomeCount}
 use Rattle.model.specs.Products.{Outcome, encode, encodeR, leadKind, readPolicy, readRecord, fits, write, policyAt}
 use Rattle.laws.specs.Size.{pairs}
 use Rattle.laws.specs.Form.{Countable, FormD}
@@ -26,6 +28,8 @@ use Rattle.laws.specs.Lengths.{length-numbered}
 use Rattle.laws.specs.Products.{InRange, writtenProducts}
 use Rattle.laws.specs.ReadForm.{ok-record}
 use Rattle.laws.specs.Canon.{same-record}
+use Rattle.laws.specs.Deeper.{follows-got}
+use Rattle.laws.specs.Wider.{record-among}
 use Rattle.policy_model.specs.Answers.{Lead, leadOf, recordLead}
 use Rattle.policy_model.specs.declared.RecordCheck.the-variants.{Resolved, Pending}
 use Rattle.policy_model.proofs.Records.{record-parts, lead-is}
@@ -34,7 +38,7 @@ use Rattle.answer.specs.declared.Answer.{Answer}
 use Rattle.answer.specs.declared.Answer.the-variants.{Refused}
 use Rattle.answer.specs.Answers.{Answered, Makes, Numbered, copied}
 use Rattle.contradiction.specs.Contradicted.{Contradicted}
-use Rattle.calls.specs.Judged.{kindOf, judgedRecord}
+use Rattle.calls.specs.Judged.{kindOf, readRecordBy, judgedRecord}
 use Rattle.calls.proofs.Judging.{judged-got, by-judged, few-words}
 
 -- A Resolved record that was read is written as it stands: its lists are short, and it has the length of a record.
@@ -77,18 +81,18 @@ unfolding leadOf
 refused-by n (refuse m) e = ap refuse (let h : m ≡ n = cc in h)
 refused-by n (got x ws) e = let z : _≡_ {A = ℕ} 0 1 = cc in let b : ⊥ = omega arith in absurd b
 
-module _ (known : Bool) (number : ℕ) (ws facts : List ℕ) where
+module _ (g : Option OutcomeTable) (few : outcomeCount g ≤ 65536) (known : Bool) (number : ℕ) (ws facts : List ℕ) where
   -- What is known of a record that was judged fine.
-  read-record : (x : Record Outcome) (vs : List ℕ) → judgedRecord known number ws facts ≡ got x vs → (recordLength ws ≡ true) × (sheetNumber ws ≡ number) × (readRecord ws ≡ got x vs)
-  read-record x vs g =
-      let read = judged-got (recordLength ws) (tableFault (kindOf known) facts) (hasNumber ws number) (readRecord ws) x vs g in
-      (read .0, eqb-true (sheetNumber ws) number (read .1), read .2)
+  read-record : (x : Record Outcome) (vs : List ℕ) → judgedRecord g known number ws facts ≡ got x vs → (recordLength ws ≡ true) × (sheetNumber ws ≡ number) × (readRecord ws ≡ got x vs)
+  read-record x vs e =
+      let read = judged-got (recordLength ws) (tableFault (kindOf known) facts) (hasNumber ws number) (readRecordBy g ws) x vs e in
+      (read .0, eqb-true (sheetNumber ws) number (read .1), follows-got (record-among (outcomeCount g) ws few) (read .2))
 
-  pub record-few : (l : Lead) → got l [] ≡ leadOf (judgedRecord known number ws facts) → length ws ≤ recordWords
-  record-few l e = lead-is (judgedRecord known number ws facts) l e (λ x vs g k c p. few-words (length ws) recordWords (read-record x vs g .0))
+  pub record-few : (l : Lead) → got l [] ≡ leadOf (judgedRecord g known number ws facts) → length ws ≤ recordWords
+  record-few l e = lead-is (judgedRecord g known number ws facts) l e (λ x vs e k c p. few-words (length ws) recordWords (read-record x vs e .0))
 
-  pub record-number : (l : Lead) → got l [] ≡ leadOf (judgedRecord known number ws facts) → number < 2 ^ sheetBits
-  record-number l e = lead-is (judgedRecord known number ws facts) l e (λ x vs g k c p. omega (arith, read-record x vs g .1))
+  pub record-number : (l : Lead) → got l [] ≡ leadOf (judgedRecord g known number ws facts) → number < 2 ^ sheetBits
+  record-number l e = lead-is (judgedRecord g known number ws facts) l e (λ x vs e k c p. omega (arith, read-record x vs e .1))
 
   -- What was found of the entries that stand in the words was found of the record that is read.
   pub entries-found : {P : Table} {count : ℕ} {found : Bool} → Contradicted P ws count found → (x : Record Outcome) (vs : List ℕ) → readRecord ws ≡ got x vs → count ≡ length (x .log) → found ≡ anyContradicted P (x .log)
@@ -107,25 +111,25 @@ module _ (known : Bool) (number : ℕ) (ws facts : List ℕ) where
     Wrote x = model.unlessContradicted (against (x .log)) (Made x)
 
     abbrev Call : model.Answer
-    Call = model.unlessLong (recordLength ws) (model.unlessFault (tableFault (kindOf known) facts) (model.onRead (readRecord ws) (λ x. model.unlessOther (hasNumber ws number) (Wrote x))))
+    Call = model.unlessLong (recordLength ws) (model.unlessFault (tableFault (kindOf known) facts) (model.onRead (readRecordBy g ws) (λ x. model.unlessOther (hasNumber ws number) (Wrote x))))
 
-    pub record-refused : (n : ℕ) → refuse n ≡ leadOf (judgedRecord known number ws facts) → Answered Call out out (Refused n)
+    pub record-refused : (n : ℕ) → refuse n ≡ leadOf (judgedRecord g known number ws facts) → Answered Call out out (Refused n)
     record-refused n e =
-        by-judged (recordLength ws) (tableFault (kindOf known) facts) (hasNumber ws number) (readRecord ws) Wrote (refuse n) (refused-by n (judgedRecord known number ws facts) e)
+        by-judged (recordLength ws) (tableFault (kindOf known) facts) (hasNumber ws number) (readRecordBy g ws) Wrote (refuse n) (refused-by n (judgedRecord g known number ws facts) e)
         (record { answer-is = refl; output-is = refl })
 
     -- By the record that was read, and by what was found of its entries.
-    module _ {after : List ℕ} {r : Answer} (kind count at : ℕ) (found : Bool) (e : got (record { kind = kind; consulted = count; tree = at }) [] ≡ leadOf (judgedRecord known number ws facts))
+    module _ {after : List ℕ} {r : Answer} (kind count at : ℕ) (found : Bool) (e : got (record { kind = kind; consulted = count; tree = at }) [] ≡ leadOf (judgedRecord g known number ws facts))
         (entries : (x : Record Outcome) (vs : List ℕ) → readRecord ws ≡ got x vs → count ≡ length (x .log) → found ≡ against (x .log)) where
       answered : ((body : ReducedPolicy Outcome) (l : Consulted) (vs : List ℕ) → recordLength ws ≡ true → sheetNumber ws ≡ number → readRecord ws ≡ got (record { body = body; log = l }) vs →
           kind ≡ leadKind body → count ≡ length l → at ≡ 1 + pairs l → Answered (model.unlessContradicted found (Made (record { body = body; log = l }))) out after r) → Answered Call out after r
       answered f =
-          lead-is (judgedRecord known number ws facts) (record { kind = kind; consulted = count; tree = at }) e (λ x vs g k c p.
-          let read = read-record x vs g in
-          by-judged (recordLength ws) (tableFault (kindOf known) facts) (hasNumber ws number) (readRecord ws) Wrote (got x vs) g
+          lead-is (judgedRecord g known number ws facts) (record { kind = kind; consulted = count; tree = at }) e (λ x vs e k c p.
+          let read = read-record x vs e in
+          by-judged (recordLength ws) (tableFault (kindOf known) facts) (hasNumber ws number) (readRecordBy g ws) Wrote (got x vs) e
           (subst (λ b. Answered (model.unlessContradicted b (Made x)) out after r) (entries x vs (read .2) c) (f (x .body) (x .log) vs (read .0) (read .1) (read .2) k c p)))
 
-    pub record-contradicted : (kind count at : ℕ) → got (record { kind = kind; consulted = count; tree = at }) [] ≡ leadOf (judgedRecord known number ws facts) →
+    pub record-contradicted : (kind count at : ℕ) → got (record { kind = kind; consulted = count; tree = at }) [] ≡ leadOf (judgedRecord g known number ws facts) →
         ((x : Record Outcome) (vs : List ℕ) → readRecord ws ≡ got x vs → count ≡ length (x .log) → true ≡ against (x .log)) → Answered Call out out (Refused 17)
     record-contradicted kind count at e entries = answered kind count at true e entries (λ body l vs long right q k c p. record { answer-is = refl; output-is = refl })
 
@@ -136,7 +140,7 @@ module _ (known : Bool) (number : ℕ) (ws facts : List ℕ) where
           subst (λ x. Answered x out after r) (sym (ap (λ x. model.under number (write (length out) x)) (back d l) ∙ came-back number ws (length out) d l vs long right q)) h
       body-copied h (pending t) l vs long right q k = let z : ⊥ = omega arith in absurd z
 
-      pub record-copied : {after : List ℕ} {r : Answer} (count at : ℕ) → recordLead (Resolved count at) ≡ leadOf (judgedRecord known number ws facts) →
+      pub record-copied : {after : List ℕ} {r : Answer} (count at : ℕ) → recordLead (Resolved count at) ≡ leadOf (judgedRecord g known number ws facts) →
           ((x : Record Outcome) (vs : List ℕ) → readRecord ws ≡ got x vs → count ≡ length (x .log) → false ≡ against (x .log)) → Answered (copied ws (length out)) out after r → Answered Call out after r
       record-copied count at e entries h = answered 14 count at false e entries (λ body l vs long right q k c p. body-copied h body l vs long right q k)
 
@@ -147,7 +151,7 @@ module _ (known : Bool) (number : ℕ) (ws facts : List ℕ) where
       body-made m (resolved d) l vs q k c p = let z : ⊥ = omega arith in absurd z
       body-made {written} {a} m (pending t) l vs q k c p = subst (λ x. Answered (write (length out) x) out written a) (sym (forth t l)) (tree-made m t l vs q c p)
 
-      pub record-made : {written after : List ℕ} {a r : Answer} (count at : ℕ) → recordLead (Pending count at) ≡ leadOf (judgedRecord known number ws facts) →
+      pub record-made : {written after : List ℕ} {a r : Answer} (count at : ℕ) → recordLead (Pending count at) ≡ leadOf (judgedRecord g known number ws facts) →
           ((x : Record Outcome) (vs : List ℕ) → readRecord ws ≡ got x vs → count ≡ length (x .log) → false ≡ against (x .log)) → Makes made ws count at out written a →
           Numbered number written after a r → Answered Call out after r
       record-made count at e entries m u = answered 15 count at false e entries (λ body l vs long right q k c p. u .numbers (write (length out) (from body l)) out (body-made m body l vs q k c p))

@@ -1,12 +1,14 @@
 -- A tree that is decided after its entries were listed, and the record of both that is put. Assumes nothing.
 use mathlib.Core.Path.{subst}
 use mathlib.Core.Bool.{Bool}
+use mathlib.Core.Option.{Option}
 use mathlib.Core.List.{List, []}
 use Prim.Native.Nat.{ℕ, _+_, _*_, _≤_, min}
 use native.Mathlib.Omega.{arith}
 use lib.ListN.{length, drop, length-drop}
 use Rattle.model.specs.Facts.{Table}
 use Rattle.model.specs.Outcome.{productSets}
+use Rattle.model.specs.Levels.{OutcomeTable, outcomesOf}
 use Rattle.model.specs.Policy.{Policy}
 use Rattle.model.specs.Partial.{resolved}
 use Rattle.model.specs.Consulted.{Consulted, once}
@@ -34,10 +36,10 @@ fits-there W at es log few inside near res =
     weaker (readPolicy res 32 (drop at W)) (λ p rest h. omega (arith, few p (h .0), h .2))
     (ok-T InRange (productSets .value) (writtenProducts .sound) res Free (length W) (λ c h. tt) 32 (drop at W) (omega arith))
 
-module _ {W : List ℕ} {count at depth : ℕ} {T : Table} {s u : Lent} {r : PolicyEval} {t : Lent} {buf before after : List ℕ} {a : Answer}
+module _ {g : Option OutcomeTable} {W : List ℕ} {count at depth : ℕ} {T : Table} {s u : Lent} {r : PolicyEval} {t : Lent} {buf before after : List ℕ} {a : Answer}
     (l : LoadsConsulted W count s u) (none-listed : Listed [] s) (deep : depth ≤ 32) (levels : min 32 (length W) ≤ depth) (enough : min 1024 (2 * length W) ≤ length (s .entries))
-    (e : EvaluatesP T W at depth u r t buf) (w : Put W T buf (r .decision) (t .entries) (t .count) before after a) where
-  pub completes : Makes (completedAfter T) W count at before after a
+    (e : EvaluatesP g T W at depth u r t buf) (w : Put W T buf (r .decision) (t .entries) (t .count) before after a) where
+  pub completes : Makes (completedAfter g T) W count at before after a
   completes =
       record {
         makes = λ es others named c inside near were res.
@@ -47,8 +49,8 @@ module _ {W : List ℕ} {count at depth : ℕ} {T : Table} {s u : Lent} {r : Pol
             (λ p rest h.
             let k = held-at (e .says res) (h .0) in
             let log = k .log .lists (once es) (loaded .lists [] none-listed (omega (arith, k .log .grows (once es), h .1))) (omega (arith, loaded .same-room, h .1)) in
-            subst (λ D. Answered (write (length before) (record { body = resolved D; log = read T p (once es) })) before after a) (k .decision-is)
-            (w .put (read T p (once es)) (k .sound) (log .long) (log .in-order)))
+            subst (λ D. Answered (write (length before) (record { body = resolved D; log = read g T p (once es) })) before after a) (k .decision-is)
+            (w .put (read g T p (once es)) (k .sound) (log .long) (log .in-order)))
             (both-hold q (few-levels-in (drop at W) depth (omega (arith, length-drop at W)) res deep)
-            (fits-there W at es (λ p. read T p (once es)) (λ p form. read-fits productSets T InRange Free Countable p form es named) inside near res));
+            (fits-there W at es (λ p. read g T p (once es)) (λ p form. read-fits (outcomesOf g) T InRange Free Countable p form es named) inside near res));
       }

@@ -6,6 +6,7 @@ use policy_model::RECORD_WORDS;
 use policy_model::SHEET_WORDS;
 ghost use Prim.Native.Nat.{_+_, _≤_, min};
 ghost use lib.ListN.{length};
+ghost use Rattle.outcome.specs.Carried.{carried};
 ghost use Rattle.model.specs.Facts.{tableOf};
 ghost use Rattle.model.specs.Reading.{levels, sheetWords, recordWords};
 ghost use Rattle.condition.specs.Listing.{lent};
@@ -65,6 +66,8 @@ fn complete_with(
     consulted: usize,
     tree: usize,
     facts: &[u8],
+    outcome_levels: u16,
+    outcomes: &[u8],
     depth: usize,
     entries: &mut [u16],
     buf: &mut [u8],
@@ -72,11 +75,22 @@ fn complete_with(
     out: &mut [u32],
 ) -> Answer
     requires { ⌜ (length (now words) ≤ recordWords) × (depth ≤ levels) × (min levels (length (now words)) ≤ depth) × RoomToUnite (depth + 1) (now buf) × RoomToName (now words) (now named) × RoomToList (now words) (now entries) ⌝ }
-    ensures { λ r. ⌜ Makes (completedAfter (tableOf (now (facts .entry)))) (now (words .entry)) consulted tree (now (out .entry)) (now (out .exit)) r ⌝ }
+    ensures { λ r. ⌜ Makes (completedAfter (carried «outcome_levels» (now (outcomes .entry))) (tableOf (now (facts .entry)))) (now (words .entry)) consulted tree (now (out .entry)) (now (out .exit)) r ⌝ }
 {
     let mut seen = [0u64; SEEN];
     let listed = load_consulted(words, consulted, entries, &mut seen);
-    let eval = evaluate::eval_policy(words, tree, depth, facts, entries, &mut seen, listed, buf);
+    let eval = evaluate::eval_policy(
+        words,
+        tree,
+        depth,
+        facts,
+        outcome_levels,
+        outcomes,
+        entries,
+        &mut seen,
+        listed,
+        buf,
+    );
     answer::put_record(
         words,
         eval.decision,
@@ -95,10 +109,12 @@ fn complete_few(
     consulted: usize,
     tree: usize,
     facts: &[u8],
+    outcome_levels: u16,
+    outcomes: &[u8],
     out: &mut [u32],
 ) -> Answer
     requires { ⌜ length (now words) ≤ fewWords ⌝ }
-    ensures { λ r. ⌜ Makes (completedAfter (tableOf (now (facts .entry)))) (now (words .entry)) consulted tree (now (out .entry)) (now (out .exit)) r ⌝ }
+    ensures { λ r. ⌜ Makes (completedAfter (carried «outcome_levels» (now (outcomes .entry))) (tableOf (now (facts .entry)))) (now (words .entry)) consulted tree (now (out .entry)) (now (out .exit)) r ⌝ }
 {
     let mut entries = [0u16; 2 * FEW];
     let mut buf = [0u8; UNITED_FEW];
@@ -108,6 +124,8 @@ fn complete_few(
         consulted,
         tree,
         facts,
+        outcome_levels,
+        outcomes,
         FEW,
         &mut entries,
         &mut buf,
@@ -122,13 +140,15 @@ pub fn complete_short(
     consulted: usize,
     tree: usize,
     facts: &[u8],
+    outcome_levels: u16,
+    outcomes: &[u8],
     out: &mut [u32],
 ) -> Answer
     requires { ⌜ length (now words) ≤ shortWords ⌝ }
-    ensures { λ r. ⌜ Makes (completedAfter (tableOf (now (facts .entry)))) (now (words .entry)) consulted tree (now (out .entry)) (now (out .exit)) r ⌝ }
+    ensures { λ r. ⌜ Makes (completedAfter (carried «outcome_levels» (now (outcomes .entry))) (tableOf (now (facts .entry)))) (now (words .entry)) consulted tree (now (out .entry)) (now (out .exit)) r ⌝ }
 {
     if words.len() <= FEW {
-        return complete_few(words, consulted, tree, facts, out);
+        return complete_few(words, consulted, tree, facts, outcome_levels, outcomes, out);
     }
     let mut entries = [0u16; 2 * SHORT];
     let mut buf = [0u8; UNITED];
@@ -138,6 +158,8 @@ pub fn complete_short(
         consulted,
         tree,
         facts,
+        outcome_levels,
+        outcomes,
         LEVELS,
         &mut entries,
         &mut buf,
@@ -152,10 +174,12 @@ fn complete_middling(
     consulted: usize,
     tree: usize,
     facts: &[u8],
+    outcome_levels: u16,
+    outcomes: &[u8],
     out: &mut [u32],
 ) -> Answer
     requires { ⌜ length (now words) ≤ sheetWords ⌝ }
-    ensures { λ r. ⌜ Makes (completedAfter (tableOf (now (facts .entry)))) (now (words .entry)) consulted tree (now (out .entry)) (now (out .exit)) r ⌝ }
+    ensures { λ r. ⌜ Makes (completedAfter (carried «outcome_levels» (now (outcomes .entry))) (tableOf (now (facts .entry)))) (now (words .entry)) consulted tree (now (out .entry)) (now (out .exit)) r ⌝ }
 {
     let mut entries = [0u16; ENTRIES];
     let mut buf = [0u8; UNITED];
@@ -165,6 +189,8 @@ fn complete_middling(
         consulted,
         tree,
         facts,
+        outcome_levels,
+        outcomes,
         LEVELS,
         &mut entries,
         &mut buf,
@@ -179,13 +205,15 @@ pub fn complete_long(
     consulted: usize,
     tree: usize,
     facts: &[u8],
+    outcome_levels: u16,
+    outcomes: &[u8],
     out: &mut [u32],
 ) -> Answer
     requires { ⌜ length (now words) ≤ recordWords ⌝ }
-    ensures { λ r. ⌜ Makes (completedAfter (tableOf (now (facts .entry)))) (now (words .entry)) consulted tree (now (out .entry)) (now (out .exit)) r ⌝ }
+    ensures { λ r. ⌜ Makes (completedAfter (carried «outcome_levels» (now (outcomes .entry))) (tableOf (now (facts .entry)))) (now (words .entry)) consulted tree (now (out .entry)) (now (out .exit)) r ⌝ }
 {
     if words.len() <= SHEET_WORDS {
-        return complete_middling(words, consulted, tree, facts, out);
+        return complete_middling(words, consulted, tree, facts, outcome_levels, outcomes, out);
     }
     let mut entries = [0u16; ENTRIES];
     let mut buf = [0u8; UNITED];
@@ -195,6 +223,8 @@ pub fn complete_long(
         consulted,
         tree,
         facts,
+        outcome_levels,
+        outcomes,
         LEVELS,
         &mut entries,
         &mut buf,

@@ -12,7 +12,7 @@ use Rattle.model.specs.Decision.{Permit, Denial, permits, denies, combined, gen
 use Rattle.model.specs.Policy.{Grant, Policy, grant, stored}
 use Rattle.model.specs.Evaluate.{evalGrant}
 use Rattle.model.specs.Reading.{got, levels}
-use Rattle.model.specs.Products.{Outcome, evalPolicy, readPolicy}
+use Rattle.model.specs.Products.{Outcome, readPolicy}
 use Rattle.laws.specs.Deeper.{deeper, follows-got}
 use Rattle.decision.specs.declared.Decision.{Decision}
 use Rattle.decision.specs.Nodes.{named, nodeAt, clauseRead, obligationsRead, clauseAt, obligationsAt}
@@ -43,7 +43,7 @@ module _ (words : List ℕ) (T : Table) (buf : List ℕ) where
 
   -- A grant whose condition is false, and a stored deny.
   pub denied-grant : (at none : ℕ) (g : Grant Outcome) (c : Condition) (vs fs : List ℕ) → nodeAt words at ≡ got (grant g c) vs → evalCondition T c ≡ unsatisfied fs →
-      decisionOf words T buf (deniedAt at none) ≡ evalPolicy T (grant g c)
+      decisionOf words T buf (deniedAt at none) ≡ evalGrant g (evalCondition T c)
   unfolding decisionOf clauseAt
   denied-grant at none g c vs fs n e =
       ap (λ q. denies (clauseRead T q)) n
@@ -65,7 +65,7 @@ module _ (words : List ℕ) (T : Table) (buf : List ℕ) where
 
   -- A grant whose condition is true, and a stored permit.
   pub permitted-grant : (at : ℕ) (g : Grant Outcome) (c : Condition) (vs fs : List ℕ) → nodeAt words at ≡ got (grant g c) vs → evalCondition T c ≡ satisfied fs →
-      decisionOf words T buf (permittedAt (g .outcome) at at 0) ≡ evalPolicy T (grant g c)
+      decisionOf words T buf (permittedAt (g .outcome) at at 0) ≡ evalGrant g (evalCondition T c)
   unfolding decisionOf permitOf obligationsIn clauseAt obligationsAt
   permitted-grant at g c vs fs n e =
       ap (λ q. permits (record { outcome = g .outcome; obligations = obligationsRead q ++ []; label = clauseRead T q .label; facts = clauseRead T q .facts })) n

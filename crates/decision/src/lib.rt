@@ -10,6 +10,8 @@ ghost use lib.ListN.{length, take, drop};
 ghost use lib.Bits.{bitOr};
 ghost use Rattle.model.specs.Writing.{obligationBits, mostHeld};
 ghost use Rattle.model.specs.Reading.{obligationCount};
+ghost use mathlib.Core.Option.{Option};
+ghost use Rattle.model.specs.Levels.{OutcomeTable, meetOf, joinOf};
 ghost use Rattle.model.specs.Products.{meetPermit, joinPermit};
 ghost use Rattle.laws.specs.FieldAt.{fieldAt};
 ghost use Rattle.decision.specs.Room.{obligationRoom, listRoom, RoomToUnite, Few};
@@ -320,10 +322,17 @@ pub fn keep(incoming: Decision, buf: &mut [u8]) -> Decision
     incoming
 }
 
-// Two permits under All. The permit so far has its buffer at the front, the incoming one from the second room on; the result has it at the front.
-pub fn meet(words: &[u32], sofar: Decision, incoming: Decision, buf: &mut [u8]) -> Decision
+// Two permits under All, whose outcomes meet in `outcome`. The permit so far has its buffer at the front, the incoming one from the second room on; the result has it at the front.
+pub fn meet(
+    words: &[u32],
+    outcome: u16,
+    sofar: Decision,
+    incoming: Decision,
+    buf: &mut [u8],
+) -> Decision
     requires { ⌜ Few sofar × Few incoming × RoomToUnite 2 (now buf) ⌝ }
-    ensures { λ r. ⌜ Folded meetPermit (now (words .entry)) (now (buf .entry)) (now (buf .exit)) sofar incoming r ⌝ }
+    ensures few { λ r. ⌜ Few r ⌝ }
+    ensures folds { λ r. ⌜ ((g : Option OutcomeTable) → outcome ≡ meetOf g (sofar .outcome) (incoming .outcome) → Folded (meetPermit g) (now (words .entry)) (now (buf .entry)) (now (buf .exit)) sofar incoming r) ⌝ }
 {
     let earlier = Products {
         bits: sofar.outcome,
@@ -331,7 +340,7 @@ pub fn meet(words: &[u32], sofar: Decision, incoming: Decision, buf: &mut [u8]) 
     let later = Products {
         bits: incoming.outcome,
     };
-    let both = earlier.meet(later);
+    let both = Products { bits: outcome };
     if both.same(earlier) {
         return sofar;
     }
@@ -341,10 +350,17 @@ pub fn meet(words: &[u32], sofar: Decision, incoming: Decision, buf: &mut [u8]) 
     permitted(both.bits, words.len())
 }
 
-// Two permits under Any, with the buffers as in `meet`.
-pub fn join(words: &[u32], sofar: Decision, incoming: Decision, buf: &mut [u8]) -> Decision
+// Two permits under Any, whose outcomes join in `outcome`, with the buffers as in `meet`.
+pub fn join(
+    words: &[u32],
+    outcome: u16,
+    sofar: Decision,
+    incoming: Decision,
+    buf: &mut [u8],
+) -> Decision
     requires { ⌜ Few sofar × Few incoming × RoomToUnite 2 (now buf) ⌝ }
-    ensures { λ r. ⌜ Folded joinPermit (now (words .entry)) (now (buf .entry)) (now (buf .exit)) sofar incoming r ⌝ }
+    ensures few { λ r. ⌜ Few r ⌝ }
+    ensures folds { λ r. ⌜ ((g : Option OutcomeTable) → outcome ≡ joinOf g (sofar .outcome) (incoming .outcome) → Folded (joinPermit g) (now (words .entry)) (now (buf .entry)) (now (buf .exit)) sofar incoming r) ⌝ }
 {
     let earlier = Products {
         bits: sofar.outcome,
@@ -352,7 +368,7 @@ pub fn join(words: &[u32], sofar: Decision, incoming: Decision, buf: &mut [u8]) 
     let later = Products {
         bits: incoming.outcome,
     };
-    let either = earlier.join(later);
+    let either = Products { bits: outcome };
     let none = words.len();
     if either.same(earlier) {
         if either.same(later) {

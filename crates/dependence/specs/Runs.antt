@@ -1,11 +1,12 @@
 -- The same of the calls that were run: a district that is sent the required facts alone completes as one that has all of them.
 use mathlib.Core.Path.{_≡_, sym, _∙_, ap, ap₂, subst}
-use mathlib.Core.Option.{none}
+use mathlib.Core.Option.{Option, none}
 use mathlib.Core.List.{List}
 use Prim.Native.Nat.{ℕ}
 use lib.ListN.{length, take, replicate}
 use Rattle.model.specs.Facts.{knownFacts, tableFault}
 use Rattle.model.specs.Outcome.{productSets}
+use Rattle.model.specs.Levels.{OutcomeTable}
 use Rattle.model.specs.Decision.{Decision}
 use Rattle.model.specs.Partial.{resolved}
 use Rattle.model.specs.Record.{Record, tree}
@@ -19,7 +20,7 @@ use Rattle.stages.specs.Runs.{Run, Completed, Asking, Asked}
 use Rattle.stages.specs.Guarantee.{wrote-words}
 use Rattle.dependence.specs.Dependence.{Exactly, AlikeOn, SameRun}
 use Rattle.dependence.specs.SetLaws.{exactly, none-resolved}
-use Rattle.dependence.specs.Completion.{alike}
+use Rattle.dependence.specs.Completion.{alike-of}
 
 wrote-same : (us vs : List ℕ) → model.wrote us ≡ model.wrote vs → us ≡ vs
 wrote-same us vs e = cc
@@ -38,14 +39,14 @@ module _ (rec : List ℕ) (asked : Asking) (ran : Asked rec asked) (sixteen : le
       let none-of = none-resolved productSets rec r ws d e b in
       (left ∙ ap (λ m. m .set) none-of, ran .answer-is ∙ ap requiredOf none-of)
 
-  -- Two runs of `complete_residual` on the same words under the same number, with outputs of equal length and with known tables without fault that read
+  -- Two runs of a completion, by the same outcome table or by none, on the same words under the same number, with outputs of equal length and with known tables without fault that read
   -- alike on each fact of the set, return the same and leave the same words.
-  pub completes-alike : (number : ℕ) (s s′ : Run) → Completed number rec s → Completed number rec s′ → length (s .before) ≡ length (s′ .before)
+  pub completes-alike : (g : Option OutcomeTable) (number : ℕ) (s s′ : Run) → Completed g number rec s → Completed g number rec s′ → length (s .before) ≡ length (s′ .before)
       → tableFault knownFacts (s .facts) ≡ none → tableFault knownFacts (s′ .facts) ≡ none → AlikeOn (asked .after) (s .facts) (s′ .facts) → SameRun s s′
-  completes-alike number s s′ c c′ e k k′ h =
-      let answer = alike productSets number rec (s .facts) (s′ .facts) (length (s .before)) k k′ (subst (λ set. AlikeOn set (s .facts) (s′ .facts)) left h) in
+  completes-alike g number s s′ c c′ e k k′ h =
+      let answer = alike-of g number rec (s .facts) (s′ .facts) (length (s .before)) k k′ (subst (λ set. AlikeOn set (s .facts) (s′ .facts)) left h) in
       let rooms : length (s .before) ≡ length (s′ .before) = e in
-      let same : completeResidual number rec (s .facts) (length (s .before)) ≡ completeResidual number rec (s′ .facts) (length (s′ .before)) = answer ∙ ap (completeResidual number rec (s′ .facts)) rooms in
+      let same : completeResidual g number rec (s .facts) (length (s .before)) ≡ completeResidual g number rec (s′ .facts) (length (s′ .before)) = answer ∙ ap (completeResidual g number rec (s′ .facts)) rooms in
       let equal : s .answer ≡ s′ .answer = c .answer-is ∙ ap answerOf same ∙ sym (c′ .answer-is) in
       record {
         answers = equal;

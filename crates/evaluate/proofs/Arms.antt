@@ -1,6 +1,7 @@
 -- A list rule by its first arm and the others. Assumes nothing.
 use mathlib.Core.Path.{_≡_, refl, sym, _∙_, ap, subst}
 use mathlib.Core.Bool.{Bool, true, false, cond}
+use mathlib.Core.Option.{Option}
 use mathlib.Core.List.{List, _∷_}
 use Prim.Native.Nat.{ℕ, zero, suc, _+_, _-_, _≤_, _<_}
 use native.Mathlib.Numerals.{sub-one}
@@ -8,6 +9,7 @@ use native.Mathlib.Omega.{arith}
 use lib.ListN.{length, drop}
 use lib.Seq.{drop-drop}
 use Rattle.model.specs.Facts.{Table}
+use Rattle.model.specs.Levels.{OutcomeTable}
 use Rattle.model.specs.Decision.{permits, denies}
 use Rattle.model.specs.Decision.{Decision as Decided}
 use Rattle.model.specs.Policy.{Policy, all, any, orElse, Policies, pnil, pcons}
@@ -56,9 +58,9 @@ pub record ArmsLeft (value : Policies Outcome → Decided Outcome) (reads : Poli
       Holds (λ ps rest. Answers T W (value ps) (at + wordss ps) (reads ps) s r t buf) (many pnil pcons (readPolicy true depth) arms (drop at W))
 
 -- What a list rule, of its first arm, leaves to the others.
-pub record LeavesTo (T : Table) (value others : Policies Outcome → Decided Outcome) (reads readOn : Policies Outcome → Consulted → Consulted) (p : Policy Outcome) (ps : Policies Outcome) : Type 0 where
+pub record LeavesTo (g : Option OutcomeTable) (T : Table) (value others : Policies Outcome → Decided Outcome) (reads readOn : Policies Outcome → Consulted → Consulted) (p : Policy Outcome) (ps : Policies Outcome) : Type 0 where
   pub value-is : value (pcons p ps) ≡ others ps
-  pub read-is : (l : Consulted) → reads (pcons p ps) l ≡ readOn ps (read T p l)
+  pub read-is : (l : Consulted) → reads (pcons p ps) l ≡ readOn ps (read g T p l)
 
 pub arms-more : (p : List ℕ → Parsed (Policy Outcome)) (arms : ℕ) (ws : List ℕ) → (arms ≡ 0 → ⊥) →
     many pnil pcons p arms ws ≡ next (p ws) (λ a vs. next (many pnil pcons p (arms - 1) vs) (λ ps us. got (pcons a ps) us))
@@ -66,22 +68,22 @@ arms-more p zero ws f = absurd (f refl)
 arms-more p (suc arms) ws f = rw sub-one
 
 -- The rule by the answer a to the first arm, with its buffer, and the answer for the others, which may follow the same rule or be decided.
-module _ (T : Table) (value others : Policies Outcome → Decided Outcome) (reads readOn : Policies Outcome → Consulted → Consulted) (W : List ℕ) (depth : ℕ) (s m t : Lent) (a r : PolicyEval)
+module _ (g : Option OutcomeTable) (T : Table) (value others : Policies Outcome → Decided Outcome) (reads readOn : Policies Outcome → Consulted → Consulted) (W : List ℕ) (depth : ℕ) (s m t : Lent) (a r : PolicyEval)
     (sofar now : Decision) (before part mid buf : List ℕ) where
-  first-of : (at : ℕ) (p : Policy Outcome) (ps : Policies Outcome) → LeavesTo T value others reads readOn p ps →
-      Answers T W (evalPolicy T p) (at + words p) (read T p) s a m part →
+  first-of : (at : ℕ) (p : Policy Outcome) (ps : Policies Outcome) → LeavesTo g T value others reads readOn p ps →
+      Answers T W (evalPolicy g T p) (at + words p) (read g T p) s a m part →
       Answers T W (others ps) (a .next + wordss ps) (readOn ps) m r t buf →
       Answers T W (value (pcons p ps)) (at + wordss (pcons p ps)) (reads (pcons p ps)) s r t buf
-  first-of at p ps v h g = record {
-    decision-is = g .decision-is ∙ sym (v .value-is);
-    sound = g .sound;
-    next-is = omega (arith, h .next-is, g .next-is);
-    log = consults-as (v .read-is) (consults-then (h .log) (g .log));
+  first-of at p ps v h f = record {
+    decision-is = f .decision-is ∙ sym (v .value-is);
+    sound = f .sound;
+    next-is = omega (arith, h .next-is, f .next-is);
+    log = consults-as (v .read-is) (consults-then (h .log) (f .log));
   }
 
-  pub arm-first : (at arms : ℕ) → (arms ≡ 0 → ⊥) → EvaluatesP T W at depth s a m part →
+  pub arm-first : (at arms : ℕ) → (arms ≡ 0 → ⊥) → EvaluatesP g T W at depth s a m part →
       (Sound W before sofar → Sound W part (a .decision) → Sound W mid now) →
-      ((p : Policy Outcome) (ps : Policies Outcome) → Sound W before sofar → Sound W part (a .decision) → decisionOf W T part (a .decision) ≡ evalPolicy T p → LeavesTo T value others reads readOn p ps) →
+      ((p : Policy Outcome) (ps : Policies Outcome) → Sound W before sofar → Sound W part (a .decision) → decisionOf W T part (a .decision) ≡ evalPolicy g T p → LeavesTo g T value others reads readOn p ps) →
       ArmsLeft others readOn T W now mid (a .next) depth (arms - 1) m r t buf → ArmsLeft value reads T W sofar before at depth arms s r t buf
   arm-first at arms f first sound v rest =
       let one = readPolicy true depth in
@@ -92,8 +94,8 @@ module _ (T : Table) (value others : Policies Outcome → Decided Outcome) (read
             (both-hold (one (drop at W)) (first .says true) (policy-leaves true depth (drop at W))) (λ p vs h.
             let after : drop (a .next) W ≡ vs = ap (λ n. drop n W) (h .0 .next-is) ∙ sym (drop-drop (words p) at W) ∙ h .1 in
             then-holds (many pnil pcons one (arms - 1) vs) (λ ps us. got (pcons p ps) us)
-            (subst (λ ws. Holds (λ ps _. Answers T W (others ps) (a .next + wordss ps) (readOn ps) m r t buf) (many pnil pcons one (arms - 1) ws)) after (rest .says (sound z (h .0 .sound)))) (λ ps us g.
-            fine (first-of at p ps (v p ps z (h .0 .sound) (h .0 .decision-is)) (h .0) g))));
+            (subst (λ ws. Holds (λ ps _. Answers T W (others ps) (a .next + wordss ps) (readOn ps) m r t buf) (many pnil pcons one (arms - 1) ws)) after (rest .says (sound z (h .0 .sound)))) (λ ps us i.
+            fine (first-of at p ps (v p ps z (h .0 .sound) (h .0 .decision-is)) (h .0) i))));
       }
 
 -- No arm is left: the decision so far is the answer.
@@ -122,13 +124,13 @@ arms-passed T W d buf at depth arms next count s few k = record {
 }
 
 -- ---- All: a permit is met with those before it, a deny decides
-all-more-at : (x y : Decided Outcome) (ds : List (Decided Outcome)) → decides y ≡ true → allOf x (y ∷ ds) ≡ allOf (meetNext x y) ds
-all-more-at x (permits q) ds e = refl
-all-more-at x (denies d) ds e = cc
+all-more-at : (g : Option OutcomeTable) (x y : Decided Outcome) (ds : List (Decided Outcome)) → decides y ≡ true → allOf g x (y ∷ ds) ≡ allOf g (meetNext g x y) ds
+all-more-at g x (permits q) ds e = refl
+all-more-at g x (denies d) ds e = cc
 
-all-stop-at : (x y : Decided Outcome) (ds : List (Decided Outcome)) → decides y ≡ false → allOf x (y ∷ ds) ≡ y
-all-stop-at x (permits q) ds e = cc
-all-stop-at x (denies d) ds e = refl
+all-stop-at : (g : Option OutcomeTable) (x y : Decided Outcome) (ds : List (Decided Outcome)) → decides y ≡ false → allOf g x (y ∷ ds) ≡ y
+all-stop-at g x (permits q) ds e = cc
+all-stop-at g x (denies d) ds e = refl
 
 after-permit : (x : Decided Outcome) (here on : Consulted) → decides x ≡ true → afterPermit x here on ≡ on
 after-permit (permits p) here on e = refl
@@ -138,87 +140,87 @@ after-permit-stop : (x : Decided Outcome) (here on : Consulted) → decides x �
 after-permit-stop (permits p) here on e = cc
 after-permit-stop (denies d) here on e = refl
 
-module _ (T : Table) (W : List ℕ) where
+module _ (g : Option OutcomeTable) (T : Table) (W : List ℕ) where
   -- The rules of a decision so far, with its buffer.
   abbrev pub allLeft : Decision → List ℕ → Policies Outcome → Decided Outcome
-  allLeft sofar before ps = allOf (decisionOf W T before sofar) (evalPolicies T ps)
+  allLeft sofar before ps = allOf g (decisionOf W T before sofar) (evalPolicies g T ps)
 
   abbrev pub anyLeft : Bool → Decision → List ℕ → Policies Outcome → Decided Outcome
-  anyLeft begun sofar before ps = anyOf begun (decisionOf W T before sofar) (evalPolicies T ps)
+  anyLeft begun sofar before ps = anyOf g begun (decisionOf W T before sofar) (evalPolicies g T ps)
 
-module _ (T : Table) (W : List ℕ) (depth : ℕ) (s m t : Lent) (a r : PolicyEval) (sofar : Decision) (before part buf : List ℕ) (at arms : ℕ) (some : arms ≡ 0 → ⊥)
-    (first : EvaluatesP T W at depth s a m part) where
-  pub all-more : (now : Decision) (mid : List ℕ) → a .decision .permit ≡ true → Folds meetNext W sofar before (a .decision) part now mid →
-      ArmsLeft (allLeft T W now mid) (readAll T) T W now mid (a .next) depth (arms - 1) m r t buf →
-      ArmsLeft (allLeft T W sofar before) (readAll T) T W sofar before at depth arms s r t buf
+module _ (g : Option OutcomeTable) (T : Table) (W : List ℕ) (depth : ℕ) (s m t : Lent) (a r : PolicyEval) (sofar : Decision) (before part buf : List ℕ) (at arms : ℕ) (some : arms ≡ 0 → ⊥)
+    (first : EvaluatesP g T W at depth s a m part) where
+  pub all-more : (now : Decision) (mid : List ℕ) → a .decision .permit ≡ true → Folds (meetNext g) W sofar before (a .decision) part now mid →
+      ArmsLeft (allLeft g T W now mid) (readAll g T) T W now mid (a .next) depth (arms - 1) m r t buf →
+      ArmsLeft (allLeft g T W sofar before) (readAll g T) T W sofar before at depth arms s r t buf
   all-more now mid q f rest =
-      arm-first T (allLeft T W sofar before) (allLeft T W now mid) (readAll T) (readAll T) W depth s m t a r sofar now before part mid buf at arms some first (f .sound)
+      arm-first g T (allLeft g T W sofar before) (allLeft g T W now mid) (readAll g T) (readAll g T) W depth s m t a r sofar now before part mid buf at arms some first (f .sound)
       (λ p ps z i e.
-      let x = evalPolicy T p in
+      let x = evalPolicy g T p in
       let permit : decides x ≡ true = ap decides (sym e) ∙ decides-as W T part (a .decision) ∙ q in
       record {
         value-is =
-            all-more-at (decisionOf W T before sofar) x (evalPolicies T ps) permit
-            ∙ ap (λ y. allOf (meetNext (decisionOf W T before sofar) y) (evalPolicies T ps)) (sym e)
-            ∙ ap (λ y. allOf y (evalPolicies T ps)) (sym (f .folded z i T));
-        read-is = λ l. after-permit x (read T p l) (readAll T ps (read T p l)) permit;
+            all-more-at g (decisionOf W T before sofar) x (evalPolicies g T ps) permit
+            ∙ ap (λ y. allOf g (meetNext g (decisionOf W T before sofar) y) (evalPolicies g T ps)) (sym e)
+            ∙ ap (λ y. allOf g y (evalPolicies g T ps)) (sym (f .folded z i T));
+        read-is = λ l. after-permit x (read g T p l) (readAll g T ps (read g T p l)) permit;
       })
       rest
 
   pub all-stop : (mid : List ℕ) → a .decision .permit ≡ false →
       ArmsLeft (λ _. decisionOf W T mid (a .decision)) (λ _ l. l) T W (a .decision) mid (a .next) depth (arms - 1) m r t buf →
-      ArmsLeft (allLeft T W sofar before) (readAll T) T W sofar before at depth arms s r t buf
+      ArmsLeft (allLeft g T W sofar before) (readAll g T) T W sofar before at depth arms s r t buf
   all-stop mid q rest =
-      arm-first T (allLeft T W sofar before) (λ _. decisionOf W T mid (a .decision)) (readAll T) (λ _ l. l) W depth s m t a r sofar (a .decision) before part mid buf at arms some first
+      arm-first g T (allLeft g T W sofar before) (λ _. decisionOf W T mid (a .decision)) (readAll g T) (λ _ l. l) W depth s m t a r sofar (a .decision) before part mid buf at arms some first
       (λ _ i. deny-sound W part mid (a .decision) q i)
       (λ p ps z i e.
-      let x = evalPolicy T p in
+      let x = evalPolicy g T p in
       let denied : decides x ≡ false = ap decides (sym e) ∙ decides-as W T part (a .decision) ∙ q in
       record {
-        value-is = all-stop-at (decisionOf W T before sofar) x (evalPolicies T ps) denied ∙ sym e ∙ sym (deny-decision W part mid (a .decision) q i T);
-        read-is = λ l. after-permit-stop x (read T p l) (readAll T ps (read T p l)) denied;
+        value-is = all-stop-at g (decisionOf W T before sofar) x (evalPolicies g T ps) denied ∙ sym e ∙ sym (deny-decision W part mid (a .decision) q i T);
+        read-is = λ l. after-permit-stop x (read g T p l) (readAll g T ps (read g T p l)) denied;
       })
       rest
 
   -- ---- Any: every arm is read
-  pub any-more : (begun : Bool) (now : Decision) (mid : List ℕ) → Folds (joinNext begun) W sofar before (a .decision) part now mid →
-      ArmsLeft (anyLeft T W true now mid) (readAny T) T W now mid (a .next) depth (arms - 1) m r t buf →
-      ArmsLeft (anyLeft T W begun sofar before) (readAny T) T W sofar before at depth arms s r t buf
+  pub any-more : (begun : Bool) (now : Decision) (mid : List ℕ) → Folds (joinNext g begun) W sofar before (a .decision) part now mid →
+      ArmsLeft (anyLeft g T W true now mid) (readAny g T) T W now mid (a .next) depth (arms - 1) m r t buf →
+      ArmsLeft (anyLeft g T W begun sofar before) (readAny g T) T W sofar before at depth arms s r t buf
   any-more begun now mid f rest =
-      arm-first T (anyLeft T W begun sofar before) (anyLeft T W true now mid) (readAny T) (readAny T) W depth s m t a r sofar now before part mid buf at arms some first (f .sound)
+      arm-first g T (anyLeft g T W begun sofar before) (anyLeft g T W true now mid) (readAny g T) (readAny g T) W depth s m t a r sofar now before part mid buf at arms some first (f .sound)
       (λ p ps z i e. record {
         value-is =
-            ap (λ y. anyOf true (joinNext begun (decisionOf W T before sofar) y) (evalPolicies T ps)) (sym e)
-            ∙ ap (λ y. anyOf true y (evalPolicies T ps)) (sym (f .folded z i T));
+            ap (λ y. anyOf g true (joinNext g begun (decisionOf W T before sofar) y) (evalPolicies g T ps)) (sym e)
+            ∙ ap (λ y. anyOf g true y (evalPolicies g T ps)) (sym (f .folded z i T));
         read-is = λ l. refl;
       })
       rest
 
 -- ---- the node that has the arms
-module _ (T : Table) (W : List ℕ) (at depth : ℕ) (n : ℕ) (s : Lent) (r : PolicyEval) (t : Lent) (before buf : List ℕ) (none : ℕ) (is : none ≡ length W) (lt : at < length W) where
+module _ (g : Option OutcomeTable) (T : Table) (W : List ℕ) (at depth : ℕ) (n : ℕ) (s : Lent) (r : PolicyEval) (t : Lent) (before buf : List ℕ) (none : ℕ) (is : none ≡ length W) (lt : at < length W) where
   no-arms : Sound W before (deniedAt none none)
   no-arms = sound-denied W before none none (past (omega arith)) (omega arith)
 
-  pub all-node : ArmsLeft (allLeft T W (deniedAt none none) before) (readAll T) T W (deniedAt none none) before (at + 1) depth n s r t buf → EvaluatesBy (All n) T W at depth s r t buf
+  pub all-node : ArmsLeft (allLeft g T W (deniedAt none none) before) (readAll g T) T W (deniedAt none none) before (at + 1) depth n s r t buf → EvaluatesBy g (All n) T W at depth s r t buf
   unfolding policyNode
   all-node a = record {
     few = a .few;
     says = λ e. node-holds W at depth (All n) lt e
         (then-holds (many pnil pcons (readPolicy true depth) n (drop (at + 1) W)) (λ ts vs. got (all ts) vs) (a .says no-arms) (λ ps rest h. fine (record {
-          decision-is = h .decision-is ∙ ap (λ d. allOf d (evalPolicies T ps)) (denied-is W T before none (omega arith)) ∙ sym (all-is (evalPolicies T ps));
+          decision-is = h .decision-is ∙ ap (λ d. allOf g d (evalPolicies g T ps)) (denied-is W T before none (omega arith)) ∙ sym (all-is g (evalPolicies g T ps));
           sound = h .sound;
           next-is = omega (arith, h .next-is);
           log = consults-as (λ l. refl) (h .log);
         })));
   }
 
-  pub any-node : ArmsLeft (anyLeft T W false (deniedAt none none) before) (readAny T) T W (deniedAt none none) before (at + 1) depth n s r t buf → EvaluatesBy (Any n) T W at depth s r t buf
+  pub any-node : ArmsLeft (anyLeft g T W false (deniedAt none none) before) (readAny g T) T W (deniedAt none none) before (at + 1) depth n s r t buf → EvaluatesBy g (Any n) T W at depth s r t buf
   unfolding policyNode
   any-node a = record {
     few = a .few;
     says = λ e. node-holds W at depth (Any n) lt e
         (then-holds (many pnil pcons (readPolicy true depth) n (drop (at + 1) W)) (λ ts vs. got (any ts) vs) (a .says no-arms) (λ ps rest h. fine (record {
-          decision-is = h .decision-is ∙ ap (λ d. anyOf false d (evalPolicies T ps)) (denied-is W T before none (omega arith)) ∙ sym (any-is (evalPolicies T ps));
+          decision-is = h .decision-is ∙ ap (λ d. anyOf g false d (evalPolicies g T ps)) (denied-is W T before none (omega arith)) ∙ sym (any-is g (evalPolicies g T ps));
           sound = h .sound;
           next-is = omega (arith, h .next-is);
           log = consults-as (λ l. refl) (h .log);
@@ -248,12 +250,12 @@ pub one-passed : (at n : ℕ) (q : Parsed (Policy Outcome)) →
 one-passed at n (refuse k) h = nothing
 one-passed at n (got p rest) h = fine (omega (arith, h .it))
 
-module _ (T : Table) (W : List ℕ) (at depth : ℕ) (s m : Lent) (a : PolicyEval) (mid : List ℕ) (lt : at < length W) (first : EvaluatesP T W (at + 1) depth s a m mid) where
+module _ (g : Option OutcomeTable) (T : Table) (W : List ℕ) (at depth : ℕ) (s m : Lent) (a : PolicyEval) (mid : List ℕ) (lt : at < length W) (first : EvaluatesP g T W (at + 1) depth s a m mid) where
   abbrev one : List ℕ → Parsed (Policy Outcome)
   one = readPolicy true depth
 
   pub or-permits : (next : ℕ) → a .decision .permit ≡ true →
-      ((depth : ℕ) (res : Bool) → Skipped wordss (a .next) (many pnil pcons (readPolicy res depth) 1 (drop (a .next) W)) next) → EvaluatesBy OrElse T W at depth s (evalOf (a .decision) next (a .count)) m mid
+      ((depth : ℕ) (res : Bool) → Skipped wordss (a .next) (many pnil pcons (readPolicy res depth) 1 (drop (a .next) W)) next) → EvaluatesBy g OrElse T W at depth s (evalOf (a .decision) next (a .count)) m mid
   unfolding policyNode
   or-permits end q k = record {
     few = first .few;
@@ -261,17 +263,17 @@ module _ (T : Table) (W : List ℕ) (at depth : ℕ) (s m : Lent) (a : PolicyEva
         (then-holds (one (drop (at + 1) W)) (λ x vs. next (one vs) (λ y us. got (orElse x y) us))
         (both-hold (one (drop (at + 1) W)) (first .says true) (policy-leaves true depth (drop (at + 1) W))) (λ x vs h.
         let after : drop (a .next) W ≡ vs = ap (λ n. drop n W) (h .0 .next-is) ∙ sym (drop-drop (words x) (at + 1) W) ∙ h .1 in
-        let permit : decides (evalPolicy T x) ≡ true = ap decides (sym (h .0 .decision-is)) ∙ decides-as W T mid (a .decision) ∙ q in
+        let permit : decides (evalPolicy g T x) ≡ true = ap decides (sym (h .0 .decision-is)) ∙ decides-as W T mid (a .decision) ∙ q in
         then-holds (one vs) (λ y us. got (orElse x y) us)
-        (subst (λ ws. Holds (λ y _. end ≡ a .next + words y) (one ws)) after (one-passed (a .next) end (one (drop (a .next) W)) (skipped wordss (a .next) end (many pnil pcons one 1 (drop (a .next) W)) (k depth true)))) (λ y us g. fine (record {
-          decision-is = h .0 .decision-is ∙ sym (first-permits (evalPolicy T x) (evalPolicy T y) permit);
+        (subst (λ ws. Holds (λ y _. end ≡ a .next + words y) (one ws)) after (one-passed (a .next) end (one (drop (a .next) W)) (skipped wordss (a .next) end (many pnil pcons one 1 (drop (a .next) W)) (k depth true)))) (λ y us f. fine (record {
+          decision-is = h .0 .decision-is ∙ sym (first-permits (evalPolicy g T x) (evalPolicy g T y) permit);
           sound = h .0 .sound;
-          next-is = omega (arith, h .0 .next-is, g);
-          log = consults-as (λ l. after-deny-stop (evalPolicy T x) (read T x l) (read T y (read T x l)) permit) (h .0 .log);
+          next-is = omega (arith, h .0 .next-is, f);
+          log = consults-as (λ l. after-deny-stop (evalPolicy g T x) (read g T x l) (read g T y (read g T x l)) permit) (h .0 .log);
         }))));
   }
 
-  pub or-denies : (t : Lent) (b : PolicyEval) (buf : List ℕ) → a .decision .permit ≡ false → EvaluatesP T W (a .next) depth m b t buf → EvaluatesBy OrElse T W at depth s b t buf
+  pub or-denies : (t : Lent) (b : PolicyEval) (buf : List ℕ) → a .decision .permit ≡ false → EvaluatesP g T W (a .next) depth m b t buf → EvaluatesBy g OrElse T W at depth s b t buf
   unfolding policyNode
   or-denies t b buf q second = record {
     few = second .few;
@@ -279,13 +281,13 @@ module _ (T : Table) (W : List ℕ) (at depth : ℕ) (s m : Lent) (a : PolicyEva
         (then-holds (one (drop (at + 1) W)) (λ x vs. next (one vs) (λ y us. got (orElse x y) us))
         (both-hold (one (drop (at + 1) W)) (first .says true) (policy-leaves true depth (drop (at + 1) W))) (λ x vs h.
         let after : drop (a .next) W ≡ vs = ap (λ n. drop n W) (h .0 .next-is) ∙ sym (drop-drop (words x) (at + 1) W) ∙ h .1 in
-        let denied : decides (evalPolicy T x) ≡ false = ap decides (sym (h .0 .decision-is)) ∙ decides-as W T mid (a .decision) ∙ q in
+        let denied : decides (evalPolicy g T x) ≡ false = ap decides (sym (h .0 .decision-is)) ∙ decides-as W T mid (a .decision) ∙ q in
         then-holds (one vs) (λ y us. got (orElse x y) us)
-        (subst (λ ws. Holds (λ y _. Answers T W (evalPolicy T y) (a .next + words y) (read T y) m b t buf) (one ws)) after (second .says true)) (λ y us g. fine (record {
-          decision-is = g .decision-is ∙ sym (first-denies (evalPolicy T x) (evalPolicy T y) denied);
-          sound = g .sound;
-          next-is = omega (arith, h .0 .next-is, g .next-is);
-          log = consults-as (λ l. after-deny (evalPolicy T x) (read T x l) (read T y (read T x l)) denied) (consults-then (h .0 .log) (g .log));
+        (subst (λ ws. Holds (λ y _. Answers T W (evalPolicy g T y) (a .next + words y) (read g T y) m b t buf) (one ws)) after (second .says true)) (λ y us f. fine (record {
+          decision-is = f .decision-is ∙ sym (first-denies (evalPolicy g T x) (evalPolicy g T y) denied);
+          sound = f .sound;
+          next-is = omega (arith, h .0 .next-is, f .next-is);
+          log = consults-as (λ l. after-deny (evalPolicy g T x) (read g T x l) (read g T y (read g T x l)) denied) (consults-then (h .0 .log) (f .log));
         }))));
   }
 

@@ -1,10 +1,12 @@
 -- One more arm's decision folded into the decision so far. Assumes nothing.
 use mathlib.Core.Path.{_≡_, refl, sym, _∙_, ap, ap₂, subst}
 use mathlib.Core.Bool.{Bool, true, false}
+use mathlib.Core.Option.{Option}
 use mathlib.Core.List.{List, _++_}
 use Prim.Native.Nat.{ℕ, _≤_}
 use lib.ListN.{length, take, drop}
 use Rattle.model.specs.Facts.{Table}
+use Rattle.model.specs.Levels.{OutcomeTable}
 use Rattle.model.specs.Decision.{Permit, Denial, permits, denies}
 use Rattle.model.specs.Decision.{Decision as Decided}
 use Rattle.model.specs.Products.{Outcome, meetPermit, joinPermit}
@@ -42,40 +44,40 @@ module _ (W before after : List ℕ) (sofar incoming r : Decision) where
   }
 
   -- ---- All
-  pub met-first : incoming .united ≤ obligationRoom → sofar .permit ≡ false → Kept incoming before after r → Met W sofar incoming before r after
-  met-first few p k = record {
+  pub met-first : (g : Option OutcomeTable) → incoming .united ≤ obligationRoom → sofar .permit ≡ false → Kept incoming before after r → Met g W sofar incoming before r after
+  met-first g few p k = record {
     few = subst (λ (d : Decision). d .united ≤ obligationRoom) (sym (k .same)) few;
-    folds = λ q. takes meetNext few k (λ T.
-        ap₂ meetNext (as-deny W T before sofar p) (as-permit W T (drop obligationRoom before) incoming q) ∙ sym (as-permit W T (drop obligationRoom before) incoming q));
+    folds = λ q. takes (meetNext g) few k (λ T.
+        ap₂ (meetNext g) (as-deny W T before sofar p) (as-permit W T (drop obligationRoom before) incoming q) ∙ sym (as-permit W T (drop obligationRoom before) incoming q));
   }
 
-  pub met-more : sofar .permit ≡ true → Folded meetPermit W before after sofar incoming r → Met W sofar incoming before r after
-  met-more p f = record { few = f .few; folds = λ q. folds-permits meetNext meetPermit (λ _ _. refl) p q f }
+  pub met-more : (g : Option OutcomeTable) → sofar .permit ≡ true → Folded (meetPermit g) W before after sofar incoming r → Met g W sofar incoming before r after
+  met-more g p f = record { few = f .few; folds = λ q. folds-permits (meetNext g) (meetPermit g) (λ _ _. refl) p q f }
 
   -- ---- Any
-  pub join-first : (begun : Bool) → begun ≡ false → incoming .united ≤ obligationRoom → Kept incoming before after r → Folds (joinNext begun) W sofar before incoming (drop obligationRoom before) r after
-  join-first begun b few k = rw b (takes (joinNext false) few k (λ T. refl))
+  pub join-first : (g : Option OutcomeTable) (begun : Bool) → begun ≡ false → incoming .united ≤ obligationRoom → Kept incoming before after r → Folds (joinNext g begun) W sofar before incoming (drop obligationRoom before) r after
+  join-first g begun b few k = rw b (takes (joinNext g false) few k (λ T. refl))
 
-  pub join-permit : (begun : Bool) → begun ≡ true → incoming .united ≤ obligationRoom → sofar .permit ≡ false → incoming .permit ≡ true → Kept incoming before after r →
-      Folds (joinNext begun) W sofar before incoming (drop obligationRoom before) r after
-  join-permit begun b few p q k = rw b (takes (joinNext true) few k (λ T.
-      ap₂ (joinNext true) (as-deny W T before sofar p) (as-permit W T (drop obligationRoom before) incoming q) ∙ sym (as-permit W T (drop obligationRoom before) incoming q)))
+  pub join-permit : (g : Option OutcomeTable) (begun : Bool) → begun ≡ true → incoming .united ≤ obligationRoom → sofar .permit ≡ false → incoming .permit ≡ true → Kept incoming before after r →
+      Folds (joinNext g begun) W sofar before incoming (drop obligationRoom before) r after
+  join-permit g begun b few p q k = rw b (takes (joinNext g true) few k (λ T.
+      ap₂ (joinNext g true) (as-deny W T before sofar p) (as-permit W T (drop obligationRoom before) incoming q) ∙ sym (as-permit W T (drop obligationRoom before) incoming q)))
 
-  pub join-permits : (begun : Bool) → begun ≡ true → sofar .permit ≡ true → incoming .permit ≡ true → Folded joinPermit W before after sofar incoming r →
-      Folds (joinNext begun) W sofar before incoming (drop obligationRoom before) r after
-  join-permits begun b p q f = rw b (folds-permits (joinNext true) joinPermit (λ _ _. refl) p q f)
+  pub join-permits : (g : Option OutcomeTable) (begun : Bool) → begun ≡ true → sofar .permit ≡ true → incoming .permit ≡ true → Folded (joinPermit g) W before after sofar incoming r →
+      Folds (joinNext g begun) W sofar before incoming (drop obligationRoom before) r after
+  join-permits g begun b p q f = rw b (folds-permits (joinNext g true) (joinPermit g) (λ _ _. refl) p q f)
 
-join-deny-at : (x y : Decided Outcome) (c : Denial Outcome) → y ≡ denies c → joinNext true x y ≡ x
-join-deny-at (permits p) y c e = ap (joinNext true (permits p)) e
-join-deny-at (denies d) y c e = ap (joinNext true (denies d)) e
+join-deny-at : (g : Option OutcomeTable) (x y : Decided Outcome) (c : Denial Outcome) → y ≡ denies c → joinNext g true x y ≡ x
+join-deny-at g (permits p) y c e = ap (joinNext g true (permits p)) e
+join-deny-at g (denies d) y c e = ap (joinNext g true (denies d)) e
 
 -- A deny after another arm changes nothing.
-pub join-deny : (W before : List ℕ) (sofar incoming : Decision) (begun : Bool) → begun ≡ true → sofar .united ≤ obligationRoom → incoming .permit ≡ false →
-    Folds (joinNext begun) W sofar before incoming (drop obligationRoom before) sofar before
-join-deny W before sofar incoming begun b few q = rw b (record {
+pub join-deny : (g : Option OutcomeTable) (W before : List ℕ) (sofar incoming : Decision) (begun : Bool) → begun ≡ true → sofar .united ≤ obligationRoom → incoming .permit ≡ false →
+    Folds (joinNext g begun) W sofar before incoming (drop obligationRoom before) sofar before
+join-deny g W before sofar incoming begun b few q = rw b (record {
   few = few;
   sound = λ s _. s;
-  folded = λ _ _ T. sym (join-deny-at (decisionOf W T before sofar) (decisionOf W T (drop obligationRoom before) incoming) (clauseAt W T (incoming .clause)) (as-deny W T (drop obligationRoom before) incoming q));
+  folded = λ _ _ T. sym (join-deny-at g (decisionOf W T before sofar) (decisionOf W T (drop obligationRoom before) incoming) (clauseAt W T (incoming .clause)) (as-deny W T (drop obligationRoom before) incoming q));
 })
 
 -- ---- where the tail of the buffer was lent to the arm

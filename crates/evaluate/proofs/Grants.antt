@@ -1,12 +1,14 @@
 -- The obligation count and the outcome that a grant's head says are those of its first word. Assumes nothing.
 use mathlib.Core.Path.{_≡_, sym, _∙_, ap₂, subst}
 use mathlib.Core.Bool.{Bool, true, false, cond}
+use mathlib.Core.Option.{Option}
 use mathlib.Core.List.{List}
 use Prim.Native.Nat.{ℕ, zero, suc, _-_, _/_, _%_}
 use native.Mathlib.Omega.{arith}
 use lib.Dec.{eqb, ltb, leb}
 use lib.ListN.{getD}
 use Rattle.model.specs.Facts.{Table}
+use Rattle.model.specs.Levels.{OutcomeTable}
 use Rattle.model.specs.Reading.{kindOf, restOf, mostObligations}
 use Rattle.policy_model.specs.declared.PolicyHead.{PolicyHead}
 use Rattle.policy_model.specs.declared.PolicyHead.the-variants.{Permit, Deny, Grant, All, Any, OrElse, PermitWithTrace, DenyWithTrace, BadKind, BadField}
@@ -77,8 +79,8 @@ unfolding Says
 grant-fields w hidden n o e = subst (Says w) (sym e) (head-says w)
 
 -- The answer to a grant by its first word is the answer to it by its head.
-pub grant-by-word : {T : Table} {W : List ℕ} {at depth : ℕ} {s : Lent} {r : PolicyEval} {t : Lent} {buf : List ℕ} (hidden : Bool) (n o : ℕ) →
-    EvaluatesBy (Grant hidden (obligationsAt W at) (outcomeAt W at)) T W at depth s r t buf → EvaluatesBy (Grant hidden n o) T W at depth s r t buf
+pub grant-by-word : {g : Option OutcomeTable} {T : Table} {W : List ℕ} {at depth : ℕ} {s : Lent} {r : PolicyEval} {t : Lent} {buf : List ℕ} (hidden : Bool) (n o : ℕ) →
+    EvaluatesBy g (Grant hidden (obligationsAt W at) (outcomeAt W at)) T W at depth s r t buf → EvaluatesBy g (Grant hidden n o) T W at depth s r t buf
 grant-by-word {W = W} {at} hidden n o a = record {
   few = a .few;
   says = λ e. let f = grant-fields (getD W at 0) hidden n o e in a .says (sym (ap₂ (λ i j. Grant hidden i j) (f .0) (f .1)) ∙ e);

@@ -1,10 +1,12 @@
 -- What the evaluation of policies answers, and what it leaves in the list and the buffer that it is lent.
 use mathlib.Core.Path.{_≡_}
 use mathlib.Core.Bool.{Bool, true, false}
+use mathlib.Core.Option.{Option}
 use mathlib.Core.List.{List}
 use Prim.Native.Nat.{ℕ, suc, _+_}
 use lib.ListN.{drop, getD}
 use Rattle.model.specs.Facts.{Table}
+use Rattle.model.specs.Levels.{OutcomeTable}
 use Rattle.model.specs.Decision.{Decision as Decided}
 use Rattle.model.specs.Consulted.{Consulted}
 use Rattle.model.specs.Products.{Outcome, evalPolicy, read, readPolicy, policyAt}
@@ -35,15 +37,15 @@ pub record Answers (T : Table) (W : List ℕ) (D : Decided Outcome) (end : ℕ) 
   pub log : Consults reads s t
 
 -- The answer to a policy at `at`, of at most `depth` levels, in a sheet or a residual. Of words that don't read nothing is said.
-pub record EvaluatesP (T : Table) (W : List ℕ) (at depth : ℕ) (s : Lent) (r : PolicyEval) (t : Lent) (buf : List ℕ) : Type 0 where
+pub record EvaluatesP (g : Option OutcomeTable) (T : Table) (W : List ℕ) (at depth : ℕ) (s : Lent) (r : PolicyEval) (t : Lent) (buf : List ℕ) : Type 0 where
   pub few : Few (r .decision)
-  pub says : (res : Bool) → Holds (λ p rest. Answers T W (evalPolicy T p) (at + words p) (read T p) s r t buf) (readPolicy res depth (drop at W))
+  pub says : (res : Bool) → Holds (λ p rest. Answers T W (evalPolicy g T p) (at + words p) (read g T p) s r t buf) (readPolicy res depth (drop at W))
 
 -- The same where its first word has this head and `depth` levels are left for what stands below.
-pub record EvaluatesBy (h : PolicyHead) (T : Table) (W : List ℕ) (at depth : ℕ) (s : Lent) (r : PolicyEval) (t : Lent) (buf : List ℕ) : Type 0 where
+pub record EvaluatesBy (g : Option OutcomeTable) (h : PolicyHead) (T : Table) (W : List ℕ) (at depth : ℕ) (s : Lent) (r : PolicyEval) (t : Lent) (buf : List ℕ) : Type 0 where
   pub few : Few (r .decision)
   pub says : h ≡ policyHead (getD W at 0) true →
-      Holds (λ p rest. Answers T W (evalPolicy T p) (at + words p) (read T p) s r t buf) (policyAt W at (suc depth))
+      Holds (λ p rest. Answers T W (evalPolicy g T p) (at + words p) (read g T p) s r t buf) (policyAt W at (suc depth))
 
 -- The decision so far and that of one more arm, each with its buffer, come to r, with its buffer.
 pub record Folds (fold : Decided Outcome → Decided Outcome → Decided Outcome) (W : List ℕ) (sofar : Decision) (before : List ℕ) (incoming : Decision) (part : List ℕ) (r : Decision) (after : List ℕ) : Type 0 where
@@ -52,6 +54,6 @@ pub record Folds (fold : Decided Outcome → Decided Outcome → Decided Outcome
   pub folded : Sound W before sofar → Sound W part incoming → (T : Table) → decisionOf W T after r ≡ fold (decisionOf W T before sofar) (decisionOf W T part incoming)
 
 -- Under All, an arm that permits. The buffer of the decision so far is the front, that of the arm starts at the second room.
-pub record Met (W : List ℕ) (sofar incoming : Decision) (before : List ℕ) (r : Decision) (after : List ℕ) : Type 0 where
+pub record Met (g : Option OutcomeTable) (W : List ℕ) (sofar incoming : Decision) (before : List ℕ) (r : Decision) (after : List ℕ) : Type 0 where
   pub few : Few r
-  pub folds : incoming .permit ≡ true → Folds meetNext W sofar before incoming (drop obligationRoom before) r after
+  pub folds : incoming .permit ≡ true → Folds (meetNext g) W sofar before incoming (drop obligationRoom before) r after

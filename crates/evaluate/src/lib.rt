@@ -5,13 +5,17 @@
 use condition::ConditionEval;
 use decision::Decision;
 use decision::OBLIGATION_ROOM;
+use outcome::Products;
 use policy_model::PolicyHead;
 ghost use mathlib.Core.Path.{_≡_};
 ghost use mathlib.Core.Bool.{Bool};
 ghost use mathlib.Core.List.{List};
 ghost use Prim.Native.Nat.{ℕ, _+_, _≤_, _<_};
 ghost use lib.ListN.{length, drop};
+ghost use mathlib.Core.Option.{Option};
 ghost use Rattle.model.specs.Facts.{Table, tableOf};
+ghost use Rattle.model.specs.Levels.{OutcomeTable, meetOf, joinOf};
+ghost use Rattle.outcome.specs.Carried.{carried};
 ghost use Rattle.model.specs.Reading.{levels, recordWords};
 ghost use Rattle.policy_model.specs.declared.PolicyHead.the-variants.{Grant, All, Any, OrElse, PermitWithTrace, DenyWithTrace};
 ghost use Rattle.condition.specs.Listing.{lent};
@@ -50,12 +54,19 @@ fn permitted(outcome: u16, none: usize, next: usize, count: usize) -> PolicyEval
 }
 
 // The decision so far and one more permit under All. The first permit is taken as it is.
-pub fn met(words: &[u32], sofar: Decision, incoming: Decision, buf: &mut [u8]) -> Decision
+pub fn met(
+    words: &[u32],
+    outcome: u16,
+    sofar: Decision,
+    incoming: Decision,
+    buf: &mut [u8],
+) -> Decision
     requires { ⌜ Few sofar × Few incoming × RoomToUnite 2 (now buf) ⌝ }
-    ensures { λ r. ⌜ Met (now (words .entry)) sofar incoming (now (buf .entry)) r (now (buf .exit)) ⌝ }
+    ensures few { λ r. ⌜ Few r ⌝ }
+    ensures folds { λ r. ⌜ ((g : Option OutcomeTable) → outcome ≡ meetOf g (sofar .outcome) (incoming .outcome) → Met g (now (words .entry)) sofar incoming (now (buf .entry)) r (now (buf .exit))) ⌝ }
 {
     if sofar.permit {
-        return decision::meet(words, sofar, incoming, buf);
+        return decision::meet(words, outcome, sofar, incoming, buf);
     }
     decision::keep(incoming, buf)
 }
@@ -63,13 +74,15 @@ pub fn met(words: &[u32], sofar: Decision, incoming: Decision, buf: &mut [u8]) -
 // The decision so far and one more under Any; `begun` says whether there was an arm before. Permits are joined, and of two denies the first stands.
 pub fn joined(
     words: &[u32],
+    outcome: u16,
     sofar: Decision,
     begun: bool,
     incoming: Decision,
     buf: &mut [u8],
 ) -> Decision
     requires { ⌜ Few sofar × Few incoming × RoomToUnite 2 (now buf) ⌝ }
-    ensures { λ r. ⌜ Folds (joinNext begun) (now (words .entry)) sofar (now (buf .entry)) incoming (drop obligationRoom (now (buf .entry))) r (now (buf .exit)) ⌝ }
+    ensures few { λ r. ⌜ Few r ⌝ }
+    ensures folds { λ r. ⌜ ((g : Option OutcomeTable) → outcome ≡ joinOf g (sofar .outcome) (incoming .outcome) → Folds (joinNext g begun) (now (words .entry)) sofar (now (buf .entry)) incoming (drop obligationRoom (now (buf .entry))) r (now (buf .exit))) ⌝ }
 {
     if !begun {
         return decision::keep(incoming, buf);
@@ -78,7 +91,7 @@ pub fn joined(
         return sofar;
     }
     if sofar.permit {
-        return decision::join(words, sofar, incoming, buf);
+        return decision::join(words, outcome, sofar, incoming, buf);
     }
     decision::keep(incoming, buf)
 }
@@ -115,7 +128,7 @@ fn eval_grant(
     count: usize,
 ) -> PolicyEval
     requires { ⌜ (at < length (now words)) × (depth < levels) ⌝ }
-    ensures { λ r. ⌜ ((hidden : Bool) (obligations outcome : ℕ) (buf : List ℕ) → EvaluatesBy (Grant hidden obligations outcome) (tableOf (now (facts .entry))) (now (words .entry)) at depth (lent count (now (entries .entry)) (now (seen .entry))) r (lent (r .count) (now (entries .exit)) (now (seen .exit))) buf) ⌝ }
+    ensures { λ r. ⌜ ((g : Option OutcomeTable) (hidden : Bool) (obligations outcome : ℕ) (buf : List ℕ) → EvaluatesBy g (Grant hidden obligations outcome) (tableOf (now (facts .entry))) (now (words .entry)) at depth (lent count (now (entries .entry)) (now (seen .entry))) r (lent (r .count) (now (entries .exit)) (now (seen .exit))) buf) ⌝ }
 {
     let none = words.len();
     let before = grant::before_condition_in(words, at) as usize;
@@ -135,7 +148,7 @@ fn stored_permit(
     count: usize,
 ) -> PolicyEval
     requires { ⌜ at < length (now words) ⌝ }
-    ensures { λ r. ⌜ ((depth : ℕ) (T : Table) (entries seen buf : List ℕ) → depth < levels → EvaluatesBy (PermitWithTrace obligations outcome) T (now (words .entry)) at depth (lent count entries seen) r (lent (r .count) entries seen) buf) ⌝ }
+    ensures { λ r. ⌜ ((g : Option OutcomeTable) (depth : ℕ) (T : Table) (entries seen buf : List ℕ) → depth < levels → EvaluatesBy g (PermitWithTrace obligations outcome) T (now (words .entry)) at depth (lent count entries seen) r (lent (r .count) entries seen) buf) ⌝ }
 {
     let none = words.len();
     let second = at + 1;
@@ -157,7 +170,7 @@ fn stored_permit(
 // A stored deny at `at`: word three is the count of its facts.
 fn stored_deny(words: &[u32], at: usize, count: usize) -> PolicyEval
     requires { ⌜ at < length (now words) ⌝ }
-    ensures { λ r. ⌜ ((hidden denied : Bool) (outcome depth : ℕ) (T : Table) (entries seen buf : List ℕ) → depth < levels → EvaluatesBy (DenyWithTrace hidden denied outcome) T (now (words .entry)) at depth (lent count entries seen) r (lent (r .count) entries seen) buf) ⌝ }
+    ensures { λ r. ⌜ ((g : Option OutcomeTable) (hidden denied : Bool) (outcome depth : ℕ) (T : Table) (entries seen buf : List ℕ) → depth < levels → EvaluatesBy g (DenyWithTrace hidden denied outcome) T (now (words .entry)) at depth (lent count entries seen) r (lent (r .count) entries seen) buf) ⌝ }
 {
     let none = words.len();
     if none - at < 3 {
@@ -181,13 +194,15 @@ pub fn eval_policy(
     at: usize,
     depth: usize,
     facts: &[u8],
+    outcome_levels: u16,
+    outcomes: &[u8],
     entries: &mut [u16],
     seen: &mut [u64],
     count: usize,
     buf: &mut [u8],
 ) -> PolicyEval
     requires { ⌜ (depth ≤ levels) × RoomToUnite (depth + 1) (now buf) × (length (now words) ≤ recordWords) ⌝ }
-    ensures { λ r. ⌜ EvaluatesP (tableOf (now (facts .entry))) (now (words .entry)) at depth (lent count (now (entries .entry)) (now (seen .entry))) r (lent (r .count) (now (entries .exit)) (now (seen .exit))) (now (buf .exit)) ⌝ }
+    ensures { λ r. ⌜ EvaluatesP (carried «outcome_levels» (now (outcomes .entry))) (tableOf (now (facts .entry))) (now (words .entry)) at depth (lent count (now (entries .entry)) (now (seen .entry))) r (lent (r .count) (now (entries .exit)) (now (seen .exit))) (now (buf .exit)) ⌝ }
 {
     let none = words.len();
     if none <= at {
@@ -207,12 +222,49 @@ pub fn eval_policy(
             outcome: _,
         } => { eval_grant(words, at, below, facts, entries, seen, count) }
         PolicyHead::All(arms) => {
-            eval_all(words, at, below, arms, facts, entries, seen, count, buf)
+            eval_all(
+                words,
+                at,
+                below,
+                arms,
+                facts,
+                outcome_levels,
+                outcomes,
+                entries,
+                seen,
+                count,
+                buf,
+            )
         }
         PolicyHead::Any(arms) => {
-            eval_any(words, at, below, arms, facts, entries, seen, count, buf)
+            eval_any(
+                words,
+                at,
+                below,
+                arms,
+                facts,
+                outcome_levels,
+                outcomes,
+                entries,
+                seen,
+                count,
+                buf,
+            )
         }
-        PolicyHead::OrElse => { eval_or_else(words, at, below, facts, entries, seen, count, buf) }
+        PolicyHead::OrElse => {
+            eval_or_else(
+                words,
+                at,
+                below,
+                facts,
+                outcome_levels,
+                outcomes,
+                entries,
+                seen,
+                count,
+                buf,
+            )
+        }
         PolicyHead::PermitWithTrace {
             obligations,
             outcome,
@@ -233,13 +285,15 @@ fn eval_arm(
     at: usize,
     depth: usize,
     facts: &[u8],
+    outcome_levels: u16,
+    outcomes: &[u8],
     entries: &mut [u16],
     seen: &mut [u64],
     count: usize,
     buf: &mut [u8],
 ) -> PolicyEval
     requires { ⌜ (depth ≤ levels) × RoomToUnite (depth + 1) (now buf) × (length (now words) ≤ recordWords) ⌝ }
-    ensures { λ r. ⌜ EvaluatesP (tableOf (now (facts .entry))) (now (words .entry)) at depth (lent count (now (entries .entry)) (now (seen .entry))) r (lent (r .count) (now (entries .exit)) (now (seen .exit))) (now (buf .exit)) ⌝ }
+    ensures { λ r. ⌜ EvaluatesP (carried «outcome_levels» (now (outcomes .entry))) (tableOf (now (facts .entry))) (now (words .entry)) at depth (lent count (now (entries .entry)) (now (seen .entry))) r (lent (r .count) (now (entries .exit)) (now (seen .exit))) (now (buf .exit)) ⌝ }
 {
     let none = words.len();
     if none <= at {
@@ -249,7 +303,18 @@ fn eval_arm(
     if word / policy_model::HALF == policy_model::PERMIT {
         return permitted((word % policy_model::HALF) as u16, none, at + 1, count);
     }
-    eval_policy(words, at, depth, facts, entries, seen, count, buf)
+    eval_policy(
+        words,
+        at,
+        depth,
+        facts,
+        outcome_levels,
+        outcomes,
+        entries,
+        seen,
+        count,
+        buf,
+    )
 }
 
 // The All at `at`, whose `arms` have at most `depth` levels: meets the permits, or denies with the first denying arm. Arms after that one aren't read.
@@ -259,13 +324,15 @@ fn eval_all(
     depth: usize,
     arms: u32,
     facts: &[u8],
+    outcome_levels: u16,
+    outcomes: &[u8],
     entries: &mut [u16],
     seen: &mut [u64],
     count: usize,
     buf: &mut [u8],
 ) -> PolicyEval
     requires { ⌜ (at < length (now words)) × (depth < levels) × RoomToUnite (depth + 2) (now buf) × (length (now words) ≤ recordWords) ⌝ }
-    ensures { λ r. ⌜ EvaluatesBy (All arms) (tableOf (now (facts .entry))) (now (words .entry)) at depth (lent count (now (entries .entry)) (now (seen .entry))) r (lent (r .count) (now (entries .exit)) (now (seen .exit))) (now (buf .exit)) ⌝ }
+    ensures { λ r. ⌜ EvaluatesBy (carried «outcome_levels» (now (outcomes .entry))) (All arms) (tableOf (now (facts .entry))) (now (words .entry)) at depth (lent count (now (entries .entry)) (now (seen .entry))) r (lent (r .count) (now (entries .exit)) (now (seen .exit))) (now (buf .exit)) ⌝ }
 {
     let mut sofar = decision::denied(words.len());
     let mut next = at + 1;
@@ -277,6 +344,8 @@ fn eval_all(
             next,
             depth,
             facts,
+            outcome_levels,
+            outcomes,
             entries,
             seen,
             listed,
@@ -294,7 +363,14 @@ fn eval_all(
                 count: listed,
             };
         }
-        sofar = met(words, sofar, decision, buf);
+        let earlier = Products {
+            bits: sofar.outcome,
+        };
+        let later = Products {
+            bits: decision.outcome,
+        };
+        let both = earlier.meet_by(later, outcome_levels, outcomes);
+        sofar = met(words, both.bits, sofar, decision, buf);
     }
     PolicyEval {
         decision: sofar,
@@ -310,13 +386,15 @@ fn eval_any(
     depth: usize,
     arms: u32,
     facts: &[u8],
+    outcome_levels: u16,
+    outcomes: &[u8],
     entries: &mut [u16],
     seen: &mut [u64],
     count: usize,
     buf: &mut [u8],
 ) -> PolicyEval
     requires { ⌜ (at < length (now words)) × (depth < levels) × RoomToUnite (depth + 2) (now buf) × (length (now words) ≤ recordWords) ⌝ }
-    ensures { λ r. ⌜ EvaluatesBy (Any arms) (tableOf (now (facts .entry))) (now (words .entry)) at depth (lent count (now (entries .entry)) (now (seen .entry))) r (lent (r .count) (now (entries .exit)) (now (seen .exit))) (now (buf .exit)) ⌝ }
+    ensures { λ r. ⌜ EvaluatesBy (carried «outcome_levels» (now (outcomes .entry))) (Any arms) (tableOf (now (facts .entry))) (now (words .entry)) at depth (lent count (now (entries .entry)) (now (seen .entry))) r (lent (r .count) (now (entries .exit)) (now (seen .exit))) (now (buf .exit)) ⌝ }
 {
     let mut sofar = decision::denied(words.len());
     let mut begun = false;
@@ -329,6 +407,8 @@ fn eval_any(
             next,
             depth,
             facts,
+            outcome_levels,
+            outcomes,
             entries,
             seen,
             listed,
@@ -338,7 +418,14 @@ fn eval_any(
         listed = arm.count;
         left -= 1;
         let decision = arm.decision;
-        sofar = joined(words, sofar, begun, decision, buf);
+        let earlier = Products {
+            bits: sofar.outcome,
+        };
+        let later = Products {
+            bits: decision.outcome,
+        };
+        let either = earlier.join_by(later, outcome_levels, outcomes);
+        sofar = joined(words, either.bits, sofar, begun, decision, buf);
         begun = true;
     }
     PolicyEval {
@@ -354,15 +441,28 @@ fn eval_or_else(
     at: usize,
     depth: usize,
     facts: &[u8],
+    outcome_levels: u16,
+    outcomes: &[u8],
     entries: &mut [u16],
     seen: &mut [u64],
     count: usize,
     buf: &mut [u8],
 ) -> PolicyEval
     requires { ⌜ (at < length (now words)) × (depth < levels) × RoomToUnite (depth + 1) (now buf) × (length (now words) ≤ recordWords) ⌝ }
-    ensures { λ r. ⌜ EvaluatesBy OrElse (tableOf (now (facts .entry))) (now (words .entry)) at depth (lent count (now (entries .entry)) (now (seen .entry))) r (lent (r .count) (now (entries .exit)) (now (seen .exit))) (now (buf .exit)) ⌝ }
+    ensures { λ r. ⌜ EvaluatesBy (carried «outcome_levels» (now (outcomes .entry))) OrElse (tableOf (now (facts .entry))) (now (words .entry)) at depth (lent count (now (entries .entry)) (now (seen .entry))) r (lent (r .count) (now (entries .exit)) (now (seen .exit))) (now (buf .exit)) ⌝ }
 {
-    let primary = eval_policy(words, at + 1, depth, facts, entries, seen, count, buf);
+    let primary = eval_policy(
+        words,
+        at + 1,
+        depth,
+        facts,
+        outcome_levels,
+        outcomes,
+        entries,
+        seen,
+        count,
+        buf,
+    );
     let next = primary.next;
     let listed = primary.count;
     let decision = primary.decision;
@@ -374,5 +474,16 @@ fn eval_or_else(
             count: listed,
         };
     }
-    eval_policy(words, next, depth, facts, entries, seen, listed, buf)
+    eval_policy(
+        words,
+        next,
+        depth,
+        facts,
+        outcome_levels,
+        outcomes,
+        entries,
+        seen,
+        listed,
+        buf,
+    )
 }

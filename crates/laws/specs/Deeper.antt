@@ -26,19 +26,23 @@ pub follows-got : {A : Type 0} {p q : Parsed A} {a : A} {ws : List ℕ} → Foll
 follows-got {p = refuse n} h e = cc
 follows-got {p = got b vs} h e = h .it ∙ e
 
-refused : {A : Type 0} {n : ℕ} {q : Parsed A} → Follows (refuse n) q
+pub refused : {A : Type 0} {n : ℕ} {q : Parsed A} → Follows (refuse n) q
 refused = record { it = tt }
 
-equal : {A : Type 0} (p : Parsed A) → Follows p p
+pub equal : {A : Type 0} (p : Parsed A) → Follows p p
 equal (refuse n) = record { it = tt }
 equal (got a ws) = record { it = refl }
 
-follows-unless : {A : Type 0} (b : Bool) (n : ℕ) (p q : Parsed A) → Follows p q → Follows (unless b n p) (unless b n q)
+pub follows-unless : {A : Type 0} (b : Bool) (n : ℕ) (p q : Parsed A) → Follows p q → Follows (unless b n p) (unless b n q)
 follows-unless true n p q h = h
 follows-unless false n p q h = refused
 
+pub another-follows : {A : Type 0} (ws : List ℕ) (k l : ℕ → List ℕ → Parsed A) → ((w : ℕ) (vs : List ℕ) → Follows (k w vs) (l w vs)) → Follows (another ws k) (another ws l)
+another-follows [] k l g = refused
+another-follows (w ∷ ws) k l g = g w ws
+
 module _ {A B : Type 0} where
-  follows-next : (p q : Parsed A) (k l : A → List ℕ → Parsed B) → Follows p q → ((a : A) (ws : List ℕ) → Follows (k a ws) (l a ws)) → Follows (next p k) (next q l)
+  pub follows-next : (p q : Parsed A) (k l : A → List ℕ → Parsed B) → Follows p q → ((a : A) (ws : List ℕ) → Follows (k a ws) (l a ws)) → Follows (next p k) (next q l)
   follows-next (refuse n) q k l h f = refused
   follows-next (got a ws) q k l h f = subst-next (k a ws) (f a ws)
     where
@@ -47,7 +51,7 @@ module _ {A B : Type 0} where
       subst-next (got b vs) g = record { it = ap (λ z. next z l) (h .it) ∙ g .it }
 
   module _ (nil : B) (cons : A → B → B) (p q : List ℕ → Parsed A) (f : (ws : List ℕ) → Follows (p ws) (q ws)) where
-    follows-many : (n : ℕ) (ws : List ℕ) → Follows (many nil cons p n ws) (many nil cons q n ws)
+    pub follows-many : (n : ℕ) (ws : List ℕ) → Follows (many nil cons p n ws) (many nil cons q n ws)
     follows-many zero ws = equal (got nil ws)
     follows-many (suc n) ws =
         follows-next (p ws) (q ws) (λ a vs. next (many nil cons p n vs) (λ xs us. got (cons a xs) us)) (λ a vs. next (many nil cons q n vs) (λ xs us. got (cons a xs) us)) (f ws)
@@ -92,10 +96,6 @@ module _ {O : Type 0} (value : ℕ → Option O) where
     outcome-follows : {A : Type 0} (o : Option O) (k l : O → Parsed A) → ((x : O) → Follows (k x) (l x)) → Follows (outcomeOf value o k) (outcomeOf value o l)
     outcome-follows none k l g = refused
     outcome-follows (some x) k l g = g x
-
-    another-follows : {A : Type 0} (ws : List ℕ) (k l : ℕ → List ℕ → Parsed A) → ((w : ℕ) (vs : List ℕ) → Follows (k w vs) (l w vs)) → Follows (another ws k) (another ws l)
-    another-follows [] k l g = refused
-    another-follows (w ∷ ws) k l g = g w ws
 
     grant-more : (sh n : ℕ) (o : O) (lab rea : ℕ) (ws : List ℕ) → Follows (grantMore value pc sh n o lab rea ws) (grantMore value qc sh n o lab rea ws)
     grant-more sh n o lab rea ws =

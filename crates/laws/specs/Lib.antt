@@ -14,6 +14,9 @@ pub mod Canon
 pub mod Products
 pub mod Folds
 pub mod Deeper
+pub mod Wider
+pub mod Lattice
+pub mod LevelLaws
 pub mod Numbers
 pub mod Alike
 pub mod PartialTable

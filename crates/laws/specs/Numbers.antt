@@ -1,5 +1,5 @@
 -- Every refusal has a number of document 01's table, "How a request is turned back": 1 to 11, but for 9, which no longer occurs; or 16, for a sheet's number,
--- and from a narrowing alone 17, for a contradicted entry. So 0 can say that a call was accepted. Assumes nothing.
+-- and from a narrowing alone 17, for a contradicted entry; and where a table is given 21. So 0 can say that a call was accepted. Assumes nothing.
 use mathlib.Core.Path.{_≡_, refl}
 use mathlib.Core.Logic.{_⊎_, inl, inr}
 use mathlib.Core.Bool.{Bool, true, false, cond, _&&_}
@@ -21,6 +21,7 @@ use Rattle.model.specs.Record.{Record, evaluated, reduced, narrowed, completed}
 use Rattle.model.specs.Writing.{encodeR, countBits, markBits, obligationBits, entryBits, seenIn}
 use Rattle.model.specs.Reading.{Parsed, refuse, got, next, unless, another, Fields, bad, ok, put, takeField, takeFields, readWords, readList, obligation, fewObligations, listed, consulted, kindOf, restOf, plain, counted, many, nodeC, readCondition, levels, sheetLength, recordLength, whole, mark, shapeOf, outcomeOf, deniedOf, grantMore, parseGrant, grantAt, more12, parse12, at12, more13, parse13, at13, asStored, inResidual, nodeP, lastKind, readPolicy, readSheet, node14, parse14, parse15, rest, leads, readLead, readRecord, obligationCount, presenceCount}
 use Rattle.model.specs.Calls.{Answer, refusal, wrote, unlessLong, unlessFault, onRead, unlessOther, hasNumber, isSheetNumber, under, fits, write, evaluate, partialEvaluate, narrowResidual, completeResidual, unlessContradicted}
+use Rattle.model.specs.Levels.{OutcomeTable, outcomesOf, acceptable, byTable}
 
 -- A number of the table. There is no 9: obligations may repeat.
 abbrev pub Cause : ℕ → Type 0
@@ -422,3 +423,34 @@ module _ (L : Outcomes) (number : ℕ) where
       long-told OtherNumber (recordLength rec) _ (fault-told OtherNumber (tableFault knownFacts facts) _ (table-faulty knownFacts facts)
       (read-told OtherNumber (readRecord (L .value) rec) _ (record-numbered (L .value) rec)
       (λ r. other-told OtherNumber (hasNumber rec number) _ refl (write-told OtherNumber L number room (completed L (tableOf facts) r)))))
+
+-- Given a table, a call may tell 21 too.
+abbrev pub OrTable : (ℕ → Type 0) → ℕ → Type 0
+OrTable Besides n = Besides n ⊎ (n ≡ 21)
+
+module _ (Besides : ℕ → Type 0) where
+  more-told : (a : Answer) → Told Besides a → Told (OrTable Besides) a
+  more-told (refusal n) (inl h) = inl h
+  more-told (refusal n) (inr h) = inr (inl h)
+  more-told (wrote ws) h = tt
+
+  told-by-table : (g : Option OutcomeTable) (call : Outcomes → Answer) → Told Besides (call (outcomesOf g)) → Told (OrTable Besides) (byTable g call)
+  told-by-table g call h = by (acceptable g)
+    where
+      by : (b : Bool) → Told (OrTable Besides) (cond b (call (outcomesOf g)) (refusal 21))
+      by true = more-told (call (outcomesOf g)) h
+      by false = inr (inr refl)
+
+-- The four calls, with a table or without: 21, or a number of theirs.
+module _ (g : Option OutcomeTable) (number : ℕ) where
+  pub evaluate-told-by : (sheet facts : List ℕ) (room : ℕ) → Told (OrTable OtherNumber) (byTable g (λ L. evaluate L number sheet facts room))
+  evaluate-told-by sheet facts room = told-by-table OtherNumber g (λ L. evaluate L number sheet facts room) (evaluate-told (outcomesOf g) number sheet facts room)
+
+  pub partial-evaluate-told-by : (o : Order) (sheet facts : List ℕ) (room : ℕ) → Told (OrTable OtherNumber) (byTable g (λ L. partialEvaluate L o number sheet facts room))
+  partial-evaluate-told-by o sheet facts room = told-by-table OtherNumber g (λ L. partialEvaluate L o number sheet facts room) (partial-evaluate-told (outcomesOf g) number o sheet facts room)
+
+  pub narrow-residual-told-by : (o : Order) (rec facts : List ℕ) (room : ℕ) → Told (OrTable OtherOrContradicted) (byTable g (λ L. narrowResidual L o number rec facts room))
+  narrow-residual-told-by o rec facts room = told-by-table OtherOrContradicted g (λ L. narrowResidual L o number rec facts room) (narrow-residual-told (outcomesOf g) number o rec facts room)
+
+  pub complete-residual-told-by : (rec facts : List ℕ) (room : ℕ) → Told (OrTable OtherNumber) (byTable g (λ L. completeResidual L number rec facts room))
+  complete-residual-told-by rec facts room = told-by-table OtherNumber g (λ L. completeResidual L number rec facts room) (complete-residual-told (outcomesOf g) number rec facts room)

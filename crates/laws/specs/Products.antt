@@ -85,10 +85,10 @@ lawfulProducts = record {
 abbrev pub InRange : ℕ → Type 0
 InRange o = o < 2 ^ outcomeBits
 
-below-again : (n o : ℕ) → o < n → below n o ≡ some o
+pub below-again : (n o : ℕ) → o < n → below n o ≡ some o
 below-again n o h = ap (λ b. cond b (some o) none) (lt-ltb o n h)
 
-below-at : (n o : ℕ) (Q : ℕ → Type 0) (b : Bool) → (b ≡ true → Q o) → IfThere Q (cond b (some o) none)
+pub below-at : (n o : ℕ) (Q : ℕ → Type 0) (b : Bool) → (b ≡ true → Q o) → IfThere Q (cond b (some o) none)
 below-at n o Q true q = q refl
 below-at n o Q false q = tt
 

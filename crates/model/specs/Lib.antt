@@ -12,6 +12,7 @@ pub mod Writing
 pub mod Reading
 pub mod Calls
 pub mod Required
+pub mod Levels
 pub mod Products
 pub mod Listing
 pub mod Worked
@@ -30,3 +31,4 @@ pub mod WorkedContradictions
 pub mod Bits
 pub mod Tight
 pub mod WorkedTight
+pub mod WorkedLevels

@@ -1,4 +1,5 @@
--- The definitions at product sets, by which the code decides. Each name says what its own says, of outcomes that are sets of products.
+-- The definitions at the outcomes by which the code decides: words are read by sets of products, and rules and calls go by an outcome table g, or by sets of
+-- products where there is none. Each name is the definition of the same name at these outcomes.
 use mathlib.Core.Bool.{Bool, true}
 use mathlib.Core.Option.{Option}
 use mathlib.Core.List.{List}
@@ -6,6 +7,7 @@ use Prim.Native.Nat.{ℕ}
 use lib.ListN.{drop}
 use Rattle.model.specs.Facts.{Table}
 use Rattle.model.specs.Outcome.{Outcomes, productSets}
+use Rattle.model.specs.Levels.{OutcomeTable, outcomesOf, byTable}
 use Rattle.model.specs.Condition.{Condition}
 use Rattle.model.specs.Decision as decision
 use Rattle.model.specs.Decision.{Decision, Permit, Denial}
@@ -70,9 +72,6 @@ at13 = reading.at13 (productSets .value)
 abbrev pub asStored : Parsed (Decision Outcome) → Parsed (Policy Outcome)
 asStored = reading.asStored (productSets .value)
 
-abbrev pub permitAt : ℕ → List ℕ → Parsed (Policy Outcome)
-permitAt = reading.permitAt (productSets .value)
-
 abbrev pub nodeP : Bool → (List ℕ → Parsed Condition) → (List ℕ → Parsed (Policy Outcome)) → ℕ → ℕ → List ℕ → Parsed (Policy Outcome)
 nodeP = reading.nodeP (productSets .value)
 
@@ -120,79 +119,76 @@ abbrev pub encodeR : Record Outcome → List ℕ
 encodeR = writing.encodeR (productSets .number)
 
 -- ---- the rules
-abbrev pub meetPermit : Permit Outcome → Permit Outcome → Permit Outcome
-meetPermit = decision.meetPermit productSets
+abbrev pub meetPermit : Option OutcomeTable → Permit Outcome → Permit Outcome → Permit Outcome
+meetPermit g = decision.meetPermit (outcomesOf g)
 
-abbrev pub joinPermit : Permit Outcome → Permit Outcome → Permit Outcome
-joinPermit = decision.joinPermit productSets
+abbrev pub joinPermit : Option OutcomeTable → Permit Outcome → Permit Outcome → Permit Outcome
+joinPermit g = decision.joinPermit (outcomesOf g)
 
-abbrev pub allFrom : Option (Permit Outcome) → List (Decision Outcome) → Decision Outcome
-allFrom = evaluating.allFrom productSets
+abbrev pub allFrom : Option OutcomeTable → Option (Permit Outcome) → List (Decision Outcome) → Decision Outcome
+allFrom g = evaluating.allFrom (outcomesOf g)
 
-abbrev pub anyFrom : Option (Permit Outcome) → Option (Denial Outcome) → List (Decision Outcome) → Decision Outcome
-anyFrom = evaluating.anyFrom productSets
+abbrev pub anyFrom : Option OutcomeTable → Option (Permit Outcome) → Option (Denial Outcome) → List (Decision Outcome) → Decision Outcome
+anyFrom g = evaluating.anyFrom (outcomesOf g)
 
-abbrev pub evalPolicy : Table → Policy Outcome → Decision Outcome
-evalPolicy = evaluating.evalPolicy productSets
+abbrev pub evalPolicy : Option OutcomeTable → Table → Policy Outcome → Decision Outcome
+evalPolicy g = evaluating.evalPolicy (outcomesOf g)
 
-abbrev pub evalPolicies : Table → Policies Outcome → List (Decision Outcome)
-evalPolicies = evaluating.evalPolicies productSets
+abbrev pub evalPolicies : Option OutcomeTable → Table → Policies Outcome → List (Decision Outcome)
+evalPolicies g = evaluating.evalPolicies (outcomesOf g)
 
-abbrev pub endAll : Table → AllWalk Outcome → ReducedPolicy Outcome
-endAll = partial.endAll productSets
+abbrev pub endAll : Option OutcomeTable → Table → AllWalk Outcome → ReducedPolicy Outcome
+endAll g = partial.endAll (outcomesOf g)
 
-abbrev pub endAny : Table → AnyWalk Outcome → ReducedPolicy Outcome
-endAny = partial.endAny productSets
+abbrev pub endAny : Option OutcomeTable → Table → AnyWalk Outcome → ReducedPolicy Outcome
+endAny g = partial.endAny (outcomesOf g)
 
-abbrev pub endInOrder : (Policies Outcome → Policy Outcome) → Table → List (ReducedPolicy Outcome) → ReducedPolicy Outcome
-endInOrder = partial.endInOrder productSets
+abbrev pub endInOrder : Option OutcomeTable → (Policies Outcome → Policy Outcome) → Table → List (ReducedPolicy Outcome) → ReducedPolicy Outcome
+endInOrder g = partial.endInOrder (outcomesOf g)
 
-abbrev pub allOf : Order → Table → List (ReducedPolicy Outcome) → ReducedPolicy Outcome
-allOf = partial.allOf productSets
+abbrev pub allOf : Option OutcomeTable → Order → Table → List (ReducedPolicy Outcome) → ReducedPolicy Outcome
+allOf g = partial.allOf (outcomesOf g)
 
-abbrev pub anyOf : Order → Table → List (ReducedPolicy Outcome) → ReducedPolicy Outcome
-anyOf = partial.anyOf productSets
+abbrev pub anyOf : Option OutcomeTable → Order → Table → List (ReducedPolicy Outcome) → ReducedPolicy Outcome
+anyOf g = partial.anyOf (outcomesOf g)
 
-abbrev pub reducePolicy : Order → Table → Policy Outcome → ReducedPolicy Outcome
-reducePolicy = partial.reducePolicy productSets
+abbrev pub reducePolicy : Option OutcomeTable → Order → Table → Policy Outcome → ReducedPolicy Outcome
+reducePolicy g = partial.reducePolicy (outcomesOf g)
 
-abbrev pub reduceArms : Order → Table → Policies Outcome → List (ReducedPolicy Outcome)
-reduceArms = partial.reduceArms productSets
+abbrev pub reduceArms : Option OutcomeTable → Order → Table → Policies Outcome → List (ReducedPolicy Outcome)
+reduceArms g = partial.reduceArms (outcomesOf g)
 
 -- ---- the consulted list of an evaluation, and of a reduction
-abbrev pub read : Table → Policy Outcome → Consulted → Consulted
-read = consulted.read productSets
+abbrev pub read : Option OutcomeTable → Table → Policy Outcome → Consulted → Consulted
+read g = consulted.read (outcomesOf g)
 
-abbrev pub readAll : Table → Policies Outcome → Consulted → Consulted
-readAll = consulted.readAll productSets
+abbrev pub readAll : Option OutcomeTable → Table → Policies Outcome → Consulted → Consulted
+readAll g = consulted.readAll (outcomesOf g)
 
-abbrev pub readAny : Table → Policies Outcome → Consulted → Consulted
-readAny = consulted.readAny productSets
+abbrev pub readAny : Option OutcomeTable → Table → Policies Outcome → Consulted → Consulted
+readAny g = consulted.readAny (outcomesOf g)
 
-abbrev pub walk : Order → Table → Policy Outcome → Consulted → Consulted
-walk = consulted.walk productSets
+abbrev pub walk : Option OutcomeTable → Order → Table → Policy Outcome → Consulted → Consulted
+walk g = consulted.walk (outcomesOf g)
 
-abbrev pub walkAll : Order → Table → Policies Outcome → Consulted → Consulted
-walkAll = consulted.walkAll productSets
+abbrev pub walkAll : Option OutcomeTable → Order → Table → Policies Outcome → Consulted → Consulted
+walkAll g = consulted.walkAll (outcomesOf g)
 
-abbrev pub walkAny : Order → Table → Policies Outcome → Consulted → Consulted
-walkAny = consulted.walkAny productSets
+abbrev pub walkAny : Option OutcomeTable → Order → Table → Policies Outcome → Consulted → Consulted
+walkAny g = consulted.walkAny (outcomesOf g)
 
 -- ---- records
-abbrev pub evaluated : Table → Policy Outcome → Record Outcome
-evaluated = records.evaluated productSets
+abbrev pub evaluated : Option OutcomeTable → Table → Policy Outcome → Record Outcome
+evaluated g = records.evaluated (outcomesOf g)
 
-abbrev pub reduced : Order → Table → Policy Outcome → Record Outcome
-reduced = records.reduced productSets
+abbrev pub reduced : Option OutcomeTable → Order → Table → Policy Outcome → Record Outcome
+reduced g = records.reduced (outcomesOf g)
 
-abbrev pub narrowedFrom : Order → Table → ReducedPolicy Outcome → Consulted → Record Outcome
-narrowedFrom = records.narrowedFrom productSets
+abbrev pub narrowedFrom : Option OutcomeTable → Order → Table → ReducedPolicy Outcome → Consulted → Record Outcome
+narrowedFrom g = records.narrowedFrom (outcomesOf g)
 
-abbrev pub completedFrom : Table → ReducedPolicy Outcome → Consulted → Record Outcome
-completedFrom = records.completedFrom productSets
-
-abbrev pub completed : Table → Record Outcome → Record Outcome
-completed = records.completed productSets
+abbrev pub completedFrom : Option OutcomeTable → Table → ReducedPolicy Outcome → Consulted → Record Outcome
+completedFrom g = records.completedFrom (outcomesOf g)
 
 -- ---- the calls
 abbrev pub fits : ℕ → Record Outcome → Bool
@@ -201,17 +197,31 @@ fits = calls.fits productSets
 abbrev pub write : ℕ → Record Outcome → Answer
 write = calls.write productSets
 
-abbrev pub evaluate : ℕ → List ℕ → List ℕ → ℕ → Answer
-evaluate = calls.evaluate productSets
+-- The calls by the outcomes of a table, whether it is accepted or not; without one they are the calls below, as they compute.
+abbrev pub evaluateBy : Option OutcomeTable → ℕ → List ℕ → List ℕ → ℕ → Answer
+evaluateBy g = calls.evaluate (outcomesOf g)
 
-abbrev pub partialEvaluate : Order → ℕ → List ℕ → List ℕ → ℕ → Answer
-partialEvaluate = calls.partialEvaluate productSets
+abbrev pub partialEvaluateBy : Option OutcomeTable → Order → ℕ → List ℕ → List ℕ → ℕ → Answer
+partialEvaluateBy g = calls.partialEvaluate (outcomesOf g)
 
-abbrev pub narrowResidual : Order → ℕ → List ℕ → List ℕ → ℕ → Answer
-narrowResidual = calls.narrowResidual productSets
+abbrev pub narrowResidualBy : Option OutcomeTable → Order → ℕ → List ℕ → List ℕ → ℕ → Answer
+narrowResidualBy g = calls.narrowResidual (outcomesOf g)
 
-abbrev pub completeResidual : ℕ → List ℕ → List ℕ → ℕ → Answer
-completeResidual = calls.completeResidual productSets
+abbrev pub completeResidualBy : Option OutcomeTable → ℕ → List ℕ → List ℕ → ℕ → Answer
+completeResidualBy g = calls.completeResidual (outcomesOf g)
+
+-- The calls, with a table or without.
+abbrev pub evaluate : Option OutcomeTable → ℕ → List ℕ → List ℕ → ℕ → Answer
+evaluate g number sheet facts room = byTable g (λ L. calls.evaluate L number sheet facts room)
+
+abbrev pub partialEvaluate : Option OutcomeTable → Order → ℕ → List ℕ → List ℕ → ℕ → Answer
+partialEvaluate g o number sheet facts room = byTable g (λ L. calls.partialEvaluate L o number sheet facts room)
+
+abbrev pub narrowResidual : Option OutcomeTable → Order → ℕ → List ℕ → List ℕ → ℕ → Answer
+narrowResidual g o number rec facts room = byTable g (λ L. calls.narrowResidual L o number rec facts room)
+
+abbrev pub completeResidual : Option OutcomeTable → ℕ → List ℕ → List ℕ → ℕ → Answer
+completeResidual g number rec facts room = byTable g (λ L. calls.completeResidual L number rec facts room)
 
 abbrev pub requiredFacts : List ℕ → Required
 requiredFacts = required.requiredFacts productSets

@@ -297,7 +297,7 @@ fn put_sheet(words: &[u32], out: &mut [u8]) -> Answer
 pub fn pack_sheet(words: &[u32], out: &mut [u8]) -> Answer
     ensures { λ r. ⌜ Answered (packSheet productSets (now (words .entry)) (length (now (out .entry)))) (now (out .entry)) (now (out .exit)) r ⌝ }
 {
-    match policy_model::check_sheet(words) {
+    match policy_model::check_sheet(words, outcome::SETS) {
         SheetCheck::Refused(number) => Answer::Refused(number),
         SheetCheck::Accepted => put_sheet(words, out),
     }
@@ -323,7 +323,7 @@ fn put_record(words: &[u32], consulted: u32, tree: usize, out: &mut [u8]) -> Ans
 pub fn pack_record(words: &[u32], out: &mut [u8]) -> Answer
     ensures { λ r. ⌜ Answered (packRecord productSets (now (words .entry)) (length (now (out .entry)))) (now (out .entry)) (now (out .exit)) r ⌝ }
 {
-    match policy_model::check_record(words) {
+    match policy_model::check_record(words, outcome::SETS) {
         RecordCheck::Refused(number) => Answer::Refused(number),
         RecordCheck::Resolved { consulted, tree } => put_record(words, consulted, tree, out),
         RecordCheck::Pending { consulted, tree } => put_record(words, consulted, tree, out),

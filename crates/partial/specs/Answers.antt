@@ -1,5 +1,6 @@
 -- What reducing answers of a tree that is left. Document 01, "Reducing" and "How a request is turned back".
 use mathlib.Core.Path.{_≡_}
+use mathlib.Core.Option.{Option}
 use mathlib.Core.List.{List, map}
 use Prim.Native.Nat.{ℕ, _≤_}
 use lib.ListN.{length, take}
@@ -9,6 +10,7 @@ use Rattle.model.specs.Partial.{pending, Order}
 use Rattle.model.specs.Consulted.{Consulted}
 use Rattle.model.specs.Record.{Record}
 use Rattle.model.specs.Writing.{entryField}
+use Rattle.model.specs.Levels.{OutcomeTable}
 use Rattle.model.specs.Products.{Outcome, reducePolicy, walk, encode, write}
 use Rattle.sizes.specs.Laid.{mostWords, Laid}
 use Rattle.residual.specs.Weight.{weight}
@@ -21,6 +23,6 @@ pub record PutPending (entries : List ℕ) (count : ℕ) (scratch : List ℕ) (s
       count ≡ length l → take count entries ≡ map entryField l →
       Answered (write (length before) (record { body = pending q; log = l })) before after r
 
--- The record of a policy that is reduced after the facts that were consulted before.
-abbrev pub reducedAfter : Order → Table → Policy Outcome → Consulted → Record Outcome
-reducedAfter o P t l = record { body = reducePolicy o P t; log = walk o P t l }
+-- The record of a policy that is reduced, by the outcomes of a table or without one, after the facts that were consulted before.
+abbrev pub reducedAfter : Option OutcomeTable → Order → Table → Policy Outcome → Consulted → Record Outcome
+reducedAfter g o P t l = record { body = reducePolicy g o P t; log = walk g o P t l }

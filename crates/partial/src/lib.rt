@@ -11,6 +11,7 @@ use policy_model::LEVELS;
 use policy_model::RECORD_WORDS;
 ghost use Prim.Native.Nat.{_+_, _≤_, min};
 ghost use lib.ListN.{length};
+ghost use Rattle.outcome.specs.Carried.{carried};
 ghost use Rattle.model.specs.Facts.{factCount, tableOf};
 ghost use Rattle.model.specs.Reading.{levels, recordWords};
 ghost use Rattle.sizes.specs.Laid.{tooMany};
@@ -58,6 +59,8 @@ fn reduce_with(
     depth: usize,
     in_order: bool,
     facts: &[u8],
+    outcome_levels: u16,
+    outcomes: &[u8],
     entries: &mut [u16],
     buf: &mut [u8],
     named: &mut [u16],
@@ -66,7 +69,7 @@ fn reduce_with(
     out: &mut [u32],
 ) -> Answer
     requires { ⌜ (length (now words) ≤ recordWords) × (depth ≤ levels) × (min levels (length (now words)) ≤ depth) × RoomToUnite (depth + 1) (now buf) × RoomToName (now words) (now named) × RoomToLeave (now words) (now front) × RoomToLeave (now words) (now tree) × RoomToList (now words) (now entries) ⌝ }
-    ensures { λ r. ⌜ Makes (reducedAfter (orderOf in_order) (tableOf (now (facts .entry)))) (now (words .entry)) consulted at (now (out .entry)) (now (out .exit)) r ⌝ }
+    ensures { λ r. ⌜ Makes (reducedAfter (carried «outcome_levels» (now (outcomes .entry))) (orderOf in_order) (tableOf (now (facts .entry)))) (now (words .entry)) consulted at (now (out .entry)) (now (out .exit)) r ⌝ }
 {
     let mut seen = [0u64; SEEN];
     let listed = completion::load_consulted(words, consulted, entries, &mut seen);
@@ -76,6 +79,8 @@ fn reduce_with(
         depth,
         in_order,
         facts,
+        outcome_levels,
+        outcomes,
         entries,
         &mut seen,
         listed,
@@ -109,10 +114,12 @@ fn reduce_few(
     at: usize,
     in_order: bool,
     facts: &[u8],
+    outcome_levels: u16,
+    outcomes: &[u8],
     out: &mut [u32],
 ) -> Answer
     requires { ⌜ length (now words) ≤ fewWords ⌝ }
-    ensures { λ r. ⌜ Makes (reducedAfter (orderOf in_order) (tableOf (now (facts .entry)))) (now (words .entry)) consulted at (now (out .entry)) (now (out .exit)) r ⌝ }
+    ensures { λ r. ⌜ Makes (reducedAfter (carried «outcome_levels» (now (outcomes .entry))) (orderOf in_order) (tableOf (now (facts .entry)))) (now (words .entry)) consulted at (now (out .entry)) (now (out .exit)) r ⌝ }
 {
     let mut entries = [0u16; 2 * FEW];
     let mut buf = [0u8; UNITED_FEW];
@@ -126,6 +133,8 @@ fn reduce_few(
         FEW,
         in_order,
         facts,
+        outcome_levels,
+        outcomes,
         &mut entries,
         &mut buf,
         &mut named,
@@ -142,13 +151,24 @@ pub fn reduce_short(
     at: usize,
     in_order: bool,
     facts: &[u8],
+    outcome_levels: u16,
+    outcomes: &[u8],
     out: &mut [u32],
 ) -> Answer
     requires { ⌜ length (now words) ≤ shortWords ⌝ }
-    ensures { λ r. ⌜ Makes (reducedAfter (orderOf in_order) (tableOf (now (facts .entry)))) (now (words .entry)) consulted at (now (out .entry)) (now (out .exit)) r ⌝ }
+    ensures { λ r. ⌜ Makes (reducedAfter (carried «outcome_levels» (now (outcomes .entry))) (orderOf in_order) (tableOf (now (facts .entry)))) (now (words .entry)) consulted at (now (out .entry)) (now (out .exit)) r ⌝ }
 {
     if words.len() <= FEW {
-        return reduce_few(words, consulted, at, in_order, facts, out);
+        return reduce_few(
+            words,
+            consulted,
+            at,
+            in_order,
+            facts,
+            outcome_levels,
+            outcomes,
+            out,
+        );
     }
     let mut entries = [0u16; 2 * SHORT];
     let mut buf = [0u8; UNITED];
@@ -162,6 +182,8 @@ pub fn reduce_short(
         LEVELS,
         in_order,
         facts,
+        outcome_levels,
+        outcomes,
         &mut entries,
         &mut buf,
         &mut named,
@@ -178,10 +200,12 @@ fn reduce_middling(
     at: usize,
     in_order: bool,
     facts: &[u8],
+    outcome_levels: u16,
+    outcomes: &[u8],
     out: &mut [u32],
 ) -> Answer
     requires { ⌜ length (now words) ≤ middlingWords ⌝ }
-    ensures { λ r. ⌜ Makes (reducedAfter (orderOf in_order) (tableOf (now (facts .entry)))) (now (words .entry)) consulted at (now (out .entry)) (now (out .exit)) r ⌝ }
+    ensures { λ r. ⌜ Makes (reducedAfter (carried «outcome_levels» (now (outcomes .entry))) (orderOf in_order) (tableOf (now (facts .entry)))) (now (words .entry)) consulted at (now (out .entry)) (now (out .exit)) r ⌝ }
 {
     let mut entries = [0u16; ENTRIES];
     let mut buf = [0u8; UNITED];
@@ -195,6 +219,8 @@ fn reduce_middling(
         LEVELS,
         in_order,
         facts,
+        outcome_levels,
+        outcomes,
         &mut entries,
         &mut buf,
         &mut named,
@@ -211,13 +237,24 @@ pub fn reduce_long(
     at: usize,
     in_order: bool,
     facts: &[u8],
+    outcome_levels: u16,
+    outcomes: &[u8],
     out: &mut [u32],
 ) -> Answer
     requires { ⌜ length (now words) ≤ recordWords ⌝ }
-    ensures { λ r. ⌜ Makes (reducedAfter (orderOf in_order) (tableOf (now (facts .entry)))) (now (words .entry)) consulted at (now (out .entry)) (now (out .exit)) r ⌝ }
+    ensures { λ r. ⌜ Makes (reducedAfter (carried «outcome_levels» (now (outcomes .entry))) (orderOf in_order) (tableOf (now (facts .entry)))) (now (words .entry)) consulted at (now (out .entry)) (now (out .exit)) r ⌝ }
 {
     if words.len() <= MIDDLING {
-        return reduce_middling(words, consulted, at, in_order, facts, out);
+        return reduce_middling(
+            words,
+            consulted,
+            at,
+            in_order,
+            facts,
+            outcome_levels,
+            outcomes,
+            out,
+        );
     }
     let mut entries = [0u16; ENTRIES];
     let mut buf = [0u8; UNITED];
@@ -231,6 +268,8 @@ pub fn reduce_long(
         LEVELS,
         in_order,
         facts,
+        outcome_levels,
+        outcomes,
         &mut entries,
         &mut buf,
         &mut named,

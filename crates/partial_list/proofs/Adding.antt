@@ -1,12 +1,14 @@
 -- One more arm of a list: its node, its decision, its words. Assumes nothing.
 use mathlib.Core.Path.{_≡_, refl, sym, _∙_, ap, ap₂, subst}
 use mathlib.Core.Bool.{Bool, true, false, not, _&&_}
+use mathlib.Core.Option.{Option}
 use mathlib.Core.List.{List, _++_}
 use Prim.Native.Nat.{ℕ, _+_, _-_, _≤_, min}
 use native.Mathlib.Omega.{arith}
 use lib.ListN.{length, take, drop}
 use lib.Seq.{take-take}
 use Rattle.model.specs.Facts.{Table}
+use Rattle.model.specs.Levels.{OutcomeTable, meetOf, joinOf}
 use Rattle.model.specs.Decision.{Decision as Decided}
 use Rattle.model.specs.Products.{Outcome}
 use Rattle.decision.specs.declared.Decision.{Decision}
@@ -20,7 +22,7 @@ use Rattle.residual.specs.Answers.{NodeLaid}
 use Rattle.decision.specs.Room.{obligationRoom, Few}
 use Rattle.partial_list.specs.declared.ReducedPolicy.{ReducedPolicy}
 use Rattle.partial_list.specs.declared.Sofar.{Sofar}
-use Rattle.partial_list.specs.Keeping.{armsWith, foldNext}
+use Rattle.partial_list.specs.Keeping.{armsWith, foldOf, foldNext}
 use Rattle.partial_list.specs.Answers.{sofarOf, Bounded, NodeBehind, NodeKept, DecisionAdded, ArmAdded}
 
 pub clash : {G : Type 0} (b : Bool) → b ≡ true → b ≡ false → G
@@ -79,21 +81,28 @@ folds-same {fold} {W} {sofar} {incoming} {r} {before} {part} {after} before′ p
       ∙ ap₂ fold (same-decision W before before′ sofar e T) (same-decision W part part′ incoming (b i) T);
 }
 
-pub fold-met : {W : List ℕ} {sofar incoming r : Decision} {before after : List ℕ} (every begun : Bool) → every ≡ true → Met W sofar incoming before r after →
-    (every ≡ true → incoming .permit ≡ true) → Folds (foldNext every begun) W sofar before incoming (drop obligationRoom before) r after
-fold-met {W} {sofar} {incoming} {r} {before} {after} every begun e m q =
-    subst (λ b. Folds (foldNext b begun) W sofar before incoming (drop obligationRoom before) r after) (sym e) (m .folds (q e))
+pub fold-met : {W : List ℕ} {sofar incoming r : Decision} {before after : List ℕ} {outcome : ℕ} (every begun : Bool) → every ≡ true →
+    ((g : Option OutcomeTable) → outcome ≡ meetOf g (sofar .outcome) (incoming .outcome) → Met g W sofar incoming before r after) →
+    (g : Option OutcomeTable) → outcome ≡ foldOf every g (sofar .outcome) (incoming .outcome) → (every ≡ true → incoming .permit ≡ true) →
+    Folds (foldNext every g begun) W sofar before incoming (drop obligationRoom before) r after
+fold-met {W} {sofar} {incoming} {r} {before} {after} every begun e m g is q =
+    subst (λ b. Folds (foldNext b g begun) W sofar before incoming (drop obligationRoom before) r after) (sym e)
+    (m g (is ∙ ap (λ b. foldOf b g (sofar .outcome) (incoming .outcome)) e) .folds (q e))
 
-pub fold-joined : {W : List ℕ} {sofar incoming r : Decision} {before after : List ℕ} (every begun : Bool) → every ≡ false → Folds (joinNext begun) W sofar before incoming (drop obligationRoom before) r after →
-    (every ≡ true → incoming .permit ≡ true) → Folds (foldNext every begun) W sofar before incoming (drop obligationRoom before) r after
-fold-joined {W} {sofar} {incoming} {r} {before} {after} every begun e f q =
-    subst (λ b. Folds (foldNext b begun) W sofar before incoming (drop obligationRoom before) r after) (sym e) f
+pub fold-joined : {W : List ℕ} {sofar incoming r : Decision} {before after : List ℕ} {outcome : ℕ} (every begun : Bool) → every ≡ false →
+    ((g : Option OutcomeTable) → outcome ≡ joinOf g (sofar .outcome) (incoming .outcome) → Folds (joinNext g begun) W sofar before incoming (drop obligationRoom before) r after) →
+    (g : Option OutcomeTable) → outcome ≡ foldOf every g (sofar .outcome) (incoming .outcome) → (every ≡ true → incoming .permit ≡ true) →
+    Folds (foldNext every g begun) W sofar before incoming (drop obligationRoom before) r after
+fold-joined {W} {sofar} {incoming} {r} {before} {after} every begun e f g is q =
+    subst (λ b. Folds (foldNext b g begun) W sofar before incoming (drop obligationRoom before) r after) (sym e)
+    (f g (is ∙ ap (λ b. foldOf b g (sofar .outcome) (incoming .outcome)) e))
 
-pub decision-added : {every : Bool} {T : Table} {W : List ℕ} {v : Sofar} {d now : Decision} {buf front mid buf′ front′ : List ℕ} {kept arms : ℕ} →
+pub decision-added : {every : Bool} {outcome : ℕ} {T : Table} {W : List ℕ} {v : Sofar} {d now : Decision} {buf front mid buf′ front′ : List ℕ} {kept arms : ℕ} →
     Bounded v → NodeKept T W d (v .kept) buf front mid front′ kept → Few now →
-    ((every ≡ true → d .permit ≡ true) → Folds (foldNext every (v .begun)) W (v .decision) mid d (drop obligationRoom mid) now buf′) → arms ≡ armsWith (d .permit) (v .arms) →
-    DecisionAdded every T W v d buf front buf′ front′ (sofarOf now true kept (v .size) arms (v .pending))
-decision-added {every} {T} {W} {v} {d} {now} {buf} {front} {mid} {buf′} {front′} {kept} {arms} b n few f a = record {
+    ((g : Option OutcomeTable) → outcome ≡ foldOf every g (v .decision .outcome) (d .outcome) → (every ≡ true → d .permit ≡ true) → Folds (foldNext every g (v .begun)) W (v .decision) mid d (drop obligationRoom mid) now buf′) →
+    arms ≡ armsWith (d .permit) (v .arms) →
+    DecisionAdded every outcome T W v d buf front buf′ front′ (sofarOf now true kept (v .size) arms (v .pending))
+decision-added {v = v} {buf = buf} {mid = mid} b n few f a = record {
   bounds = record { few = few; kept-most = n .bound; size-most = b .size-most; size-some = b .size-some };
   size-is = refl;
   pending-is = refl;
@@ -102,8 +111,8 @@ decision-added {every} {T} {W} {v} {d} {now} {buf} {front} {mid} {buf′} {front
   arms-are = a;
   none = n .none;
   node = n .node;
-  folds = λ q. folds-same mid (drop obligationRoom mid)
-      (sym (take-take (v .decision .united) obligationRoom mid (b .few)) ∙ ap (take (v .decision .united)) (n .front-bytes) ∙ take-take (v .decision .united) obligationRoom buf (b .few)) (n .bytes) (f q);
+  folds = λ g is q. folds-same mid (drop obligationRoom mid)
+      (sym (take-take (v .decision .united) obligationRoom mid (b .few)) ∙ ap (take (v .decision .united)) (n .front-bytes) ∙ take-take (v .decision .united) obligationRoom buf (b .few)) (n .bytes) (f g is q);
 }
 
 -- ---- the arm
@@ -111,8 +120,8 @@ arms-with-most : (permit : Bool) (n : ℕ) → armsWith permit n ≤ n + 1
 arms-with-most true n = omega arith
 arms-with-most false n = omega arith
 
-pub arm-open : {every : Bool} {T : Table} {W : List ℕ} {v : Sofar} {a : ReducedPolicy} {size : ℕ} (buf front : List ℕ) → Bounded v → a .pending ≡ true → size ≡ capped (v .size + a .size) →
-    ArmAdded every T W v a buf front buf front (sofarOf (v .decision) (v .begun) (v .kept) size (v .arms + 1) true)
+pub arm-open : {every : Bool} {outcome : ℕ} {T : Table} {W : List ℕ} {v : Sofar} {a : ReducedPolicy} {size : ℕ} (buf front : List ℕ) → Bounded v → a .pending ≡ true → size ≡ capped (v .size + a .size) →
+    ArmAdded every outcome T W v a buf front buf front (sofarOf (v .decision) (v .begun) (v .kept) size (v .arms + 1) true)
 arm-open {v = v} {a} {size} buf front b p e = record {
   bounds = record { few = b .few; kept-most = b .kept-most; size-most = omega arith; size-some = omega (arith, b .size-some) };
   arms-most = omega arith;
@@ -120,8 +129,8 @@ arm-open {v = v} {a} {size} buf front b p e = record {
   known-arm = λ q. clash (a .pending) p q;
 }
 
-pub arm-known : {every : Bool} {T : Table} {W : List ℕ} {v : Sofar} {a : ReducedPolicy} {buf front buf′ front′ : List ℕ} {r : Sofar} → a .pending ≡ false →
-    DecisionAdded every T W v (a .decision) buf front buf′ front′ r → ArmAdded every T W v a buf front buf′ front′ r
+pub arm-known : {every : Bool} {outcome : ℕ} {T : Table} {W : List ℕ} {v : Sofar} {a : ReducedPolicy} {buf front buf′ front′ : List ℕ} {r : Sofar} → a .pending ≡ false →
+    DecisionAdded every outcome T W v (a .decision) buf front buf′ front′ r → ArmAdded every outcome T W v a buf front buf′ front′ r
 arm-known {v = v} {a} p d = record {
   bounds = d .bounds;
   arms-most = omega (arith, d .arms-are, arms-with-most (a .decision .permit) (v .arms));

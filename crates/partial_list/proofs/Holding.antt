@@ -1,12 +1,14 @@
 -- One more arm of a list in sheet order, and the end of such a list. Assumes nothing.
 use mathlib.Core.Path.{_≡_, refl, sym, _∙_, ap}
 use mathlib.Core.Bool.{Bool, true, false}
+use mathlib.Core.Option.{Option}
 use mathlib.Core.List.{List, _∷_, _++_}
 use Prim.Native.Nat.{ℕ, _+_, _≤_}
 use native.Mathlib.Omega.{arith}
 use lib.ListN.{length, take, drop, set}
 use lib.Seq.{take-take}
 use Rattle.model.specs.Facts.{Table}
+use Rattle.model.specs.Levels.{OutcomeTable}
 use Rattle.model.specs.Partial.{inOrder}
 use Rattle.model.specs.Writing.{word}
 use Rattle.model.specs.Products.{encodes}
@@ -18,15 +20,15 @@ use Rattle.sizes.specs.LaidLaws.{laid-lead, laid-as}
 use Rattle.residual.specs.Weight.{weight, weights}
 use Rattle.partial_list.specs.declared.ReducedPolicy.{ReducedPolicy}
 use Rattle.partial_list.specs.declared.Sofar.{Sofar}
-use Rattle.partial_list.specs.Keeping.{foldNext, listOf, listKind}
+use Rattle.partial_list.specs.Keeping.{foldOf, foldNext, listOf, listKind}
 use Rattle.partial_list.specs.HoldingLaws.{list-words}
 use Rattle.partial_list.specs.Answers.{resolvedTo, leftTo, sofarOf, Bounded, NodeBehind}
 use Rattle.partial_list.specs.InOrder.{ArmHeld, OrderEnds}
 use Rattle.partial_list.proofs.Adding.{clash, folds-same}
 
 -- ---- the arm
-pub held-open : {every : Bool} {T : Table} {W : List ℕ} {v : Sofar} {a : ReducedPolicy} {size : ℕ} (buf out : List ℕ) → Bounded v → a .pending ≡ true → size ≡ capped (v .size + a .size) →
-    ArmHeld every T W v a buf out buf out (sofarOf (v .decision) (v .begun) (v .kept) size (v .arms + 1) true)
+pub held-open : {every : Bool} {outcome : ℕ} {T : Table} {W : List ℕ} {v : Sofar} {a : ReducedPolicy} {size : ℕ} (buf out : List ℕ) → Bounded v → a .pending ≡ true → size ≡ capped (v .size + a .size) →
+    ArmHeld every outcome T W v a buf out buf out (sofarOf (v .decision) (v .begun) (v .kept) size (v .arms + 1) true)
 held-open {v = v} {a} {size} buf out b p e = record {
   bounds = record { few = b .few; kept-most = b .kept-most; size-most = omega arith; size-some = omega (arith, b .size-some) };
   arms-are = refl;
@@ -35,8 +37,8 @@ held-open {v = v} {a} {size} buf out b p e = record {
 }
 
 -- A resolved one, where an arm is pending already.
-pub held-pending : {every : Bool} {T : Table} {W : List ℕ} {v : Sofar} {a : ReducedPolicy} {buf out buf′ out′ : List ℕ} {size : ℕ} → Bounded v → a .pending ≡ false → v .pending ≡ true →
-    NodeBehind T W (a .decision) (v .size) buf out buf′ out′ size → ArmHeld every T W v a buf out buf′ out′ (sofarOf (v .decision) (v .begun) (v .kept) size (v .arms + 1) true)
+pub held-pending : {every : Bool} {outcome : ℕ} {T : Table} {W : List ℕ} {v : Sofar} {a : ReducedPolicy} {buf out buf′ out′ : List ℕ} {size : ℕ} → Bounded v → a .pending ≡ false → v .pending ≡ true →
+    NodeBehind T W (a .decision) (v .size) buf out buf′ out′ size → ArmHeld every outcome T W v a buf out buf′ out′ (sofarOf (v .decision) (v .begun) (v .kept) size (v .arms + 1) true)
 held-pending {v = v} {a} b p w n = record {
   bounds = record { few = b .few; kept-most = b .kept-most; size-most = n .bound; size-some = omega (arith, b .size-some, n .more) };
   arms-are = refl;
@@ -52,10 +54,10 @@ held-pending {v = v} {a} b p w n = record {
 }
 
 -- A resolved one, where none is.
-pub held-folded : {every : Bool} {T : Table} {W : List ℕ} {v : Sofar} {a : ReducedPolicy} {now : Decision} {buf out mid buf′ out′ : List ℕ} {size : ℕ} → Bounded v → a .pending ≡ false → v .pending ≡ false →
+pub held-folded : {every : Bool} {outcome : ℕ} {T : Table} {W : List ℕ} {v : Sofar} {a : ReducedPolicy} {now : Decision} {buf out mid buf′ out′ : List ℕ} {size : ℕ} → Bounded v → a .pending ≡ false → v .pending ≡ false →
     NodeBehind T W (a .decision) (v .size) buf out mid out′ size → Few now →
-    ((every ≡ true → a .decision .permit ≡ true) → Folds (foldNext every (v .begun)) W (v .decision) mid (a .decision) (drop obligationRoom mid) now buf′) →
-    ArmHeld every T W v a buf out buf′ out′ (sofarOf now true (v .kept) size (v .arms + 1) false)
+    ((g : Option OutcomeTable) → outcome ≡ foldOf every g (v .decision .outcome) (a .decision .outcome) → (every ≡ true → a .decision .permit ≡ true) → Folds (foldNext every g (v .begun)) W (v .decision) mid (a .decision) (drop obligationRoom mid) now buf′) →
+    ArmHeld every outcome T W v a buf out buf′ out′ (sofarOf now true (v .kept) size (v .arms + 1) false)
 held-folded {v = v} {a} {now} {buf} {out} {mid} b p w n few f = record {
   bounds = record { few = few; kept-most = b .kept-most; size-most = n .bound; size-some = omega (arith, b .size-some, n .more) };
   arms-are = refl;
@@ -66,8 +68,8 @@ held-folded {v = v} {a} {now} {buf} {out} {mid} b p w n few f = record {
     size-is = n .size-is;
     node = n .node;
     begun-is = λ _. refl;
-    folds = λ _ q. folds-same mid (drop obligationRoom mid)
-        (sym (take-take (v .decision .united) obligationRoom mid (b .few)) ∙ ap (take (v .decision .united)) (n .front-bytes) ∙ take-take (v .decision .united) obligationRoom buf (b .few)) (n .bytes) (f q);
+    folds = λ _ g is q. folds-same mid (drop obligationRoom mid)
+        (sym (take-take (v .decision .united) obligationRoom mid (b .few)) ∙ ap (take (v .decision .united)) (n .front-bytes) ∙ take-take (v .decision .united) obligationRoom buf (b .few)) (n .bytes) (f g is q);
   };
 }
 
@@ -87,7 +89,7 @@ ends-held {every} {v} {next} {count} {none} {first} T W buf out b p e = record {
   next-is = refl;
   count-is = refl;
   resolved-is = λ q. clash (v .pending) p q;
-  pending-is = λ _ k room s. record {
+  pending-is = λ _ g k room s. record {
     unsettled = refl;
     left = record {
       size-is = s .left .size-is ∙ ap capped (sym (list-weight every k));

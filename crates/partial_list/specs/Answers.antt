@@ -1,10 +1,12 @@
 -- What the list rule with its permits first keeps, and what its parts answer. Document 01, "Reducing".
 use mathlib.Core.Path.{_≡_}
 use mathlib.Core.Bool.{Bool, true, false}
+use mathlib.Core.Option.{Option}
 use mathlib.Core.List.{List, _∷_, _++_}
 use Prim.Native.Nat.{ℕ, _+_, _-_, _≤_}
 use lib.ListN.{length, take, drop}
 use Rattle.model.specs.Facts.{Table}
+use Rattle.model.specs.Levels.{OutcomeTable}
 use Rattle.model.specs.Decision.{Decision as Decided}
 use Rattle.model.specs.Policy.{Policy}
 use Rattle.model.specs.Partial.{resolved, pending}
@@ -20,7 +22,7 @@ use Rattle.residual.specs.Weight.{weight, weights, weightD}
 use Rattle.decision.specs.Room.{obligationRoom, Few}
 use Rattle.partial_list.specs.declared.ReducedPolicy.{ReducedPolicy}
 use Rattle.partial_list.specs.declared.Sofar.{Sofar}
-use Rattle.partial_list.specs.Keeping.{Walked, asDecisions, sofarValue, isBegun, isOpen, armsWith, foldNext, nodesOf, weightsD, encodesD, listOf, withNodes}
+use Rattle.partial_list.specs.Keeping.{Walked, asDecisions, sofarValue, isBegun, isOpen, armsWith, foldOf, foldNext, nodesOf, weightsD, encodesD, listOf, withNodes}
 use Rattle.partial_list.specs.Within.{LaidWithin}
 
 -- The answers: a decision, or what is left, of this size.
@@ -56,9 +58,9 @@ pub record Bounded (v : Sofar) : Type 0 where
 
 -- What a list keeps so far stands for what its arms came to: the decision of those that were resolved, the nodes of the permits among them in `front`,
 -- and the pending ones behind a free word in `out`.
-pub record SofarIs (every : Bool) (T : Table) (W : List ℕ) (k : Walked) (v : Sofar) (buf front out : List ℕ) : Type 0 where
+pub record SofarIs (every : Bool) (g : Option OutcomeTable) (T : Table) (W : List ℕ) (k : Walked) (v : Sofar) (buf front out : List ℕ) : Type 0 where
   pub sound : Sound W buf (v .decision)
-  pub decision-is : decisionOf W T buf (v .decision) ≡ sofarValue every k
+  pub decision-is : decisionOf W T buf (v .decision) ≡ sofarValue every g k
   pub begun-is : v .begun ≡ isBegun (k .permitted) (k .denied)
   pub nodes : Laid (weightsD (asDecisions (k .permitted))) (encodesD (asDecisions (k .permitted))) front (v .kept)
   pub free : ℕ
@@ -86,7 +88,8 @@ pub record NodeKept (T : Table) (W : List ℕ) (d : Decision) (kept : ℕ) (buf 
   pub front-bytes : take obligationRoom buf′ ≡ take obligationRoom buf
   pub bytes : Sound W (drop obligationRoom buf) d → take (d .united) (drop obligationRoom buf′) ≡ take (d .united) (drop obligationRoom buf)
 
-pub record DecisionAdded (every : Bool) (T : Table) (W : List ℕ) (v : Sofar) (d : Decision) (buf front buf′ front′ : List ℕ) (r : Sofar) : Type 0 where
+-- The two outcomes come to `outcome`.
+pub record DecisionAdded (every : Bool) (outcome : ℕ) (T : Table) (W : List ℕ) (v : Sofar) (d : Decision) (buf front buf′ front′ : List ℕ) (r : Sofar) : Type 0 where
   pub bounds : Bounded r
   pub size-is : r .size ≡ v .size
   pub pending-is : r .pending ≡ v .pending
@@ -96,14 +99,14 @@ pub record DecisionAdded (every : Bool) (T : Table) (W : List ℕ) (v : Sofar) (
   pub none : d .permit ≡ false → (r .kept ≡ v .kept) × (front′ ≡ front)
   pub node : d .permit ≡ true → (n : ℕ) (ws : List ℕ) → Sound W (drop obligationRoom buf) d → Laid n ws front (v .kept) →
       Laid (n + weightD (decisionOf W T (drop obligationRoom buf) d)) (ws ++ encodeD (decisionOf W T (drop obligationRoom buf) d)) front′ (r .kept)
-  pub folds : (every ≡ true → d .permit ≡ true) → Folds (foldNext every (v .begun)) W (v .decision) buf d (drop obligationRoom buf) (r .decision) buf′
+  pub folds : (g : Option OutcomeTable) → outcome ≡ foldOf every g (v .decision .outcome) (d .outcome) → (every ≡ true → d .permit ≡ true) → Folds (foldNext every g (v .begun)) W (v .decision) buf d (drop obligationRoom buf) (r .decision) buf′
 
 -- One more arm. A pending one was laid behind those before it.
-pub record ArmAdded (every : Bool) (T : Table) (W : List ℕ) (v : Sofar) (a : ReducedPolicy) (buf front buf′ front′ : List ℕ) (r : Sofar) : Type 0 where
+pub record ArmAdded (every : Bool) (outcome : ℕ) (T : Table) (W : List ℕ) (v : Sofar) (a : ReducedPolicy) (buf front buf′ front′ : List ℕ) (r : Sofar) : Type 0 where
   pub bounds : Bounded r
   pub arms-most : r .arms ≤ v .arms + 1
   pub open-arm : a .pending ≡ true → (r ≡ sofarOf (v .decision) (v .begun) (v .kept) (capped (v .size + a .size)) (v .arms + 1) true) × (buf′ ≡ buf) × (front′ ≡ front)
-  pub known-arm : a .pending ≡ false → DecisionAdded every T W v (a .decision) buf front buf′ front′ r
+  pub known-arm : a .pending ≡ false → DecisionAdded every outcome T W v (a .decision) buf front buf′ front′ r
 
 -- The nodes that a list with pending arms keeps, those that were kept so far or the first deny.
 pub record NodesAre (every : Bool) (k : Walked) (v : Sofar) (front : List ℕ) (r : Sofar) : Type 0 where
@@ -115,7 +118,7 @@ pub record NodesEnd (every : Bool) (T : Table) (W : List ℕ) (v : Sofar) (buf f
   pub bounds : Bounded r
   pub size-is : r .size ≡ v .size
   pub arms-most : r .arms ≤ v .arms + 1
-  pub nodes : (k : Walked) (out : List ℕ) → SofarIs every T W k v buf front out → NodesAre every k v front′ r
+  pub nodes : (g : Option OutcomeTable) (k : Walked) (out : List ℕ) → SofarIs every g T W k v buf front out → NodesAre every k v front′ r
 
 -- A list whose arms are all read.
 pub record ListEnds (every : Bool) (T : Table) (W : List ℕ) (v : Sofar) (next count : ℕ) (buf front out buf′ out′ : List ℕ) (r : ReducedPolicy) : Type 0 where
@@ -124,4 +127,4 @@ pub record ListEnds (every : Bool) (T : Table) (W : List ℕ) (v : Sofar) (next 
   pub next-is : r .next ≡ next
   pub count-is : r .count ≡ count
   pub resolved-is : v .pending ≡ false → (r ≡ resolvedTo (v .decision) next count) × (buf′ ≡ buf)
-  pub pending-is : v .pending ≡ true → (k : Walked) → SofarIs every T W k v buf front out → Pends (listOf every (withNodes (nodesOf every k) (k .pend))) (length front) out′ r
+  pub pending-is : v .pending ≡ true → (g : Option OutcomeTable) (k : Walked) → SofarIs every g T W k v buf front out → Pends (listOf every (withNodes (nodesOf every k) (k .pend))) (length front) out′ r

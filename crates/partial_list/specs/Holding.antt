@@ -1,7 +1,9 @@
 -- The list rule in sheet order as a state carried along the arms: the arms so far, of which none ended the list. Request 8.
 use mathlib.Core.Bool.{Bool, true, false}
+use mathlib.Core.Option.{Option}
 use mathlib.Core.List.{List, [], _∷_, _++_}
 use Rattle.model.specs.Facts.{Table}
+use Rattle.model.specs.Levels.{OutcomeTable}
 use Rattle.model.specs.Decision.{Decision, permits, denies, genericDeny}
 use Rattle.model.specs.Policy.{Policies}
 use Rattle.model.specs.Partial.{ReducedPolicy, resolved, pending, sheetOrder, upToDeny}
@@ -15,8 +17,8 @@ heldOf true rs = upToDeny rs
 heldOf false rs = rs
 
 -- What a list comes to, by the arms so far and those that are left.
-abbrev pub leftOf : Bool → Table → List (ReducedPolicy Outcome) → Policies Outcome → ReducedPolicy Outcome
-leftOf every P k ts = endInOrder (listOf every) P (k ++ heldOf every (reduceArms sheetOrder P ts))
+abbrev pub leftOf : Bool → Option OutcomeTable → Table → List (ReducedPolicy Outcome) → Policies Outcome → ReducedPolicy Outcome
+leftOf every g P k ts = endInOrder g (listOf every) P (k ++ heldOf every (reduceArms g sheetOrder P ts))
 
 -- What the resolved arms so far came to.
 abbrev pub decisionsOf : List (ReducedPolicy Outcome) → List (Decision Outcome)
@@ -29,9 +31,9 @@ isBegun [] = false
 isBegun (r ∷ k) = true
 
 -- The decision of the arms so far, where none is pending.
-abbrev pub valueOf : Bool → List (ReducedPolicy Outcome) → Decision Outcome
-valueOf true k = allOf (denies genericDeny) (decisionsOf k)
-valueOf false k = anyOf false (denies genericDeny) (decisionsOf k)
+abbrev pub valueOf : Bool → Option OutcomeTable → List (ReducedPolicy Outcome) → Decision Outcome
+valueOf true g k = allOf g (denies genericDeny) (decisionsOf k)
+valueOf false g k = anyOf g false (denies genericDeny) (decisionsOf k)
 
 -- No arm so far is a deny, where the list is an All that goes on.
 abbrev pub NoDeny : Bool → List (ReducedPolicy Outcome) → Type 0

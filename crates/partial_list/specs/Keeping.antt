@@ -4,6 +4,7 @@ use mathlib.Core.Option.{Option, none, some}
 use mathlib.Core.List.{List, [], _∷_, _++_}
 use Prim.Native.Nat.{ℕ, _+_}
 use Rattle.model.specs.Facts.{Table}
+use Rattle.model.specs.Levels.{OutcomeTable, meetOf, joinOf}
 use Rattle.model.specs.Decision.{Permit, Denial, Decision, permits, denies, genericDeny}
 use Rattle.model.specs.Policy.{Policy, all, any, stored, Policies, pnil, pcons}
 use Rattle.model.specs.Evaluate.{firstDeny}
@@ -52,13 +53,13 @@ abbrev pub thenAny : List (Permit Outcome) → Option (Denial Outcome) → Polic
 thenAny ps first qs (parts os second rs) = parts (ps ++ os) (orFirst first second) (append qs rs)
 
 -- What a list comes to, All or Any, by what its arms came to so far and by the arms that are left; and what those consult.
-abbrev pub leftOf : Bool → Table → Walked → Policies Outcome → ReducedPolicy Outcome
-leftOf true P k ts = endAll P (thenAll (k .permitted) (k .pend) (walkedAll (reduceArms permitsFirst P ts)))
-leftOf false P k ts = endAny P (thenAny (k .permitted) (k .denied) (k .pend) (walkedAny (reduceArms permitsFirst P ts)))
+abbrev pub leftOf : Bool → Option OutcomeTable → Table → Walked → Policies Outcome → ReducedPolicy Outcome
+leftOf true g P k ts = endAll g P (thenAll (k .permitted) (k .pend) (walkedAll (reduceArms g permitsFirst P ts)))
+leftOf false g P k ts = endAny g P (thenAny (k .permitted) (k .denied) (k .pend) (walkedAny (reduceArms g permitsFirst P ts)))
 
-abbrev pub readOf : Order → Bool → Table → Policies Outcome → Consulted → Consulted
-readOf o true P ts l = walkAll o P ts l
-readOf o false P ts l = walkAny o P ts l
+abbrev pub readOf : Bool → Option OutcomeTable → Order → Table → Policies Outcome → Consulted → Consulted
+readOf true g o P ts l = walkAll g o P ts l
+readOf false g o P ts l = walkAny g o P ts l
 
 -- The list itself: 9 All, 10 Any.
 abbrev pub listOf : Bool → Policies Outcome → Policy Outcome
@@ -74,14 +75,14 @@ abbrev pub asDecisions : List (Permit Outcome) → List (Decision Outcome)
 asDecisions [] = []
 asDecisions (p ∷ ps) = permits p ∷ asDecisions ps
 
-abbrev pub anyValue : List (Permit Outcome) → Option (Denial Outcome) → Decision Outcome
-anyValue [] none = denies genericDeny
-anyValue [] (some d) = denies d
-anyValue (p ∷ ps) first = anyOf true (permits p) (asDecisions ps)
+abbrev pub anyValue : Option OutcomeTable → List (Permit Outcome) → Option (Denial Outcome) → Decision Outcome
+anyValue g [] none = denies genericDeny
+anyValue g [] (some d) = denies d
+anyValue g (p ∷ ps) first = anyOf g true (permits p) (asDecisions ps)
 
-abbrev pub sofarValue : Bool → Walked → Decision Outcome
-sofarValue true k = allOf (denies genericDeny) (asDecisions (k .permitted))
-sofarValue false k = anyValue (k .permitted) (k .denied)
+abbrev pub sofarValue : Bool → Option OutcomeTable → Walked → Decision Outcome
+sofarValue true g k = allOf g (denies genericDeny) (asDecisions (k .permitted))
+sofarValue false g k = anyValue g (k .permitted) (k .denied)
 
 -- Whether an arm was resolved.
 abbrev pub isBegun : List (Permit Outcome) → Option (Denial Outcome) → Bool
@@ -89,9 +90,14 @@ isBegun [] none = false
 isBegun [] (some d) = true
 isBegun (p ∷ ps) first = true
 
-abbrev pub foldNext : Bool → Bool → Decision Outcome → Decision Outcome → Decision Outcome
-foldNext true begun = meetNext
-foldNext false begun = joinNext begun
+-- What two outcomes come to: under All they meet, under Any they join; and two decisions.
+abbrev pub foldOf : Bool → Option OutcomeTable → ℕ → ℕ → ℕ
+foldOf true g = meetOf g
+foldOf false g = joinOf g
+
+abbrev pub foldNext : Bool → Option OutcomeTable → Bool → Decision Outcome → Decision Outcome → Decision Outcome
+foldNext true g begun = meetNext g
+foldNext false g begun = joinNext g begun
 
 -- ---- the end of a list
 -- Whether an arm is pending.
@@ -119,9 +125,9 @@ abbrev pub withNodes : List (Decision Outcome) → Policies Outcome → Policies
 withNodes [] qs = qs
 withNodes (d ∷ ds) qs = pcons (stored d) (withNodes ds qs)
 
-abbrev pub endOf : Bool → Table → Walked → ReducedPolicy Outcome
-endOf true P k = endAll P (go (k .permitted) (k .pend))
-endOf false P k = endAny P (parts (k .permitted) (k .denied) (k .pend))
+abbrev pub endOf : Bool → Option OutcomeTable → Table → Walked → ReducedPolicy Outcome
+endOf true g P k = endAll g P (go (k .permitted) (k .pend))
+endOf false g P k = endAny g P (parts (k .permitted) (k .denied) (k .pend))
 
 -- ---- sizes and words of nodes and of pending arms
 abbrev pub weightsD : List (Decision Outcome) → ℕ

@@ -8,6 +8,7 @@ use native.Mathlib.Omega.{arith}
 use lib.ListN.{length}
 use lib.Seq.{append-snoc}
 use Rattle.model.specs.Facts.{Table}
+use Rattle.model.specs.Levels.{OutcomeTable}
 use Rattle.model.specs.Decision.{Permit, Denial, Decision, permits, denies, genericDeny}
 use Rattle.model.specs.Policy.{Policy, all, any, stored, Policies, pnil, pcons}
 use Rattle.model.specs.Evaluate.{firstDeny}
@@ -46,75 +47,78 @@ any-step k (resolved (permits p)) (parts os second rs) = ap (λ ps. parts ps (or
 any-step k (resolved (denies d)) (parts os second rs) = ap (λ first. parts (k .permitted ++ os) first (append (k .pend) rs)) (first-more (k .denied) d second)
 any-step k (pending q) (parts os second rs) = ap (parts (k .permitted ++ os) (orFirst (k .denied) second)) (append-one (k .pend) q rs)
 
-pub left-more : (b : Bool) (P : Table) (k : Walked) (p : Policy Outcome) (ts : Policies Outcome) → stops b (reducePolicy permitsFirst P p) ≡ false →
-    leftOf b P k (pcons p ts) ≡ leftOf b P (withArm k (reducePolicy permitsFirst P p)) ts
-left-more true P k p ts e = ap (endAll P) (all-step k (reducePolicy permitsFirst P p) (walkedAll (reduceArms permitsFirst P ts)) e)
-left-more false P k p ts e = ap (endAny P) (any-step k (reducePolicy permitsFirst P p) (walkedAny (reduceArms permitsFirst P ts)))
+pub left-more : (b : Bool) (g : Option OutcomeTable) (P : Table) (k : Walked) (p : Policy Outcome) (ts : Policies Outcome) → stops b (reducePolicy g permitsFirst P p) ≡ false →
+    leftOf b g P k (pcons p ts) ≡ leftOf b g P (withArm k (reducePolicy g permitsFirst P p)) ts
+left-more true g P k p ts e = ap (endAll g P) (all-step k (reducePolicy g permitsFirst P p) (walkedAll (reduceArms g permitsFirst P ts)) e)
+left-more false g P k p ts e = ap (endAny g P) (any-step k (reducePolicy g permitsFirst P p) (walkedAny (reduceArms g permitsFirst P ts)))
 
 on-read : (x : ReducedPolicy Outcome) (here on : Consulted) → stops true x ≡ false → unlessDenied x here on ≡ on
 on-read (resolved (permits p)) here on e = refl
 on-read (resolved (denies d)) here on e = cc
 on-read (pending q) here on e = refl
 
-pub read-more : (o : Order) (b : Bool) (P : Table) (p : Policy Outcome) (ts : Policies Outcome) (l : Consulted) → stops b (reducePolicy o P p) ≡ false → readOf o b P (pcons p ts) l ≡ readOf o b P ts (walk o P p l)
-read-more o true P p ts l e = on-read (reducePolicy o P p) (walk o P p l) (walkAll o P ts (walk o P p l)) e
-read-more o false P p ts l e = refl
+pub read-more : (b : Bool) (g : Option OutcomeTable) (o : Order) (P : Table) (p : Policy Outcome) (ts : Policies Outcome) (l : Consulted) → stops b (reducePolicy g o P p) ≡ false →
+    readOf b g o P (pcons p ts) l ≡ readOf b g o P ts (walk g o P p l)
+read-more true g o P p ts l e = on-read (reducePolicy g o P p) (walk g o P p l) (walkAll g o P ts (walk g o P p l)) e
+read-more false g o P p ts l e = refl
 
 -- An arm that stops All is what it comes to.
-stop-step : (k : Walked) (x : ReducedPolicy Outcome) (w : AllWalk Outcome) (T : Table) → stops true x ≡ true → endAll T (thenAll (k .permitted) (k .pend) (stepAll x w)) ≡ x
-stop-step k (resolved (permits p)) w T e = cc
-stop-step k (resolved (denies d)) w T e = refl
-stop-step k (pending q) w T e = cc
+stop-step : (g : Option OutcomeTable) (k : Walked) (x : ReducedPolicy Outcome) (w : AllWalk Outcome) (T : Table) → stops true x ≡ true → endAll g T (thenAll (k .permitted) (k .pend) (stepAll x w)) ≡ x
+stop-step g k (resolved (permits p)) w T e = cc
+stop-step g k (resolved (denies d)) w T e = refl
+stop-step g k (pending q) w T e = cc
 
 stop-read : (x : ReducedPolicy Outcome) (here on : Consulted) → stops true x ≡ true → unlessDenied x here on ≡ here
 stop-read (resolved (permits p)) here on e = cc
 stop-read (resolved (denies d)) here on e = refl
 stop-read (pending q) here on e = cc
 
-pub left-stop : (b : Bool) (P : Table) (k : Walked) (p : Policy Outcome) (ts : Policies Outcome) → stops b (reducePolicy permitsFirst P p) ≡ true → leftOf b P k (pcons p ts) ≡ reducePolicy permitsFirst P p
-left-stop true P k p ts e = stop-step k (reducePolicy permitsFirst P p) (walkedAll (reduceArms permitsFirst P ts)) P e
-left-stop false P k p ts e = cc
+pub left-stop : (b : Bool) (g : Option OutcomeTable) (P : Table) (k : Walked) (p : Policy Outcome) (ts : Policies Outcome) → stops b (reducePolicy g permitsFirst P p) ≡ true →
+    leftOf b g P k (pcons p ts) ≡ reducePolicy g permitsFirst P p
+left-stop true g P k p ts e = stop-step g k (reducePolicy g permitsFirst P p) (walkedAll (reduceArms g permitsFirst P ts)) P e
+left-stop false g P k p ts e = cc
 
-pub read-stop : (o : Order) (b : Bool) (P : Table) (p : Policy Outcome) (ts : Policies Outcome) (l : Consulted) → stops b (reducePolicy o P p) ≡ true → readOf o b P (pcons p ts) l ≡ walk o P p l
-read-stop o true P p ts l e = stop-read (reducePolicy o P p) (walk o P p l) (walkAll o P ts (walk o P p l)) e
-read-stop o false P p ts l e = cc
+pub read-stop : (b : Bool) (g : Option OutcomeTable) (o : Order) (P : Table) (p : Policy Outcome) (ts : Policies Outcome) (l : Consulted) → stops b (reducePolicy g o P p) ≡ true →
+    readOf b g o P (pcons p ts) l ≡ walk g o P p l
+read-stop true g o P p ts l e = stop-read (reducePolicy g o P p) (walk g o P p l) (walkAll g o P ts (walk g o P p l)) e
+read-stop false g o P p ts l e = cc
 
-pub read-none : (o : Order) (b : Bool) (P : Table) (l : Consulted) → readOf o b P pnil l ≡ l
-read-none o true P l = refl
-read-none o false P l = refl
+pub read-none : (b : Bool) (g : Option OutcomeTable) (o : Order) (P : Table) (l : Consulted) → readOf b g o P pnil l ≡ l
+read-none true g o P l = refl
+read-none false g o P l = refl
 
-pub read-start : (o : Order) (b : Bool) (P : Table) (ts : Policies Outcome) (l : Consulted) → walk o P (listOf b ts) l ≡ readOf o b P ts l
-read-start o true P ts l = refl
-read-start o false P ts l = refl
+pub read-start : (b : Bool) (g : Option OutcomeTable) (o : Order) (P : Table) (ts : Policies Outcome) (l : Consulted) → walk g o P (listOf b ts) l ≡ readOf b g o P ts l
+read-start true g o P ts l = refl
+read-start false g o P ts l = refl
 
 -- ---- the decision of the resolved arms so far
-all-snoc : (x : Decision Outcome) (ps : List (Permit Outcome)) (p : Permit Outcome) → meetNext (allOf x (asDecisions ps)) (permits p) ≡ allOf x (asDecisions (ps ++ p ∷ []))
-all-snoc x [] p = refl
-all-snoc x (q ∷ ps) p = all-snoc (meetNext x (permits q)) ps p
+all-snoc : (g : Option OutcomeTable) (x : Decision Outcome) (ps : List (Permit Outcome)) (p : Permit Outcome) → meetNext g (allOf g x (asDecisions ps)) (permits p) ≡ allOf g x (asDecisions (ps ++ p ∷ []))
+all-snoc g x [] p = refl
+all-snoc g x (q ∷ ps) p = all-snoc g (meetNext g x (permits q)) ps p
 
-any-snoc : (x : Decision Outcome) (ps : List (Permit Outcome)) (p : Permit Outcome) → joinNext true (anyOf true x (asDecisions ps)) (permits p) ≡ anyOf true x (asDecisions (ps ++ p ∷ []))
-any-snoc x [] p = refl
-any-snoc x (q ∷ ps) p = any-snoc (joinNext true x (permits q)) ps p
+any-snoc : (g : Option OutcomeTable) (x : Decision Outcome) (ps : List (Permit Outcome)) (p : Permit Outcome) → joinNext g true (anyOf g true x (asDecisions ps)) (permits p) ≡ anyOf g true x (asDecisions (ps ++ p ∷ []))
+any-snoc g x [] p = refl
+any-snoc g x (q ∷ ps) p = any-snoc g (joinNext g true x (permits q)) ps p
 
-any-denied : (p : Permit Outcome) (ps : List (Permit Outcome)) (d : Denial Outcome) → joinNext true (anyOf true (permits p) (asDecisions ps)) (denies d) ≡ anyOf true (permits p) (asDecisions ps)
-any-denied p [] d = refl
-any-denied p (q ∷ ps) d = any-denied (joinPermit p q) ps d
+any-denied : (g : Option OutcomeTable) (p : Permit Outcome) (ps : List (Permit Outcome)) (d : Denial Outcome) → joinNext g true (anyOf g true (permits p) (asDecisions ps)) (denies d) ≡ anyOf g true (permits p) (asDecisions ps)
+any-denied g p [] d = refl
+any-denied g p (q ∷ ps) d = any-denied g (joinPermit g p q) ps d
 
-any-permit-more : (ps : List (Permit Outcome)) (first : Option (Denial Outcome)) (p : Permit Outcome) → joinNext (isBegun ps first) (anyValue ps first) (permits p) ≡ anyValue (ps ++ p ∷ []) first
-any-permit-more [] none p = refl
-any-permit-more [] (some d) p = refl
-any-permit-more (q ∷ ps) first p = any-snoc (permits q) ps p
+any-permit-more : (g : Option OutcomeTable) (ps : List (Permit Outcome)) (first : Option (Denial Outcome)) (p : Permit Outcome) → joinNext g (isBegun ps first) (anyValue g ps first) (permits p) ≡ anyValue g (ps ++ p ∷ []) first
+any-permit-more g [] none p = refl
+any-permit-more g [] (some d) p = refl
+any-permit-more g (q ∷ ps) first p = any-snoc g (permits q) ps p
 
-any-deny-more : (ps : List (Permit Outcome)) (first : Option (Denial Outcome)) (d : Denial Outcome) → joinNext (isBegun ps first) (anyValue ps first) (denies d) ≡ anyValue ps (some (firstDeny first d))
-any-deny-more [] none d = refl
-any-deny-more [] (some c) d = refl
-any-deny-more (q ∷ ps) first d = any-denied q ps d
+any-deny-more : (g : Option OutcomeTable) (ps : List (Permit Outcome)) (first : Option (Denial Outcome)) (d : Denial Outcome) → joinNext g (isBegun ps first) (anyValue g ps first) (denies d) ≡ anyValue g ps (some (firstDeny first d))
+any-deny-more g [] none d = refl
+any-deny-more g [] (some c) d = refl
+any-deny-more g (q ∷ ps) first d = any-denied g q ps d
 
-pub value-more : (b : Bool) (k : Walked) (d : Decision Outcome) → stops b (resolved d) ≡ false → foldNext b (isBegun (k .permitted) (k .denied)) (sofarValue b k) d ≡ sofarValue b (withArm k (resolved d))
-value-more true k (permits p) e = all-snoc (denies genericDeny) (k .permitted) p
-value-more true k (denies d) e = cc
-value-more false k (permits p) e = any-permit-more (k .permitted) (k .denied) p
-value-more false k (denies d) e = any-deny-more (k .permitted) (k .denied) d
+pub value-more : (b : Bool) (g : Option OutcomeTable) (k : Walked) (d : Decision Outcome) → stops b (resolved d) ≡ false → foldNext b g (isBegun (k .permitted) (k .denied)) (sofarValue b g k) d ≡ sofarValue b g (withArm k (resolved d))
+value-more true g k (permits p) e = all-snoc g (denies genericDeny) (k .permitted) p
+value-more true g k (denies d) e = cc
+value-more false g k (permits p) e = any-permit-more g (k .permitted) (k .denied) p
+value-more false g k (denies d) e = any-deny-more g (k .permitted) (k .denied) d
 
 begun-some : (ps : List (Permit Outcome)) (p : Permit Outcome) (first : Option (Denial Outcome)) → isBegun (ps ++ p ∷ []) first ≡ true
 begun-some [] p first = refl
@@ -142,45 +146,46 @@ kept-are [] none qs = refl
 kept-are [] (some d) qs = refl
 kept-are (p ∷ ps) first qs = arms-are (p ∷ ps) qs
 
-nodes-value : (T : Table) (ds : List (Decision Outcome)) → evalPolicies T (withNodes ds pnil) ≡ ds
-nodes-value T [] = refl
-nodes-value T (d ∷ ds) = ap (λ es. d ∷ es) (nodes-value T ds)
+nodes-value : (g : Option OutcomeTable) (T : Table) (ds : List (Decision Outcome)) → evalPolicies g T (withNodes ds pnil) ≡ ds
+nodes-value g T [] = refl
+nodes-value g T (d ∷ ds) = ap (λ es. d ∷ es) (nodes-value g T ds)
 
-kept-value : (ps : List (Permit Outcome)) (first : Option (Denial Outcome)) → anyFrom none none (keptOf ps first) ≡ anyValue ps first
-kept-value [] none = refl
-kept-value [] (some d) = refl
-kept-value (p ∷ ps) first = any-is (asDecisions (p ∷ ps))
+kept-value : (g : Option OutcomeTable) (ps : List (Permit Outcome)) (first : Option (Denial Outcome)) → anyFrom g none none (keptOf ps first) ≡ anyValue g ps first
+kept-value g [] none = refl
+kept-value g [] (some d) = refl
+kept-value g (p ∷ ps) first = any-is g (asDecisions (p ∷ ps))
 
 first-last : (first : Option (Denial Outcome)) → orFirst first none ≡ first
 first-last none = refl
 first-last (some d) = refl
 
-pub left-none : (b : Bool) (P : Table) (k : Walked) → leftOf b P k pnil ≡ endOf b P k
-left-none true P k = ap₂ (λ ps qs. endAll P (go ps qs)) (append-nil (k .permitted)) (append-none (k .pend))
-left-none false P k =
-    ap₂ (λ ps qs. endAny P (parts ps (orFirst (k .denied) none) qs)) (append-nil (k .permitted)) (append-none (k .pend))
-    ∙ ap (λ first. endAny P (parts (k .permitted) first (k .pend))) (first-last (k .denied))
+pub left-none : (b : Bool) (g : Option OutcomeTable) (P : Table) (k : Walked) → leftOf b g P k pnil ≡ endOf b g P k
+left-none true g P k = ap₂ (λ ps qs. endAll g P (go ps qs)) (append-nil (k .permitted)) (append-none (k .pend))
+left-none false g P k =
+    ap₂ (λ ps qs. endAny g P (parts ps (orFirst (k .denied) none) qs)) (append-nil (k .permitted)) (append-none (k .pend))
+    ∙ ap (λ first. endAny g P (parts (k .permitted) first (k .pend))) (first-last (k .denied))
 
-none-at : (b : Bool) (P : Table) (ps : List (Permit Outcome)) (first : Option (Denial Outcome)) (qs : Policies Outcome) → isOpen qs ≡ false → endOf b P (walked ps first qs) ≡ resolved (sofarValue b (walked ps first qs))
-none-at b P ps first (pcons q qs) e = cc
-none-at true P ps first pnil e =
-    ap (λ ts. resolved (evalPolicy P (all ts))) (arms-are ps pnil)
-    ∙ ap resolved (all-is (evalPolicies P (withNodes (asDecisions ps) pnil)) ∙ ap (allOf (denies genericDeny)) (nodes-value P (asDecisions ps)))
-none-at false P ps first pnil e =
-    ap (λ ts. resolved (evalPolicy P (any ts))) (kept-are ps first pnil)
-    ∙ ap resolved (ap (anyFrom none none) (nodes-value P (keptOf ps first)) ∙ kept-value ps first)
+none-at : (b : Bool) (g : Option OutcomeTable) (P : Table) (ps : List (Permit Outcome)) (first : Option (Denial Outcome)) (qs : Policies Outcome) → isOpen qs ≡ false →
+    endOf b g P (walked ps first qs) ≡ resolved (sofarValue b g (walked ps first qs))
+none-at b g P ps first (pcons q qs) e = cc
+none-at true g P ps first pnil e =
+    ap (λ ts. resolved (evalPolicy g P (all ts))) (arms-are ps pnil)
+    ∙ ap resolved (all-is g (evalPolicies g P (withNodes (asDecisions ps) pnil)) ∙ ap (allOf g (denies genericDeny)) (nodes-value g P (asDecisions ps)))
+none-at false g P ps first pnil e =
+    ap (λ ts. resolved (evalPolicy g P (any ts))) (kept-are ps first pnil)
+    ∙ ap resolved (ap (anyFrom g none none) (nodes-value g P (keptOf ps first)) ∙ kept-value g ps first)
 
-pub end-none : (b : Bool) (P : Table) (k : Walked) → isOpen (k .pend) ≡ false → endOf b P k ≡ resolved (sofarValue b k)
-end-none b P k e = none-at b P (k .permitted) (k .denied) (k .pend) e
+pub end-none : (b : Bool) (g : Option OutcomeTable) (P : Table) (k : Walked) → isOpen (k .pend) ≡ false → endOf b g P k ≡ resolved (sofarValue b g k)
+end-none b g P k e = none-at b g P (k .permitted) (k .denied) (k .pend) e
 
-some-at : (b : Bool) (P : Table) (ps : List (Permit Outcome)) (first : Option (Denial Outcome)) (qs : Policies Outcome) → isOpen qs ≡ true →
-    endOf b P (walked ps first qs) ≡ pending (listOf b (withNodes (nodesOf b (walked ps first qs)) qs))
-some-at b P ps first pnil e = cc
-some-at true P ps first (pcons q qs) e = ap (λ ts. pending (all ts)) (arms-are ps (pcons q qs))
-some-at false P ps first (pcons q qs) e = ap (λ ts. pending (any ts)) (kept-are ps first (pcons q qs))
+some-at : (b : Bool) (g : Option OutcomeTable) (P : Table) (ps : List (Permit Outcome)) (first : Option (Denial Outcome)) (qs : Policies Outcome) → isOpen qs ≡ true →
+    endOf b g P (walked ps first qs) ≡ pending (listOf b (withNodes (nodesOf b (walked ps first qs)) qs))
+some-at b g P ps first pnil e = cc
+some-at true g P ps first (pcons q qs) e = ap (λ ts. pending (all ts)) (arms-are ps (pcons q qs))
+some-at false g P ps first (pcons q qs) e = ap (λ ts. pending (any ts)) (kept-are ps first (pcons q qs))
 
-pub end-some : (b : Bool) (P : Table) (k : Walked) → isOpen (k .pend) ≡ true → endOf b P k ≡ pending (listOf b (withNodes (nodesOf b k) (k .pend)))
-end-some b P k e = some-at b P (k .permitted) (k .denied) (k .pend) e
+pub end-some : (b : Bool) (g : Option OutcomeTable) (P : Table) (k : Walked) → isOpen (k .pend) ≡ true → endOf b g P k ≡ pending (listOf b (withNodes (nodesOf b k) (k .pend)))
+end-some b g P k e = some-at b g P (k .permitted) (k .denied) (k .pend) e
 
 -- ---- sizes and words of nodes and of pending arms
 pub nodes-more : (ps : List (Permit Outcome)) (p : Permit Outcome) → weightsD (asDecisions (ps ++ p ∷ [])) ≡ weightsD (asDecisions ps) + weightD (permits p)

@@ -3,18 +3,22 @@
 // its permits first keeps their nodes until it knows that an arm is pending. A slice may be too short for what is laid in it: then only its size is right.
 use decision::Decision;
 use decision::OBLIGATION_ROOM;
+use outcome::Products;
 ghost use mathlib.Core.Path.{_≡_};
 ghost use mathlib.Core.Bool.{true, false, not, _&&_};
 ghost use mathlib.Core.List.{List};
 ghost use Prim.Native.Nat.{ℕ, _+_, _^_, _≤_, _<_};
 ghost use lib.ListN.{drop, set};
+ghost use mathlib.Core.Option.{Option};
 ghost use Rattle.model.specs.Facts.{Table, tableOf};
+ghost use Rattle.model.specs.Levels.{OutcomeTable};
+ghost use Rattle.outcome.specs.Carried.{carried};
 ghost use Rattle.model.specs.Writing.{countBits, word};
 ghost use Rattle.evaluate.specs.Evaluating.{Folds};
 ghost use Rattle.sizes.specs.Laid.{tooMany};
 ghost use Rattle.decision.specs.Room.{obligationRoom, RoomToUnite, Few};
 ghost use Rattle.clause.specs.Room.{RoomToName};
-ghost use Rattle.partial_list.specs.Keeping.{listKind, armsWith, foldNext};
+ghost use Rattle.partial_list.specs.Keeping.{listKind, armsWith, foldOf, foldNext};
 ghost use Rattle.partial_list.specs.Answers.{resolvedTo, leftTo, Bounded, NodeBehind, NodeKept, DecisionAdded, ArmAdded, NodesEnd, ListEnds};
 ghost use Rattle.partial_list.specs.InOrder.{ArmHeld, OrderEnds};
 
@@ -124,9 +128,37 @@ fn keep_node(
     lay_node(words, facts, incoming, kept, buf, named, front)
 }
 
-// The decision so far and one more, under All or Any.
+// What the outcomes of the decision so far and of one more arm come to: under All they meet, under Any they join. Where one of them has none, nothing asks
+// for it.
+pub fn outcome_next(
+    every: bool,
+    sofar: Sofar,
+    arm: ReducedPolicy,
+    outcome_levels: u16,
+    outcomes: &[u8],
+) -> u16
+    ensures { λ r. ⌜ r ≡ foldOf every (carried «outcome_levels» (now (outcomes .entry))) (sofar .decision .outcome) (arm .decision .outcome) ⌝ }
+{
+    let before = sofar.decision;
+    let decision = arm.decision;
+    let earlier = Products {
+        bits: before.outcome,
+    };
+    let later = Products {
+        bits: decision.outcome,
+    };
+    if every {
+        let both = earlier.meet_by(later, outcome_levels, outcomes);
+        return both.bits;
+    }
+    let either = earlier.join_by(later, outcome_levels, outcomes);
+    either.bits
+}
+
+// The decision so far and one more, under All or Any, whose outcomes come to `outcome`.
 fn fold_next(
     words: &[u32],
+    outcome: u16,
     every: bool,
     sofar: Decision,
     begun: bool,
@@ -135,12 +167,12 @@ fn fold_next(
 ) -> Decision
     requires { ⌜ Few sofar × Few incoming × RoomToUnite 2 (now buf) ⌝ }
     ensures few { λ r. ⌜ Few r ⌝ }
-    ensures folds { λ r. ⌜ ((every ≡ true → incoming .permit ≡ true) → Folds (foldNext every begun) (now (words .entry)) sofar (now (buf .entry)) incoming (drop obligationRoom (now (buf .entry))) r (now (buf .exit))) ⌝ }
+    ensures folds { λ r. ⌜ ((g : Option OutcomeTable) → outcome ≡ foldOf every g (sofar .outcome) (incoming .outcome) → (every ≡ true → incoming .permit ≡ true) → Folds (foldNext every g begun) (now (words .entry)) sofar (now (buf .entry)) incoming (drop obligationRoom (now (buf .entry))) r (now (buf .exit))) ⌝ }
 {
     if every {
-        return evaluate::met(words, sofar, incoming, buf);
+        return evaluate::met(words, outcome, sofar, incoming, buf);
     }
-    evaluate::joined(words, sofar, begun, incoming, buf)
+    evaluate::joined(words, outcome, sofar, begun, incoming, buf)
 }
 
 // How many arms are kept with one more that was resolved: only a permit is.
@@ -155,6 +187,7 @@ fn arms_with(arms: u32, permit: bool) -> u32
 fn with_decision(
     words: &[u32],
     facts: &[u8],
+    outcome: u16,
     every: bool,
     sofar: Sofar,
     incoming: Decision,
@@ -163,10 +196,18 @@ fn with_decision(
     front: &mut [u32],
 ) -> Sofar
     requires { ⌜ Bounded sofar × (sofar .arms < 2 ^ countBits) × Few incoming × RoomToUnite 2 (now buf) × RoomToName (now words) (now named) ⌝ }
-    ensures { λ r. ⌜ DecisionAdded every (tableOf (now (facts .entry))) (now (words .entry)) sofar incoming (now (buf .entry)) (now (front .entry)) (now (buf .exit)) (now (front .exit)) r ⌝ }
+    ensures { λ r. ⌜ DecisionAdded every outcome (tableOf (now (facts .entry))) (now (words .entry)) sofar incoming (now (buf .entry)) (now (front .entry)) (now (buf .exit)) (now (front .exit)) r ⌝ }
 {
     let kept = keep_node(words, facts, incoming, sofar.kept, buf, named, front);
-    let decision = fold_next(words, every, sofar.decision, sofar.begun, incoming, buf);
+    let decision = fold_next(
+        words,
+        outcome,
+        every,
+        sofar.decision,
+        sofar.begun,
+        incoming,
+        buf,
+    );
     let arms = arms_with(sofar.arms, incoming.permit);
     Sofar {
         decision,
@@ -182,6 +223,7 @@ fn with_decision(
 pub fn with_arm(
     words: &[u32],
     facts: &[u8],
+    outcome: u16,
     every: bool,
     sofar: Sofar,
     arm: ReducedPolicy,
@@ -190,7 +232,7 @@ pub fn with_arm(
     front: &mut [u32],
 ) -> Sofar
     requires { ⌜ Bounded sofar × (sofar .arms < 2 ^ countBits) × Few (arm .decision) × (arm .size ≤ tooMany) × RoomToUnite 2 (now buf) × RoomToName (now words) (now named) ⌝ }
-    ensures { λ r. ⌜ ArmAdded every (tableOf (now (facts .entry))) (now (words .entry)) sofar arm (now (buf .entry)) (now (front .entry)) (now (buf .exit)) (now (front .exit)) r ⌝ }
+    ensures { λ r. ⌜ ArmAdded every outcome (tableOf (now (facts .entry))) (now (words .entry)) sofar arm (now (buf .entry)) (now (front .entry)) (now (buf .exit)) (now (front .exit)) r ⌝ }
 {
     if arm.pending {
         let decision = sofar.decision;
@@ -203,7 +245,17 @@ pub fn with_arm(
             pending: true,
         };
     }
-    with_decision(words, facts, every, sofar, arm.decision, buf, named, front)
+    with_decision(
+        words,
+        facts,
+        outcome,
+        every,
+        sofar,
+        arm.decision,
+        buf,
+        named,
+        front,
+    )
 }
 
 // One more arm of a list in sheet order, whose words were laid behind those before it, if it is pending; the node of a resolved one is laid there. Once an
@@ -211,6 +263,7 @@ pub fn with_arm(
 pub fn with_arm_in_order(
     words: &[u32],
     facts: &[u8],
+    outcome: u16,
     every: bool,
     sofar: Sofar,
     arm: ReducedPolicy,
@@ -219,7 +272,7 @@ pub fn with_arm_in_order(
     out: &mut [u32],
 ) -> Sofar
     requires { ⌜ Bounded sofar × (sofar .arms < 2 ^ countBits) × Few (arm .decision) × (arm .size ≤ tooMany) × RoomToUnite 2 (now buf) × RoomToName (now words) (now named) ⌝ }
-    ensures { λ r. ⌜ ArmHeld every (tableOf (now (facts .entry))) (now (words .entry)) sofar arm (now (buf .entry)) (now (out .entry)) (now (buf .exit)) (now (out .exit)) r ⌝ }
+    ensures { λ r. ⌜ ArmHeld every outcome (tableOf (now (facts .entry))) (now (words .entry)) sofar arm (now (buf .entry)) (now (out .entry)) (now (buf .exit)) (now (out .exit)) r ⌝ }
 {
     let decision = sofar.decision;
     if arm.pending {
@@ -244,7 +297,7 @@ pub fn with_arm_in_order(
             pending: true,
         };
     }
-    let folded = fold_next(words, every, decision, sofar.begun, incoming, buf);
+    let folded = fold_next(words, outcome, every, decision, sofar.begun, incoming, buf);
     Sofar {
         decision: folded,
         begun: true,

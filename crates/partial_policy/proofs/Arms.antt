@@ -1,13 +1,14 @@
 -- A list rule by its first arm and the others, and an OrElse by its two policies. Assumes nothing.
 use mathlib.Core.Path.{_≡_, refl, sym, _∙_, ap, ap₂, subst}
 use mathlib.Core.Bool.{Bool, true, false, not, _&&_}
-use mathlib.Core.Option.{none}
+use mathlib.Core.Option.{Option, none}
 use mathlib.Core.List.{List, [], _∷_, _++_, append-nil}
 use Prim.Native.Nat.{ℕ, _+_, _-_, _≤_, _<_, min}
 use native.Mathlib.Omega.{arith}
 use lib.ListN.{length, take, drop, getD, length-append, length-take, length-drop, drop-of-length-le}
 use lib.Seq.{drop-drop, drop-at, length-take-le}
 use Rattle.model.specs.Facts.{Table}
+use Rattle.model.specs.Levels.{OutcomeTable}
 use Rattle.model.specs.Decision.{permits, denies, genericDeny}
 use Rattle.model.specs.Decision.{Decision as Decided}
 use Rattle.model.specs.Policy.{Policy, orElse, Policies, pnil, pcons}
@@ -36,7 +37,7 @@ use Rattle.sizes.specs.LaidLaws.{laid-as, laid-none}
 use Rattle.residual.specs.Weight.{weightD, weight, weights}
 use Rattle.partial_list.specs.declared.ReducedPolicy.{ReducedPolicy}
 use Rattle.partial_list.specs.declared.Sofar.{Sofar}
-use Rattle.partial_list.specs.Keeping.{Walked, walked, append, withArm, stops, thenAll, thenAny, leftOf, readOf, listOf, asDecisions, sofarValue, foldNext, isOpen, armsWith, endOf, weightsD, encodesD}
+use Rattle.partial_list.specs.Keeping.{Walked, walked, append, withArm, stops, thenAll, thenAny, leftOf, readOf, listOf, asDecisions, sofarValue, foldOf, foldNext, isOpen, armsWith, endOf, weightsD, encodesD}
 use Rattle.partial_list.specs.KeepingLaws.{left-more, read-more, left-stop, read-stop, read-none, read-start, value-more, begun-more, open-more, left-none, end-none, end-some, nodes-more, node-words-more, node-count-more, pend-more, pend-words-more, pend-count-more}
 use Rattle.partial_list.specs.Within.{LaidWithin}
 use Rattle.partial_list.specs.WithinLaws.{within, within-less, within-as, within-then, within-still, laid-still}
@@ -71,23 +72,23 @@ module _ (T : Table) (W buf : List ℕ) (room : ℕ) (out : List ℕ) (a : Reduc
   settled-as (pending q) h true = rw (h .unsettled)
 
 -- ---- one more arm
-value-open : (every : Bool) (k : Walked) (q : Policy Outcome) → sofarValue every k ≡ sofarValue every (withArm k (pending q))
-value-open true k q = refl
-value-open false k q = refl
+value-open : (every : Bool) (g : Option OutcomeTable) (k : Walked) (q : Policy Outcome) → sofarValue every g k ≡ sofarValue every g (withArm k (pending q))
+value-open true g k q = refl
+value-open false g k q = refl
 
-module _ (every : Bool) (T : Table) (W : List ℕ) (v : Sofar) (a : ReducedPolicy) (buf part front fpart out opart buf′ front′ : List ℕ) (behind from room : ℕ) (v′ : Sofar)
+module _ (every : Bool) (g : Option OutcomeTable) (T : Table) (W : List ℕ) (v : Sofar) (a : ReducedPolicy) (outcome : ℕ) (buf part front fpart out opart buf′ front′ : List ℕ) (behind from room : ℕ) (v′ : Sofar)
     (f : behind ≡ min (v .kept) (length front)) (o : from ≡ min (v .size) (length out))
-    (added : ArmAdded every T W v a (back obligationRoom buf part) (back behind front fpart) buf′ front′ v′) (flong : length front′ ≡ length front)
+    (is : outcome ≡ foldOf every g (v .decision .outcome) (a .decision .outcome)) (added : ArmAdded every outcome T W v a (back obligationRoom buf part) (back behind front fpart) buf′ front′ v′) (flong : length front′ ≡ length front)
     (bounds : Bounded v) (few : a .decision .united ≤ length part) (wide : obligationRoom ≤ length buf)
     (long : length fpart ≡ length front - behind) (rooms : room ≡ length front - behind) (olong : length opart ≡ length out - from) where
   abbrev bytes : take (v .decision .united) (back obligationRoom buf part) ≡ take (v .decision .united) buf
   bytes = lent-front buf part (drop (length buf - obligationRoom) (drop obligationRoom buf)) wide (v .decision .united) (bounds .few)
 
-  open-more-arm : (k : Walked) (q : Policy Outcome) → SofarIs every T W k v buf front out → Result (pending q) T W part room opart a →
-      SofarIs every T W (withArm k (pending q)) (sofarOf (v .decision) (v .begun) (v .kept) (capped (v .size + a .size)) (v .arms + 1) true) (back obligationRoom buf part) (back behind front fpart) (back from out opart)
+  open-more-arm : (k : Walked) (q : Policy Outcome) → SofarIs every g T W k v buf front out → Result (pending q) T W part room opart a →
+      SofarIs every g T W (withArm k (pending q)) (sofarOf (v .decision) (v .begun) (v .kept) (capped (v .size + a .size)) (v .arms + 1) true) (back obligationRoom buf part) (back behind front fpart) (back from out opart)
   open-more-arm k q s x = record {
     sound = same-sound W buf (back obligationRoom buf part) (v .decision) bytes (s .sound);
-    decision-is = same-decision W buf (back obligationRoom buf part) (v .decision) bytes T ∙ s .decision-is ∙ value-open every k q;
+    decision-is = same-decision W buf (back obligationRoom buf part) (v .decision) bytes T ∙ s .decision-is ∙ value-open every g k q;
     begun-is = s .begun-is;
     nodes = laid-still fpart (s .nodes) f long;
     free = s .free;
@@ -98,21 +99,21 @@ module _ (every : Bool) (T : Table) (W : List ℕ) (v : Sofar) (a : ReducedPolic
     pending-is = sym (open-more (k .pend) q);
   }
 
-  known-more-arm : (k : Walked) (D : Decided Outcome) → SofarIs every T W k v buf front out → Result (resolved D) T W part room opart a → stops every (resolved D) ≡ false →
-      DecisionAdded every T W v (a .decision) (back obligationRoom buf part) (back behind front fpart) buf′ front′ v′ →
+  known-more-arm : (k : Walked) (D : Decided Outcome) → SofarIs every g T W k v buf front out → Result (resolved D) T W part room opart a → stops every (resolved D) ≡ false →
+      DecisionAdded every outcome T W v (a .decision) (back obligationRoom buf part) (back behind front fpart) buf′ front′ v′ →
       Laid (weightsD (asDecisions (withArm k (resolved D) .permitted))) (encodesD (asDecisions (withArm k (resolved D) .permitted))) front′ (v′ .kept) →
       v′ .arms ≡ length (asDecisions (withArm k (resolved D) .permitted)) + count (k .pend) →
       (every ≡ true → a .decision .permit ≡ true) → withArm k (resolved D) .pend ≡ k .pend →
-      SofarIs every T W (withArm k (resolved D)) v′ buf′ front′ (back from out opart)
+      SofarIs every g T W (withArm k (resolved D)) v′ buf′ front′ (back from out opart)
   known-more-arm k D s x e d nodes arms q p =
-      let folds = lent-folds W buf part (drop (length buf - obligationRoom) (drop obligationRoom buf)) buf′ (v .decision) (a .decision) (v′ .decision) wide (bounds .few) few (foldNext every (v .begun)) (d .folds q) in
+      let folds = lent-folds W buf part (drop (length buf - obligationRoom) (drop obligationRoom buf)) buf′ (v .decision) (a .decision) (v′ .decision) wide (bounds .few) few (foldNext every g (v .begun)) (d .folds g is q) in
       record {
         sound = folds .sound (s .sound) (x .sound);
         decision-is =
             folds .folded (s .sound) (x .sound) T
-            ∙ ap₂ (foldNext every (v .begun)) (s .decision-is) (x .decision-is)
-            ∙ ap (λ b. foldNext every b (sofarValue every k) D) (s .begun-is)
-            ∙ value-more every k D e;
+            ∙ ap₂ (foldNext every g (v .begun)) (s .decision-is) (x .decision-is)
+            ∙ ap (λ b. foldNext every g b (sofarValue every g k) D) (s .begun-is)
+            ∙ value-more every g k D e;
         begun-is = d .begun-is ∙ sym (begun-more k D);
         nodes = nodes;
         free = s .free;
@@ -121,8 +122,8 @@ module _ (every : Bool) (T : Table) (W : List ℕ) (v : Sofar) (a : ReducedPolic
         pending-is = d .pending-is ∙ s .pending-is ∙ ap isOpen (sym p);
       }
 
-  permit-arm : (k : Walked) (p : _) → SofarIs every T W k v buf front out → Result (resolved (permits p)) T W part room opart a →
-      DecisionAdded every T W v (a .decision) (back obligationRoom buf part) (back behind front fpart) buf′ front′ v′ → SofarIs every T W (withArm k (resolved (permits p))) v′ buf′ front′ (back from out opart)
+  permit-arm : (k : Walked) (p : _) → SofarIs every g T W k v buf front out → Result (resolved (permits p)) T W part room opart a →
+      DecisionAdded every outcome T W v (a .decision) (back obligationRoom buf part) (back behind front fpart) buf′ front′ v′ → SofarIs every g T W (withArm k (resolved (permits p))) v′ buf′ front′ (back from out opart)
   permit-arm k p s x d =
       let permit = decided-as T W part room opart a (permits p) x in
       let tail = lent-back buf part (drop (length buf - obligationRoom) (drop obligationRoom buf)) wide (a .decision .united) few in
@@ -136,8 +137,8 @@ module _ (every : Bool) (T : Table) (W : List ℕ) (v : Sofar) (a : ReducedPolic
       no-stop true p = refl
       no-stop false p = refl
 
-  deny-arm : (k : Walked) (c : _) → SofarIs every T W k v buf front out → Result (resolved (denies c)) T W part room opart a → stops every (resolved (denies c)) ≡ false →
-      DecisionAdded every T W v (a .decision) (back obligationRoom buf part) (back behind front fpart) buf′ front′ v′ → SofarIs every T W (withArm k (resolved (denies c))) v′ buf′ front′ (back from out opart)
+  deny-arm : (k : Walked) (c : _) → SofarIs every g T W k v buf front out → Result (resolved (denies c)) T W part room opart a → stops every (resolved (denies c)) ≡ false →
+      DecisionAdded every outcome T W v (a .decision) (back obligationRoom buf part) (back behind front fpart) buf′ front′ v′ → SofarIs every g T W (withArm k (resolved (denies c))) v′ buf′ front′ (back from out opart)
   deny-arm k c s x e d =
       let denied = decided-as T W part room opart a (denies c) x in
       let none-more = d .none denied in
@@ -146,8 +147,8 @@ module _ (every : Bool) (T : Table) (W : List ℕ) (v : Sofar) (a : ReducedPolic
       (d .arms-are ∙ ap (λ b. armsWith b (v .arms)) denied ∙ s .arms-are) (λ t. clash true refl (sym (ap (λ b. stops b (resolved (denies c))) t) ∙ e)) refl
 
   -- What was kept so far, with one arm more.
-  pub sofar-more : (k : Walked) (x : model.ReducedPolicy Outcome) → SofarIs every T W k v buf front out → Result x T W part room opart a → stops every x ≡ false →
-      SofarIs every T W (withArm k x) v′ buf′ front′ (back from out opart)
+  pub sofar-more : (k : Walked) (x : model.ReducedPolicy Outcome) → SofarIs every g T W k v buf front out → Result x T W part room opart a → stops every x ≡ false →
+      SofarIs every g T W (withArm k x) v′ buf′ front′ (back from out opart)
   sofar-more k (resolved (permits p)) s x e = permit-arm k p s x (added .known-arm (x .settled))
   sofar-more k (resolved (denies c)) s x e = deny-arm k c s x e (added .known-arm (x .settled))
   sofar-more k (pending q) s x e =
@@ -156,22 +157,22 @@ module _ (every : Bool) (T : Table) (W : List ℕ) (v : Sofar) (a : ReducedPolic
 
 -- ---- arms
 -- The answer for the arms that are left, given what is kept so far. Of arms that don't read only the bounds are said.
-pub record ArmsLeft (every : Bool) (P : Table) (W : List ℕ) (v : Sofar) (buf front out : List ℕ) (at depth arms : ℕ) (s : Lent) (r : ReducedPolicy) (t : Lent) (buf′ out′ : List ℕ) : Type 0 where
+pub record ArmsLeft (every : Bool) (g : Option OutcomeTable) (P : Table) (W : List ℕ) (v : Sofar) (buf front out : List ℕ) (at depth arms : ℕ) (s : Lent) (r : ReducedPolicy) (t : Lent) (buf′ out′ : List ℕ) : Type 0 where
   pub few : r .decision .united ≤ obligationRoom
   pub bound : r .size ≤ tooMany
-  pub says : (k : Walked) → SofarIs every P W k v buf front out →
-      Holds (λ ts rest. ReducedTo (leftOf every P k ts) (at + wordss ts) (readOf permitsFirst every P ts) P W s r t buf′ (length front) out′) (many pnil pcons (readPolicy true depth) arms (drop at W))
+  pub says : (k : Walked) → SofarIs every g P W k v buf front out →
+      Holds (λ ts rest. ReducedTo (leftOf every g P k ts) (at + wordss ts) (readOf every g permitsFirst P ts) P W s r t buf′ (length front) out′) (many pnil pcons (readPolicy true depth) arms (drop at W))
 
-module _ (every : Bool) (P : Table) (W : List ℕ) (depth : ℕ) (s m t : Lent) (a r : ReducedPolicy) (v : Sofar) (buf front out part opart : List ℕ) (room : ℕ) (buf′ out′ : List ℕ) (at arms : ℕ) (some : arms ≡ 0 → ⊥)
-    (first : ReducesP permitsFirst P W at depth s a m part room opart) where
+module _ (every : Bool) (g : Option OutcomeTable) (P : Table) (W : List ℕ) (depth : ℕ) (s m t : Lent) (a r : ReducedPolicy) (v : Sofar) (buf front out part opart : List ℕ) (room : ℕ) (buf′ out′ : List ℕ) (at arms : ℕ) (some : arms ≡ 0 → ⊥)
+    (first : ReducesP g permitsFirst P W at depth s a m part room opart) where
   abbrev Whole : Walked → Policy Outcome → Policies Outcome → List ℕ → Type 0
-  Whole k p ts rest = ReducedTo (leftOf every P k (pcons p ts)) (at + wordss (pcons p ts)) (readOf permitsFirst every P (pcons p ts)) P W s r t buf′ (length front) out′
+  Whole k p ts rest = ReducedTo (leftOf every g P k (pcons p ts)) (at + wordss (pcons p ts)) (readOf every g permitsFirst P (pcons p ts)) P W s r t buf′ (length front) out′
 
   -- By the answer a to the first arm.
   arm-first : r .decision .united ≤ obligationRoom → r .size ≤ tooMany →
-      ((k : Walked) (p : Policy Outcome) → SofarIs every P W k v buf front out → ReducedTo (reducePolicy permitsFirst P p) (at + words p) (walk permitsFirst P p) P W s a m part room opart →
+      ((k : Walked) (p : Policy Outcome) → SofarIs every g P W k v buf front out → ReducedTo (reducePolicy g permitsFirst P p) (at + words p) (walk g permitsFirst P p) P W s a m part room opart →
       Holds (Whole k p) (many pnil pcons (readPolicy true depth) (arms - 1) (drop (a .next) W))) →
-      ArmsLeft every P W v buf front out at depth arms s r t buf′ out′
+      ArmsLeft every g P W v buf front out at depth arms s r t buf′ out′
   arm-first few bound f =
       let one = readPolicy true depth in
       record {
@@ -182,23 +183,23 @@ module _ (every : Bool) (P : Table) (W : List ℕ) (depth : ℕ) (s m t : Lent) 
             (both-hold (one (drop at W)) (first .says true) (policy-leaves true depth (drop at W))) (λ p vs h.
             let after : drop (a .next) W ≡ vs = ap (λ n. drop n W) (h .0 .next-is) ∙ sym (drop-drop (words p) at W) ∙ h .1 in
             then-holds (many pnil pcons one (arms - 1) vs) (λ ps us. got (pcons p ps) us)
-            (subst (λ ws. Holds (Whole k p) (many pnil pcons one (arms - 1) ws)) after (f k p z (h .0))) (λ ps us g. fine g)));
+            (subst (λ ws. Holds (Whole k p) (many pnil pcons one (arms - 1) ws)) after (f k p z (h .0))) (λ ps us h. fine h)));
       }
 
   -- An arm that does not stop the list: the others go on from what is kept with it.
   pub arm-goes : (v′ : Sofar) (mid front′ omid : List ℕ) → length front′ ≡ length front →
-      ((k : Walked) (x : model.ReducedPolicy Outcome) → SofarIs every P W k v buf front out → Result x P W part room opart a → stops every x ≡ false → SofarIs every P W (withArm k x) v′ mid front′ omid) →
+      ((k : Walked) (x : model.ReducedPolicy Outcome) → SofarIs every g P W k v buf front out → Result x P W part room opart a → stops every x ≡ false → SofarIs every g P W (withArm k x) v′ mid front′ omid) →
       false ≡ (every && (not (a .pending) && not (a .decision .permit))) →
-      ArmsLeft every P W v′ mid front′ omid (a .next) depth (arms - 1) m r t buf′ out′ → ArmsLeft every P W v buf front out at depth arms s r t buf′ out′
+      ArmsLeft every g P W v′ mid front′ omid (a .next) depth (arms - 1) m r t buf′ out′ → ArmsLeft every g P W v buf front out at depth arms s r t buf′ out′
   arm-goes v′ mid front′ omid long more e rest =
       arm-first (rest .few) (rest .bound) (λ k p z h.
-      let x = reducePolicy permitsFirst P p in
+      let x = reducePolicy g permitsFirst P p in
       let on : stops every x ≡ false = settled-as P W part room opart a x (h .result) every ∙ sym e in
-      weaker (many pnil pcons (readPolicy true depth) (arms - 1) (drop (a .next) W)) (λ ts us g. record {
-        result = subst (λ n. Result (leftOf every P k (pcons p ts)) P W buf′ n out′ r) long
-            (subst (λ y. Result y P W buf′ (length front′) out′ r) (sym (left-more every P k p ts on)) (g .result));
-        next-is = omega (arith, h .next-is, g .next-is);
-        log = consults-as (λ l. read-more permitsFirst every P p ts l on) (consults-then (h .log) (g .log));
+      weaker (many pnil pcons (readPolicy true depth) (arms - 1) (drop (a .next) W)) (λ ts us i. record {
+        result = subst (λ n. Result (leftOf every g P k (pcons p ts)) P W buf′ n out′ r) long
+            (subst (λ y. Result y P W buf′ (length front′) out′ r) (sym (left-more every g P k p ts on)) (i .result));
+        next-is = omega (arith, h .next-is, i .next-is);
+        log = consults-as (λ l. read-more every g permitsFirst P p ts l on) (consults-then (h .log) (i .log));
       })
       (rest .says (withArm k x) (more k x z (h .result) on)))
 
@@ -216,43 +217,43 @@ stopped-by true P W part mid room opart out′ a n next count (resolved (denies 
     }
 stopped-by true P W part mid room opart out′ a n next count (pending q) e h = clash true refl (sym e)
 
-pub arm-stops : (every : Bool) (P : Table) (W : List ℕ) (depth : ℕ) (s m : Lent) (a : ReducedPolicy) (v : Sofar) (buf front out part opart : List ℕ) (room : ℕ) (mid out′ : List ℕ) (at arms end : ℕ) → (arms ≡ 0 → ⊥) →
-    ReducesP permitsFirst P W at depth s a m part room opart → true ≡ (every && (not (a .pending) && not (a .decision .permit))) →
+pub arm-stops : (every : Bool) (g : Option OutcomeTable) (P : Table) (W : List ℕ) (depth : ℕ) (s m : Lent) (a : ReducedPolicy) (v : Sofar) (buf front out part opart : List ℕ) (room : ℕ) (mid out′ : List ℕ) (at arms end : ℕ) → (arms ≡ 0 → ⊥) →
+    ReducesP g permitsFirst P W at depth s a m part room opart → true ≡ (every && (not (a .pending) && not (a .decision .permit))) →
     ((depth : ℕ) (res : Bool) → Skipped wordss (a .next) (many pnil pcons (readPolicy res depth) (arms - 1) (drop (a .next) W)) end) →
-    ArmsLeft every P W v buf front out at depth arms s (resolvedTo (a .decision) end (a .count)) m mid out′
-arm-stops every P W depth s m a v buf front out part opart room mid out′ at arms end some first e k =
-    arm-first every P W depth s m m a (resolvedTo (a .decision) end (a .count)) v buf front out part opart room mid out′ at arms some first (first .few) (omega arith) (λ w p z h.
-    let x = reducePolicy permitsFirst P p in
+    ArmsLeft every g P W v buf front out at depth arms s (resolvedTo (a .decision) end (a .count)) m mid out′
+arm-stops every g P W depth s m a v buf front out part opart room mid out′ at arms end some first e k =
+    arm-first every g P W depth s m m a (resolvedTo (a .decision) end (a .count)) v buf front out part opart room mid out′ at arms some first (first .few) (omega arith) (λ w p z h.
+    let x = reducePolicy g permitsFirst P p in
     let stop-here : stops every x ≡ true = settled-as P W part room opart a x (h .result) every ∙ sym e in
-    weaker (many pnil pcons (readPolicy true depth) (arms - 1) (drop (a .next) W)) (λ ts us g. record {
-      result = subst (λ y. Result y P W mid (length front) out′ (resolvedTo (a .decision) end (a .count))) (sym (left-stop every P w p ts stop-here))
+    weaker (many pnil pcons (readPolicy true depth) (arms - 1) (drop (a .next) W)) (λ ts us i. record {
+      result = subst (λ y. Result y P W mid (length front) out′ (resolvedTo (a .decision) end (a .count))) (sym (left-stop every g P w p ts stop-here))
           (stopped-by every P W part mid room opart out′ a (length front) end (a .count) x stop-here (h .result));
-      next-is = omega (arith, h .next-is, g);
-      log = consults-as (λ l. read-stop permitsFirst every P p ts l stop-here) (h .log);
+      next-is = omega (arith, h .next-is, i);
+      log = consults-as (λ l. read-stop every g permitsFirst P p ts l stop-here) (h .log);
     })
     (skipped wordss (a .next) end (many pnil pcons (readPolicy true depth) (arms - 1) (drop (a .next) W)) (k depth true)))
 
 -- No arm is left.
-ended-as : (every : Bool) (P : Table) (W : List ℕ) (v : Sofar) (next count : ℕ) (buf front out buf′ out′ : List ℕ) (r : ReducedPolicy) (k : Walked) (b : Bool) → v .pending ≡ b → SofarIs every P W k v buf front out →
-    ListEnds every P W v next count buf front out buf′ out′ r → Result (endOf every P k) P W buf′ (length front) out′ r
-ended-as every P W v next count buf front out buf′ out′ r k true p s e =
-    subst (λ y. Result y P W buf′ (length front) out′ r) (sym (end-some every P k (sym (s .pending-is) ∙ p))) (e .pending-is p k s)
-ended-as every P W v next count buf front out buf′ out′ r k false p s e =
+ended-as : (every : Bool) (g : Option OutcomeTable) (P : Table) (W : List ℕ) (v : Sofar) (next count : ℕ) (buf front out buf′ out′ : List ℕ) (r : ReducedPolicy) (k : Walked) (b : Bool) → v .pending ≡ b → SofarIs every g P W k v buf front out →
+    ListEnds every P W v next count buf front out buf′ out′ r → Result (endOf every g P k) P W buf′ (length front) out′ r
+ended-as every g P W v next count buf front out buf′ out′ r k true p s e =
+    subst (λ y. Result y P W buf′ (length front) out′ r) (sym (end-some every g P k (sym (s .pending-is) ∙ p))) (e .pending-is p g k s)
+ended-as every g P W v next count buf front out buf′ out′ r k false p s e =
     let is = e .resolved-is p in
-    subst (λ y. Result y P W buf′ (length front) out′ r) (sym (end-none every P k (sym (s .pending-is) ∙ p)))
+    subst (λ y. Result y P W buf′ (length front) out′ r) (sym (end-none every g P k (sym (s .pending-is) ∙ p)))
     (rw (is .0, is .1) (record { settled = refl; decision-is = s .decision-is; sound = s .sound }))
 
-pub arms-end : (every : Bool) (P : Table) (W : List ℕ) (v : Sofar) (buf front out : List ℕ) (at depth arms count : ℕ) (entries seen : List ℕ) (r : ReducedPolicy) (buf′ out′ : List ℕ) → arms ≡ 0 →
-    ListEnds every P W v at count buf front out buf′ out′ r → ArmsLeft every P W v buf front out at depth arms (lent count entries seen) r (lent (r .count) entries seen) buf′ out′
-arms-end every P W v buf front out at depth arms listed entries seen r buf′ out′ z e =
-    subst (λ n. ArmsLeft every P W v buf front out at depth arms (lent listed entries seen) r (lent n entries seen) buf′ out′) (sym (e .count-is))
+pub arms-end : (every : Bool) (g : Option OutcomeTable) (P : Table) (W : List ℕ) (v : Sofar) (buf front out : List ℕ) (at depth arms count : ℕ) (entries seen : List ℕ) (r : ReducedPolicy) (buf′ out′ : List ℕ) → arms ≡ 0 →
+    ListEnds every P W v at count buf front out buf′ out′ r → ArmsLeft every g P W v buf front out at depth arms (lent count entries seen) r (lent (r .count) entries seen) buf′ out′
+arms-end every g P W v buf front out at depth arms listed entries seen r buf′ out′ z e =
+    subst (λ n. ArmsLeft every g P W v buf front out at depth arms (lent listed entries seen) r (lent n entries seen) buf′ out′) (sym (e .count-is))
     (rw z (record {
       few = e .few;
       bound = e .bound;
       says = λ k s. fine (record {
-        result = subst (λ y. Result y P W buf′ (length front) out′ r) (sym (left-none every P k)) (ended-as every P W v at listed buf front out buf′ out′ r k (v .pending) refl s e);
+        result = subst (λ y. Result y P W buf′ (length front) out′ r) (sym (left-none every g P k)) (ended-as every g P W v at listed buf front out buf′ out′ r k (v .pending) refl s e);
         next-is = omega (arith, e .next-is);
-        log = consults-as (read-none permitsFirst every P) consults-none;
+        log = consults-as (read-none every g permitsFirst P) consults-none;
       });
     }))
 
@@ -268,17 +269,17 @@ start-all (go ps qs) = refl
 start-any : (w : AnyWalk Outcome) → thenAny [] none pnil w ≡ w
 start-any (parts ps first qs) = refl
 
-start-left : (every : Bool) (P : Table) (ts : Policies Outcome) → leftOf every P (walked [] none pnil) ts ≡ reducePolicy permitsFirst P (listOf every ts)
-start-left true P ts = ap (endAll P) (start-all (walkedAll (reduceArms permitsFirst P ts)))
-start-left false P ts = ap (endAny P) (start-any (walkedAny (reduceArms permitsFirst P ts)))
+start-left : (every : Bool) (g : Option OutcomeTable) (P : Table) (ts : Policies Outcome) → leftOf every g P (walked [] none pnil) ts ≡ reducePolicy g permitsFirst P (listOf every ts)
+start-left true g P ts = ap (endAll g P) (start-all (walkedAll (reduceArms g permitsFirst P ts)))
+start-left false g P ts = ap (endAny g P) (start-any (walkedAny (reduceArms g permitsFirst P ts)))
 
 pub start-words : (every : Bool) (ts : Policies Outcome) → words (listOf every ts) ≡ 1 + wordss ts
 start-words true ts = refl
 start-words false ts = refl
 
-start-value : (every : Bool) → sofarValue every (walked [] none pnil) ≡ denies genericDeny
-start-value true = refl
-start-value false = refl
+start-value : (every : Bool) (g : Option OutcomeTable) → sofarValue every g (walked [] none pnil) ≡ denies genericDeny
+start-value true g = refl
+start-value false g = refl
 
 pub list-reads : (every : Bool) (pc : _) (p : List ℕ → Parsed (Policy Outcome)) (n : ℕ) (ws : List ℕ) → policyNode pc p (listHead every n) ws ≡ next (many pnil pcons p n ws) (λ ts vs. got (listOf every ts) vs)
 unfolding policyNode
@@ -289,11 +290,11 @@ list-reads false pc p n ws = refl
 abbrev pub noneYet : ℕ → Sofar
 noneYet end = sofarOf (deniedAt end end) false 0 1 0 false
 
-module _ (every : Bool) (P : Table) (W : List ℕ) (at depth n : ℕ) (s : Lent) (r : ReducedPolicy) (t : Lent) (buf front out buf′ out′ : List ℕ) (end : ℕ) (is : end ≡ length W) (lt : at < length W) where
-  none-kept : SofarIs every P W (walked [] none pnil) (noneYet end) buf front out
+module _ (every : Bool) (g : Option OutcomeTable) (P : Table) (W : List ℕ) (at depth n : ℕ) (s : Lent) (r : ReducedPolicy) (t : Lent) (buf front out buf′ out′ : List ℕ) (end : ℕ) (is : end ≡ length W) (lt : at < length W) where
+  none-kept : SofarIs every g P W (walked [] none pnil) (noneYet end) buf front out
   none-kept = record {
     sound = sound-denied W buf end end (past (omega arith)) (omega arith);
-    decision-is = denied-is W P buf end (omega arith) ∙ sym (start-value every);
+    decision-is = denied-is W P buf end (omega arith) ∙ sym (start-value every g);
     begun-is = refl;
     nodes = laid-none front;
     free = getD out 0 0;
@@ -302,15 +303,15 @@ module _ (every : Bool) (P : Table) (W : List ℕ) (at depth n : ℕ) (s : Lent)
     pending-is = refl;
   }
 
-  pub list-node : ArmsLeft every P W (noneYet end) buf front out (at + 1) depth n s r t buf′ out′ → ReducesBy permitsFirst (listHead every n) P W at depth s r t buf′ (length front) out′
+  pub list-node : ArmsLeft every g P W (noneYet end) buf front out (at + 1) depth n s r t buf′ out′ → ReducesBy g permitsFirst (listHead every n) P W at depth s r t buf′ (length front) out′
   list-node a = record {
     few = a .few;
     bound = a .bound;
     says = λ e. node-holds W at depth (listHead every n) lt e (rw (list-reads every _ (readPolicy true depth) n (drop (at + 1) W))
         (then-holds (many pnil pcons (readPolicy true depth) n (drop (at + 1) W)) (λ ts vs. got (listOf every ts) vs) (a .says (walked [] none pnil) none-kept) (λ ts rest h. fine (record {
-          result = subst (λ x. Result x P W buf′ (length front) out′ r) (start-left every P ts) (h .result);
+          result = subst (λ x. Result x P W buf′ (length front) out′ r) (start-left every g P ts) (h .result);
           next-is = omega (arith, h .next-is, start-words every ts);
-          log = consults-as (read-start permitsFirst every P ts) (h .log);
+          log = consults-as (read-start every g permitsFirst P ts) (h .log);
         }))));
   }
 
@@ -327,15 +328,15 @@ pub record Going (Left Whole : ReducedPolicy → Lent → List ℕ → List ℕ 
   pub goes : (r : ReducedPolicy) (t : Lent) (buf′ out′ : List ℕ) → Left r t buf′ out′ → Whole r t buf′ out′
 
 -- ---- OrElse
-module _ {order : Order} (P : Table) (W : List ℕ) (at depth : ℕ) (s m : Lent) (a : ReducedPolicy) (mid : List ℕ) (room : ℕ) (opart : List ℕ) (lt : at < length W) (first : ReducesP order P W (at + 1) depth s a m mid room opart) where
+module _ {g : Option OutcomeTable} {order : Order} (P : Table) (W : List ℕ) (at depth : ℕ) (s m : Lent) (a : ReducedPolicy) (mid : List ℕ) (room : ℕ) (opart : List ℕ) (lt : at < length W) (first : ReducesP g order P W (at + 1) depth s a m mid room opart) where
   abbrev one : List ℕ → Parsed (Policy Outcome)
   one = readPolicy true depth
 
   -- By the answer a to the primary.
   or-first : (r : ReducedPolicy) (t : Lent) (buf : List ℕ) (n : ℕ) (out : List ℕ) → r .decision .united ≤ obligationRoom → r .size ≤ tooMany →
-      ((x : Policy Outcome) → ReducedTo (reducePolicy order P x) (at + 1 + words x) (walk order P x) P W s a m mid room opart →
-      Holds (λ y rest. ReducedTo (reducePolicy order P (orElse x y)) (at + words (orElse x y)) (walk order P (orElse x y)) P W s r t buf n out) (one (drop (a .next) W))) →
-      ReducesBy order OrElse P W at depth s r t buf n out
+      ((x : Policy Outcome) → ReducedTo (reducePolicy g order P x) (at + 1 + words x) (walk g order P x) P W s a m mid room opart →
+      Holds (λ y rest. ReducedTo (reducePolicy g order P (orElse x y)) (at + words (orElse x y)) (walk g order P (orElse x y)) P W s r t buf n out) (one (drop (a .next) W))) →
+      ReducesBy g order OrElse P W at depth s r t buf n out
   unfolding policyNode
   or-first r t buf n out few bound f = record {
     few = few;
@@ -345,7 +346,7 @@ module _ {order : Order} (P : Table) (W : List ℕ) (at depth : ℕ) (s m : Lent
         (both-hold (one (drop (at + 1) W)) (first .says true) (policy-leaves true depth (drop (at + 1) W))) (λ x vs h.
         let after : drop (a .next) W ≡ vs = ap (λ i. drop i W) (h .0 .next-is) ∙ sym (drop-drop (words x) (at + 1) W) ∙ h .1 in
         then-holds (one vs) (λ y us. got (orElse x y) us)
-        (subst (λ ws. Holds (λ y rest. ReducedTo (reducePolicy order P (orElse x y)) (at + words (orElse x y)) (walk order P (orElse x y)) P W s r t buf n out) (one ws)) after (f x (h .0))) (λ y us g. fine g)));
+        (subst (λ ws. Holds (λ y rest. ReducedTo (reducePolicy g order P (orElse x y)) (at + words (orElse x y)) (walk g order P (orElse x y)) P W s r t buf n out) (one ws)) after (f x (h .0))) (λ y us i. fine i)));
   }
 
   -- A resolved permit is the answer, and the fallback is passed over.
@@ -362,36 +363,36 @@ module _ {order : Order} (P : Table) (W : List ℕ) (at depth : ℕ) (s m : Lent
 
   pub or-permits : (end n : ℕ) (out : List ℕ) → a .pending ≡ false → a .decision .permit ≡ true →
       ((depth : ℕ) (res : Bool) → Skipped wordss (a .next) (many pnil pcons (readPolicy res depth) 1 (drop (a .next) W)) end) →
-      ReducesBy order OrElse P W at depth s (resolvedTo (a .decision) end (a .count)) m mid n out
+      ReducesBy g order OrElse P W at depth s (resolvedTo (a .decision) end (a .count)) m mid n out
   or-permits end n out e q k =
       or-first (resolvedTo (a .decision) end (a .count)) m mid n out (first .few) (omega arith) (λ x h.
-      weaker (one (drop (a .next) W)) (λ y rest g. record {
-        result = permits-first (reducePolicy order P x) (reducePolicy order P y) n out end (h .result) e q;
-        next-is = omega (arith, h .next-is, g);
-        log = consults-as (λ l. permits-read (reducePolicy order P x) (walk order P x l) (walk order P y (walk order P x l)) (h .result) e q) (h .log);
+      weaker (one (drop (a .next) W)) (λ y rest i. record {
+        result = permits-first (reducePolicy g order P x) (reducePolicy g order P y) n out end (h .result) e q;
+        next-is = omega (arith, h .next-is, i);
+        log = consults-as (λ l. permits-read (reducePolicy g order P x) (walk g order P x l) (walk g order P y (walk g order P x l)) (h .result) e q) (h .log);
       })
       (one-passed (a .next) end (one (drop (a .next) W)) (skipped wordss (a .next) end (many pnil pcons one 1 (drop (a .next) W)) (k depth true))))
 
   module _ (t : Lent) (b : ReducedPolicy) (buf : List ℕ) where
     -- After a resolved deny the fallback is the answer.
     denies-first : (x y : model.ReducedPolicy Outcome) (n : ℕ) (out : List ℕ) → Result x P W mid room opart a → a .pending ≡ false → a .decision .permit ≡ false → Result y P W buf n out b → Result (reduceOrElse x y) P W buf n out b
-    denies-first (resolved (permits p)) y n out h e q g = clash (a .decision .permit) (decided-as P W mid room opart a (permits p) h) q
-    denies-first (resolved (denies d)) y n out h e q g = g
-    denies-first (pending z) y n out h e q g = clash (a .pending) (h .unsettled) e
+    denies-first (resolved (permits p)) y n out h e q i = clash (a .decision .permit) (decided-as P W mid room opart a (permits p) h) q
+    denies-first (resolved (denies d)) y n out h e q i = i
+    denies-first (pending z) y n out h e q i = clash (a .pending) (h .unsettled) e
 
     on-read : (x : model.ReducedPolicy Outcome) (here on : Consulted) → Result x P W mid room opart a → (a .pending ≡ false → a .decision .permit ≡ false) → unlessPermitted x here on ≡ on
     on-read (resolved (permits p)) here on h q = clash (a .decision .permit) (decided-as P W mid room opart a (permits p) h) (q (h .settled))
     on-read (resolved (denies d)) here on h q = refl
     on-read (pending z) here on h q = refl
 
-    pub or-denies : (n : ℕ) (out : List ℕ) → a .pending ≡ false → a .decision .permit ≡ false → (n′ : ℕ) → ReducesP order P W (a .next) depth m b t buf n′ out → n′ ≡ n → ReducesBy order OrElse P W at depth s b t buf n out
+    pub or-denies : (n : ℕ) (out : List ℕ) → a .pending ≡ false → a .decision .permit ≡ false → (n′ : ℕ) → ReducesP g order P W (a .next) depth m b t buf n′ out → n′ ≡ n → ReducesBy g order OrElse P W at depth s b t buf n out
     or-denies n out e q n′ second₀ z =
-        let second : ReducesP order P W (a .next) depth m b t buf n out = subst (λ i. ReducesP order P W (a .next) depth m b t buf i out) z second₀ in
+        let second : ReducesP g order P W (a .next) depth m b t buf n out = subst (λ i. ReducesP g order P W (a .next) depth m b t buf i out) z second₀ in
         or-first b t buf n out (second .few) (second .bound) (λ x h.
-        weaker (one (drop (a .next) W)) (λ y rest g. record {
-          result = denies-first (reducePolicy order P x) (reducePolicy order P y) n out (h .result) e q (g .result);
-          next-is = omega (arith, h .next-is, g .next-is);
-          log = consults-as (λ l. on-read (reducePolicy order P x) (walk order P x l) (walk order P y (walk order P x l)) (h .result) (λ _. q)) (consults-then (h .log) (g .log));
+        weaker (one (drop (a .next) W)) (λ y rest i. record {
+          result = denies-first (reducePolicy g order P x) (reducePolicy g order P y) n out (h .result) e q (i .result);
+          next-is = omega (arith, h .next-is, i .next-is);
+          log = consults-as (λ l. on-read (reducePolicy g order P x) (walk g order P x l) (walk g order P y (walk g order P x l)) (h .result) (λ _. q)) (consults-then (h .log) (i .log));
         })
         (second .says true))
 
@@ -399,25 +400,25 @@ module _ {order : Order} (P : Table) (W : List ℕ) (at depth : ℕ) (s m : Lent
     open-first : (x y : model.ReducedPolicy Outcome) (out opart₂ buf′ out′ : List ℕ) (from behind used size end after listed : ℕ) → a .pending ≡ true → from ≡ min 1 (length out) → length opart ≡ length out - from → used ≡ capped (1 + a .size) →
         behind ≡ min used (length (back from out opart)) → length opart₂ ≡ length (back from out opart) - behind → OrElsePut P W used b buf (back behind (back from out opart) opart₂) out′ size →
         Result x P W mid room opart a → Result y P W buf room opart₂ b → Result (reduceOrElse x y) P W buf′ room out′ (leftTo size end after listed)
-    open-first (resolved D) y out opart₂ buf′ out′ from behind used size end after listed p f long u g long₂ k h i = clash (a .pending) p (h .settled)
-    open-first (pending q) y out opart₂ buf′ out′ from behind used size end after listed p f long u g long₂ k h i =
+    open-first (resolved D) y out opart₂ buf′ out′ from behind used size end after listed p f long u w long₂ k h i = clash (a .pending) p (h .settled)
+    open-first (pending q) y out opart₂ buf′ out′ from behind used size end after listed p f long u w long₂ k h i =
         let out₁ = back from out opart in
         let one-word : LaidWithin room 1 (getD out 0 0 ∷ []) out 1 = first-word out in
         let two : LaidWithin room (1 + weight q) (getD out 0 0 ∷ encode q) out₁ used = within-then one-word (h .left) f long u in
-        let stays : LaidWithin room (1 + weight q) (getD out 0 0 ∷ encode q) (back behind out₁ opart₂) used = within-still opart₂ two g long₂ in
+        let stays : LaidWithin room (1 + weight q) (getD out 0 0 ∷ encode q) (back behind out₁ opart₂) used = within-still opart₂ two w long₂ in
         let there : opart₂ ≡ drop (min used (length (back behind out₁ opart₂))) (back behind out₁ opart₂) =
-        sym (ap (λ i. drop i (back behind out₁ opart₂)) (ap (min used) (back-long behind out₁ opart₂ (omega arith) long₂) ∙ sym g) ∙ back-part behind out₁ opart₂ (omega arith)) in
+        sym (ap (λ i. drop i (back behind out₁ opart₂)) (ap (min used) (back-long behind out₁ opart₂ (omega arith) long₂) ∙ sym w) ∙ back-part behind out₁ opart₂ (omega arith)) in
         record { unsettled = refl; left = k .put (weight q) (getD out 0 0) room (encode q) y stays (subst (λ us. Result y P W buf room us b) there i) }
 
     pub or-open : (out opart₂ buf′ out′ : List ℕ) (from behind used size end : ℕ) → a .pending ≡ true → from ≡ min 1 (length out) → length opart ≡ length out - from → used ≡ capped (1 + a .size) →
-        behind ≡ min used (length (back from out opart)) → length opart₂ ≡ length (back from out opart) - behind → (room′ : ℕ) → ReducesP order P W (a .next) depth m b t buf room′ opart₂ → room′ ≡ room →
-        OrElsePut P W used b buf (back behind (back from out opart) opart₂) out′ size → ReducesBy order OrElse P W at depth s (leftTo size end (b .next) (b .count)) t buf′ room out′
-    or-open out opart₂ buf′ out′ from behind used size end p f long u g long₂ room′ second₀ z k =
-        let second : ReducesP order P W (a .next) depth m b t buf room opart₂ = subst (λ i. ReducesP order P W (a .next) depth m b t buf i opart₂) z second₀ in
+        behind ≡ min used (length (back from out opart)) → length opart₂ ≡ length (back from out opart) - behind → (room′ : ℕ) → ReducesP g order P W (a .next) depth m b t buf room′ opart₂ → room′ ≡ room →
+        OrElsePut P W used b buf (back behind (back from out opart) opart₂) out′ size → ReducesBy g order OrElse P W at depth s (leftTo size end (b .next) (b .count)) t buf′ room out′
+    or-open out opart₂ buf′ out′ from behind used size end p f long u w long₂ room′ second₀ z k =
+        let second : ReducesP g order P W (a .next) depth m b t buf room opart₂ = subst (λ i. ReducesP g order P W (a .next) depth m b t buf i opart₂) z second₀ in
         or-first (leftTo size end (b .next) (b .count)) t buf′ room out′ (omega arith) (k .bound) (λ x h.
         weaker (one (drop (a .next) W)) (λ y rest i. record {
-          result = open-first (reducePolicy order P x) (reducePolicy order P y) out opart₂ buf′ out′ from behind used size end (b .next) (b .count) p f long u g long₂ k (h .result) (i .result);
+          result = open-first (reducePolicy g order P x) (reducePolicy g order P y) out opart₂ buf′ out′ from behind used size end (b .next) (b .count) p f long u w long₂ k (h .result) (i .result);
           next-is = omega (arith, h .next-is, i .next-is);
-          log = consults-as (λ l. on-read (reducePolicy order P x) (walk order P x l) (walk order P y (walk order P x l)) (h .result) (λ q. clash (a .pending) p q)) (consults-then (h .log) (i .log));
+          log = consults-as (λ l. on-read (reducePolicy g order P x) (walk g order P x l) (walk g order P y (walk g order P x l)) (h .result) (λ q. clash (a .pending) p q)) (consults-then (h .log) (i .log));
         })
         (second .says true))

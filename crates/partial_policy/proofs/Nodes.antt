@@ -1,6 +1,7 @@
 -- What a policy reduces to and consults, by its head: grants, and what is evaluated. Assumes nothing.
 use mathlib.Core.Path.{_≡_, refl, sym, _∙_, ap, ap₂, subst}
 use mathlib.Core.Bool.{Bool, true, false, cond}
+use mathlib.Core.Option.{Option}
 use mathlib.Core.List.{List, [], _∷_, _++_, append-assoc}
 use Prim.Native.Nat.{ℕ, zero, suc, _+_, _-_, _/_, _%_, _≤_, _<_, min}
 use native.Mathlib.Omega.{arith}
@@ -13,6 +14,7 @@ use lib.Seq.{take-at, drop-drop}
 use Rattle.model.specs.Fields.{bits, pack}
 use Rattle.model.specs.Facts.{Table}
 use Rattle.model.specs.Outcome.{productSets}
+use Rattle.model.specs.Levels.{OutcomeTable}
 use Rattle.model.specs.Condition.{Condition, satisfied, unsatisfied, evalHas, evalCondition}
 use Rattle.model.specs.Condition as model-condition
 use Rattle.model.specs.Consulted.{Consulted, walkC}
@@ -64,30 +66,30 @@ use Rattle.partial_list.proofs.Adding.{clash}
 use Rattle.decision.specs.Room.{obligationRoom}
 
 -- ---- a policy by its head
-module _ {order : Order} (P : Table) (W : List ℕ) (at depth : ℕ) (s : Lent) (r : ReducedPolicy) (t : Lent) (buf : List ℕ) (room : ℕ) (out : List ℕ) where
-  pub by-head : (h : PolicyHead) → (depth ≡ 0 → ⊥) → h ≡ policyHead (getD W at 0) true → ReducesBy order h P W at (depth - 1) s r t buf room out → ReducesP order P W at depth s r t buf room out
+module _ {g : Option OutcomeTable} {order : Order} (P : Table) (W : List ℕ) (at depth : ℕ) (s : Lent) (r : ReducedPolicy) (t : Lent) (buf : List ℕ) (room : ℕ) (out : List ℕ) where
+  pub by-head : (h : PolicyHead) → (depth ≡ 0 → ⊥) → h ≡ policyHead (getD W at 0) true → ReducesBy g order h P W at (depth - 1) s r t buf room out → ReducesP g order P W at depth s r t buf room out
   by-head h f e a = record { few = a .few; bound = a .bound; says = in-sheet depth (drop at W) (one-level depth (drop at W) f (a .says e)) }
 
   -- Words that don't read.
-  pub reduce-end : t ≡ s → r .decision .united ≤ obligationRoom → r .size ≤ tooMany → length W ≤ at → ReducesP order P W at depth s r t buf room out
+  pub reduce-end : t ≡ s → r .decision .united ≤ obligationRoom → r .size ≤ tooMany → length W ≤ at → ReducesP g order P W at depth s r t buf room out
   reduce-end e few bound h = rw e (record { few = few; bound = bound; says = λ res. rw (no-word W at h, nothing-there res depth) nothing })
 
-  pub reduce-limit : t ≡ s → r .decision .united ≤ obligationRoom → r .size ≤ tooMany → depth ≡ 0 → ReducesP order P W at depth s r t buf room out
+  pub reduce-limit : t ≡ s → r .decision .united ≤ obligationRoom → r .size ≤ tooMany → depth ≡ 0 → ReducesP g order P W at depth s r t buf room out
   reduce-limit e few bound z = rw e (record { few = few; bound = bound; says = λ res. rw z (no-levels res (drop at W)) })
 
 -- ---- what is evaluated: the tags of its heads
 abbrev constants : List ℕ
 constants = 0 ∷ 1 ∷ 6 ∷ 7 ∷ 8 ∷ 9 ∷ []
 
-record Constant (order : Order) (P : Table) (p : Policy Outcome) (rest : List ℕ) : Type 0 where
-  value-is : reducePolicy order P p ≡ resolved (evalPolicy P p)
-  read-is : (l : Consulted) → walk order P p l ≡ read P p l
+record Constant (g : Option OutcomeTable) (order : Order) (P : Table) (p : Policy Outcome) (rest : List ℕ) : Type 0 where
+  value-is : reducePolicy g order P p ≡ resolved (evalPolicy g P p)
+  read-is : (l : Consulted) → walk g order P p l ≡ read g P p l
 
 whatever : {A : Type 0} (q : Parsed A) → Holds (λ _ _. Unit {0}) q
 whatever (refuse n) = nothing
 whatever (got a ws) = fine tt
 
-constant-there : {order : Order} (pc : List ℕ → Parsed Condition) (p : List ℕ → Parsed (Policy Outcome)) (P : Table) (h : PolicyHead) (ws : List ℕ) → OneOf constants (tagOf the-type h) → Holds (Constant order P) (policyNode pc p h ws)
+constant-there : {g : Option OutcomeTable} {order : Order} (pc : List ℕ → Parsed Condition) (p : List ℕ → Parsed (Policy Outcome)) (P : Table) (h : PolicyHead) (ws : List ℕ) → OneOf constants (tagOf the-type h) → Holds (Constant g order P) (policyNode pc p h ws)
 unfolding policyNode
 constant-there pc p P (Permit o) ws k = fine (record { value-is = refl; read-is = λ l. refl })
 constant-there pc p P Deny ws k = fine (record { value-is = refl; read-is = λ l. refl })
@@ -102,23 +104,23 @@ constant-there pc p P BadKind ws k = nothing
 constant-there pc p P BadField ws k = nothing
 
 -- The answer is that of evaluation.
-evaluated : {order : Order} (P : Table) (W : List ℕ) (at depth : ℕ) (s : Lent) (e : PolicyEval) (t : Lent) (buf : List ℕ) (room : ℕ) (out : List ℕ) → EvaluatesP P W at depth s e t buf →
-    Holds (Constant order P) (policyAt W at depth) → ReducesP order P W at depth s (resolvedTo (e .decision) (e .next) (e .count)) t buf room out
+evaluated : {g : Option OutcomeTable} {order : Order} (P : Table) (W : List ℕ) (at depth : ℕ) (s : Lent) (e : PolicyEval) (t : Lent) (buf : List ℕ) (room : ℕ) (out : List ℕ) → EvaluatesP g P W at depth s e t buf →
+    Holds (Constant g order P) (policyAt W at depth) → ReducesP g order P W at depth s (resolvedTo (e .decision) (e .next) (e .count)) t buf room out
 evaluated P W at depth s e t buf room out answers c = record {
   few = answers .few;
   bound = omega arith;
   says = in-sheet depth (drop at W)
-      (weaker (policyAt W at depth) (λ p rest g.
+      (weaker (policyAt W at depth) (λ p rest h.
       record {
-        result = rw (g .1 .value-is) (record { settled = refl; decision-is = g .0 .decision-is; sound = g .0 .sound });
-        next-is = g .0 .next-is;
-        log = consults-as (g .1 .read-is) (g .0 .log);
+        result = rw (h .1 .value-is) (record { settled = refl; decision-is = h .0 .decision-is; sound = h .0 .sound });
+        next-is = h .0 .next-is;
+        log = consults-as (h .1 .read-is) (h .0 .log);
       })
       (both-hold (policyAt W at depth) (answers .says true) c));
 }
 
-pub reduce-constant : {order : Order} (P : Table) (W : List ℕ) (at depth : ℕ) (s : Lent) (r : ReducedPolicy) (t : Lent) (buf : List ℕ) (room : ℕ) (out : List ℕ) (h : PolicyHead) → at < length W → (depth ≡ 0 → ⊥) → h ≡ policyHead (getD W at 0) true →
-    OneOf constants (tagOf the-type h) → ReducesConstant P W at depth s r t buf → ReducesP order P W at depth s r t buf room out
+pub reduce-constant : {g : Option OutcomeTable} {order : Order} (P : Table) (W : List ℕ) (at depth : ℕ) (s : Lent) (r : ReducedPolicy) (t : Lent) (buf : List ℕ) (room : ℕ) (out : List ℕ) (h : PolicyHead) → at < length W → (depth ≡ 0 → ⊥) → h ≡ policyHead (getD W at 0) true →
+    OneOf constants (tagOf the-type h) → ReducesConstant g P W at depth s r t buf → ReducesP g order P W at depth s r t buf room out
 reduce-constant P W at depth s r t buf room out h lt f e k c =
     rw (c .is)
     (evaluated P W at depth s (c .eval) t buf room out (c .evaluates)
@@ -192,7 +194,7 @@ own-words g c d rest n long =
 
 module _ (P : Table) (W : List ℕ) (at depth : ℕ) (hidden : Bool) (n o own : ℕ) (lt : at < length W) (deep : depth < 32) (own-is : own ≡ 2 + (n + 3) / 4) where
   -- A grant that ends early.
-  pub grant-short : {order : Order} (s : Lent) (r : ReducedPolicy) (buf : List ℕ) (room : ℕ) (out : List ℕ) → r .decision .united ≤ obligationRoom → r .size ≤ tooMany → length W - at < own → ReducesBy order (Grant hidden n o) P W at depth s r s buf room out
+  pub grant-short : {g : Option OutcomeTable} {order : Order} (s : Lent) (r : ReducedPolicy) (buf : List ℕ) (room : ℕ) (out : List ℕ) → r .decision .united ≤ obligationRoom → r .size ≤ tooMany → length W - at < own → ReducesBy g order (Grant hidden n o) P W at depth s r s buf room out
   unfolding policyNode
   grant-short s r buf room out few bound h = record {
     few = few;
@@ -261,33 +263,34 @@ module _ (P : Table) (W : List ℕ) (at depth : ℕ) (hidden : Bool) (n o own : 
 
   -- Its answer, by the condition's.
   module _ (a : ReducedCondition) (s t : Lent) (part : List ℕ) (buf : List ℕ) (room : ℕ) (out : List ℕ) (c : condition.ReducesC P W (at + own) depth s a t part) where
-    granted : {order : Order} (r : ReducedPolicy) → r .decision .united ≤ obligationRoom → r .size ≤ tooMany → r .next ≡ a .next →
-        ((d : Condition) (g : Clause Outcome) (rest : List ℕ) → nodeAt W at ≡ got (grant g d) rest → g .outcome ≡ o → length (g .obligations) ≡ n → encode (grant g d) ++ rest ≡ drop at W → condition.Left (reduceCondition P d) a part → Result (reducePolicy order P (grant g d)) P W buf room out r) →
-        ReducesBy order (Grant hidden n o) P W at depth s r t buf room out
-    granted {order} r few bound e f = record {
+    granted : {g : Option OutcomeTable} {order : Order} (r : ReducedPolicy) → r .decision .united ≤ obligationRoom → r .size ≤ tooMany → r .next ≡ a .next →
+        ((d : Condition) (k : Clause Outcome) (rest : List ℕ) → nodeAt W at ≡ got (grant k d) rest → k .outcome ≡ o → length (k .obligations) ≡ n → encode (grant k d) ++ rest ≡ drop at W → condition.Left (reduceCondition P d) a part →
+        Result (reducePolicy g order P (grant k d)) P W buf room out r) →
+        ReducesBy g order (Grant hidden n o) P W at depth s r t buf room out
+    granted {g} {order} r few bound e f = record {
       few = few;
       bound = bound;
-      says = λ h. weaker (policyAt W at (suc depth)) (λ p rest g.
-          subst (λ q. ReducedTo (reducePolicy order P q) (at + words q) (walk order P q) P W s r t buf room out) (sym (g .policy-is)) (record {
-            result = f (g .inner) (g .clause) rest (g .node) (g .outcome-is) (g .long) (g .were) (g .answer .left);
-            next-is = e ∙ g .answer .next-is ∙ sym (g .words-are);
-            log = consults-as (λ l. refl) (g .answer .log);
+      says = λ h. weaker (policyAt W at (suc depth)) (λ p rest k.
+          subst (λ q. ReducedTo (reducePolicy g order P q) (at + words q) (walk g order P q) P W s r t buf room out) (sym (k .policy-is)) (record {
+            result = f (k .inner) (k .clause) rest (k .node) (k .outcome-is) (k .long) (k .were) (k .answer .left);
+            next-is = e ∙ k .answer .next-is ∙ sym (k .words-are);
+            log = consults-as (λ l. refl) (k .answer .log);
           })) (grant-known a s t part c h);
     }
 
-    pub grant-decides : {order : Order} → a .pending ≡ false → ReducesBy order (Grant hidden n o) P W at depth s (resolvedTo (grantedAt (a .satisfied) o at (length W)) (a .next) (a .count)) t buf room out
+    pub grant-decides : {g : Option OutcomeTable} {order : Order} → a .pending ≡ false → ReducesBy g order (Grant hidden n o) P W at depth s (resolvedTo (grantedAt (a .satisfied) o at (length W)) (a .next) (a .count)) t buf room out
     grant-decides p =
-        granted (resolvedTo (grantedAt (a .satisfied) o at (length W)) (a .next) (a .count)) (granted-few (a .satisfied) o at (length W)) (omega arith) refl (λ d g rest node is long were l.
-        decides-at buf room out part a d g rest node is (reduceCondition P d) refl l p)
+        granted (resolvedTo (grantedAt (a .satisfied) o at (length W)) (a .next) (a .count)) (granted-few (a .satisfied) o at (length W)) (omega arith) refl (λ d k rest node is long were l.
+        decides-at buf room out part a d k rest node is (reduceCondition P d) refl l p)
 
-    pub grant-pending : {order : Order} (mid : List ℕ) (from size none : ℕ) → a .pending ≡ true → Laid own (take own (drop at W)) mid own → from ≡ min own (length mid) → length part ≡ length mid - from → size ≡ capped (own + a .size) →
-        out ≡ take from mid ++ (part ++ drop (length mid - from) (drop from mid)) → ReducesBy order (Grant hidden n o) P W at depth s (leftTo size none (a .next) (a .count)) t buf room out
+    pub grant-pending : {g : Option OutcomeTable} {order : Order} (mid : List ℕ) (from size none : ℕ) → a .pending ≡ true → Laid own (take own (drop at W)) mid own → from ≡ min own (length mid) → length part ≡ length mid - from → size ≡ capped (own + a .size) →
+        out ≡ take from mid ++ (part ++ drop (length mid - from) (drop from mid)) → ReducesBy g order (Grant hidden n o) P W at depth s (leftTo size none (a .next) (a .count)) t buf room out
     grant-pending mid from size none p l f m e z =
-        granted (leftTo size none (a .next) (a .count)) (omega arith) (omega arith) refl (λ d g rest node is long were x. open-at buf room out part a d g rest node is mid from size none (a .next) (a .count) long were l f m e z (reduceCondition P d) x p)
+        granted (leftTo size none (a .next) (a .count)) (omega arith) (omega arith) refl (λ d k rest node is long were x. open-at buf room out part a d k rest node is mid from size none (a .next) (a .count) long were l f m e z (reduceCondition P d) x p)
 
 -- The answer to a grant by its first word is the answer to it by its head.
-pub grant-by-word : {order : Order} {P : Table} {W : List ℕ} {at depth : ℕ} {s : Lent} {r : ReducedPolicy} {t : Lent} {buf : List ℕ} {room : ℕ} {out : List ℕ} (hidden : Bool) (n o : ℕ) →
-    ReducesBy order (Grant hidden (obligationsAt W at) (outcomeAt W at)) P W at depth s r t buf room out → ReducesBy order (Grant hidden n o) P W at depth s r t buf room out
+pub grant-by-word : {g : Option OutcomeTable} {order : Order} {P : Table} {W : List ℕ} {at depth : ℕ} {s : Lent} {r : ReducedPolicy} {t : Lent} {buf : List ℕ} {room : ℕ} {out : List ℕ} (hidden : Bool) (n o : ℕ) →
+    ReducesBy g order (Grant hidden (obligationsAt W at) (outcomeAt W at)) P W at depth s r t buf room out → ReducesBy g order (Grant hidden n o) P W at depth s r t buf room out
 grant-by-word {W = W} {at} hidden n o a = record {
   few = a .few;
   bound = a .bound;
@@ -295,33 +298,33 @@ grant-by-word {W = W} {at} hidden n o a = record {
 }
 
 -- ---- arms that a list rule answers by itself
-permit-constant : {order : Order} (P : Table) (W : List ℕ) (at depth : ℕ) → at < length W → getD W at 0 / 65536 ≡ 24576 → Holds (Constant order P) (policyAt W at depth)
+permit-constant : {g : Option OutcomeTable} {order : Order} (P : Table) (W : List ℕ) (at depth : ℕ) → at < length W → getD W at 0 / 65536 ≡ 24576 → Holds (Constant g order P) (policyAt W at depth)
 unfolding policyNode
 permit-constant P W at zero lt e = no-levels true (drop at W)
 permit-constant P W at (suc depth) lt e = node-holds W at depth (Permit (getD W at 0 % 65536)) lt (permit-word (getD W at 0) true e) (fine (record { value-is = refl; read-is = λ l. refl }))
 
-pub reduce-permit : {order : Order} (P : Table) (W : List ℕ) (at depth count : ℕ) (entries seen buf : List ℕ) (room : ℕ) (out : List ℕ) → at < length W → getD W at 0 / 65536 ≡ 24576 →
-    ReducesP order P W at depth (lent count entries seen) (resolvedTo (permittedAt (getD W at 0 % 65536) (length W) (length W) 0) (at + 1) count) (lent count entries seen) buf room out
+pub reduce-permit : {g : Option OutcomeTable} {order : Order} (P : Table) (W : List ℕ) (at depth count : ℕ) (entries seen buf : List ℕ) (room : ℕ) (out : List ℕ) → at < length W → getD W at 0 / 65536 ≡ 24576 →
+    ReducesP g order P W at depth (lent count entries seen) (resolvedTo (permittedAt (getD W at 0 % 65536) (length W) (length W) 0) (at + 1) count) (lent count entries seen) buf room out
 reduce-permit P W at depth count entries seen buf room out lt e =
-    evaluated P W at depth (lent count entries seen) _ (lent count entries seen) buf room out (eval-permit-word P W at depth count entries seen buf lt e) (permit-constant P W at depth lt e)
+    evaluated P W at depth (lent count entries seen) _ (lent count entries seen) buf room out (eval-permit-word _ P W at depth count entries seen buf lt e) (permit-constant P W at depth lt e)
 
 -- A grant on one settled fact, at every level: with too few levels for its condition it isn't read.
-pub reduce-plain : {order : Order} (P : Table) (W : List ℕ) (at depth : ℕ) (s : Lent) (a : ConditionEval) (t : Lent) (buf : List ℕ) (room : ℕ) (out : List ℕ) → SettledGrant P W at → EvaluatesHas P (getD W (at + 2) 0 % 1024) (at + 3) s a t →
-    ReducesP order P W at depth s (resolvedTo (grantedAt (a .satisfied) (getD W at 0 % 65536) at (length W)) (a .next) (a .count)) t buf room out
-reduce-plain P W at depth s a t buf room out g h =
+pub reduce-plain : {g : Option OutcomeTable} {order : Order} (P : Table) (W : List ℕ) (at depth : ℕ) (s : Lent) (a : ConditionEval) (t : Lent) (buf : List ℕ) (room : ℕ) (out : List ℕ) → SettledGrant P W at → EvaluatesHas P (getD W (at + 2) 0 % 1024) (at + 3) s a t →
+    ReducesP g order P W at depth s (resolvedTo (grantedAt (a .satisfied) (getD W at 0 % 65536) at (length W)) (a .next) (a .count)) t buf room out
+reduce-plain P W at depth s a t buf room out k h =
     let f = getD W (at + 2) 0 % 1024 in
     let rest = drop (at + 3) W in
-    let node = node-reads W at 2 true _ rest (omega arith) (plain-reads W at (g .plain) true 0) in
+    let node = node-reads W at 2 true _ rest (omega arith) (plain-reads W at (k .plain) true 0) in
     let r = resolvedTo (grantedAt (a .satisfied) (getD W at 0 % 65536) at (length W)) (a .next) (a .count) in
     record {
       few = granted-few (a .satisfied) (getD W at 0 % 65536) at (length W);
       bound = omega arith;
       says = in-fewer depth (suc (suc depth)) (drop at W) (omega arith)
-          (rw (plain-reads W at (g .plain) true depth)
+          (rw (plain-reads W at (k .plain) true depth)
           (fine (record {
-            result = subst (λ x. Result x P W buf room out r) (sym (ap (reduceGrant _ (evalHas f (P f))) (settled-known f (P f) (g .known))))
+            result = subst (λ x. Result x P W buf room out r) (sym (ap (reduceGrant _ (evalHas f (P f))) (settled-known f (P f) (k .known))))
                 (record { settled = refl; decision-is = granted-is P W at buf _ _ rest node (a .satisfied) _ refl (h .says .satisfied-is); sound = granted-sound P W at buf _ _ rest node (a .satisfied) });
             next-is = h .says .next-is;
-            log = consults-as (λ l. settled-consulted l f (P f) (g .known)) (h .says .log);
+            log = consults-as (λ l. settled-consulted l f (P f) (k .known)) (h .says .log);
           })));
     }

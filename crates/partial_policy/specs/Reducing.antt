@@ -1,10 +1,12 @@
 -- What the reduction of policies answers, and what it leaves in the lists and outputs that it is lent. Document 01, "Reducing".
 use mathlib.Core.Path.{_≡_}
 use mathlib.Core.Bool.{Bool, true, false}
+use mathlib.Core.Option.{Option}
 use mathlib.Core.List.{List, _∷_, _++_}
 use Prim.Native.Nat.{ℕ, suc, _+_, _-_, _%_, _≤_, _<_, min}
 use lib.ListN.{length, drop, getD}
 use Rattle.model.specs.Facts.{Table}
+use Rattle.model.specs.Levels.{OutcomeTable}
 use Rattle.model.specs.Partial.{asResidual, Order, permitsFirst, sheetOrder}
 use Rattle.model.specs.Partial as model
 use Rattle.model.specs.Consulted.{Consulted}
@@ -39,24 +41,24 @@ orderOf false = permitsFirst
 orderOf true = sheetOrder
 
 -- The answer to a policy at `at`, of at most `depth` levels, in a sheet or a residual. Of words that don't read only the bounds are said.
-pub record ReducesP (o : Order) (P : Table) (W : List ℕ) (at depth : ℕ) (s : Lent) (r : ReducedPolicy) (t : Lent) (buf : List ℕ) (room : ℕ) (out : List ℕ) : Type 0 where
+pub record ReducesP (g : Option OutcomeTable) (o : Order) (P : Table) (W : List ℕ) (at depth : ℕ) (s : Lent) (r : ReducedPolicy) (t : Lent) (buf : List ℕ) (room : ℕ) (out : List ℕ) : Type 0 where
   pub few : Few (r .decision)
   pub bound : r .size ≤ tooMany
   pub says : (res : Bool) →
-      Holds (λ p rest. ReducedTo (reducePolicy o P p) (at + words p) (walk o P p) P W s r t buf room out) (readPolicy res depth (drop at W))
+      Holds (λ p rest. ReducedTo (reducePolicy g o P p) (at + words p) (walk g o P p) P W s r t buf room out) (readPolicy res depth (drop at W))
 
 -- The same where its first word has this head and `depth` levels are left for what stands below.
-pub record ReducesBy (o : Order) (h : PolicyHead) (P : Table) (W : List ℕ) (at depth : ℕ) (s : Lent) (r : ReducedPolicy) (t : Lent) (buf : List ℕ) (room : ℕ) (out : List ℕ) : Type 0 where
+pub record ReducesBy (g : Option OutcomeTable) (o : Order) (h : PolicyHead) (P : Table) (W : List ℕ) (at depth : ℕ) (s : Lent) (r : ReducedPolicy) (t : Lent) (buf : List ℕ) (room : ℕ) (out : List ℕ) : Type 0 where
   pub few : Few (r .decision)
   pub bound : r .size ≤ tooMany
   pub says : h ≡ policyHead (getD W at 0) true →
-      Holds (λ p rest. ReducedTo (reducePolicy o P p) (at + words p) (walk o P p) P W s r t buf room out) (policyAt W at (suc depth))
+      Holds (λ p rest. ReducedTo (reducePolicy g o P p) (at + words p) (walk g o P p) P W s r t buf room out) (policyAt W at (suc depth))
 
 -- The same of what is evaluated.
-pub record ReducesConstant (P : Table) (W : List ℕ) (at depth : ℕ) (s : Lent) (r : ReducedPolicy) (t : Lent) (buf : List ℕ) : Type 0 where
+pub record ReducesConstant (g : Option OutcomeTable) (P : Table) (W : List ℕ) (at depth : ℕ) (s : Lent) (r : ReducedPolicy) (t : Lent) (buf : List ℕ) : Type 0 where
   pub eval : PolicyEval
   pub is : r ≡ resolvedTo (eval .decision) (eval .next) (eval .count)
-  pub evaluates : EvaluatesP P W at depth s eval t buf
+  pub evaluates : EvaluatesP g P W at depth s eval t buf
 
 -- A grant on one fact, told by its three words, whose fact is settled.
 pub record SettledGrant (P : Table) (W : List ℕ) (at : ℕ) : Type 0 where

@@ -8,10 +8,13 @@ use partial_list::Sofar;
 use policy_model::PolicyHead;
 ghost use mathlib.Core.Path.{_≡_};
 ghost use mathlib.Core.Bool.{Bool, true, false};
+ghost use mathlib.Core.Option.{Option};
 ghost use mathlib.Core.List.{List};
 ghost use Prim.Native.Nat.{ℕ, _+_, _^_, _≤_, _<_};
 ghost use lib.ListN.{length, take, drop};
 ghost use Rattle.model.specs.Facts.{tableOf};
+ghost use Rattle.model.specs.Levels.{OutcomeTable};
+ghost use Rattle.outcome.specs.Carried.{carried};
 ghost use Rattle.model.specs.Partial.{Order, permitsFirst, sheetOrder};
 ghost use Rattle.model.specs.Writing.{countBits, word};
 ghost use Rattle.model.specs.Reading.{levels, recordWords};
@@ -63,7 +66,7 @@ fn reduce_grant(
     out: &mut [u32],
 ) -> ReducedPolicy
     requires { ⌜ (at < length (now words)) × (depth < levels) × (length (now words) ≤ recordWords) ⌝ }
-    ensures { λ r. ⌜ ((order : Order) (hidden : Bool) (obligations outcome : ℕ) (buf : List ℕ) (room : ℕ) → ReducesBy order (Grant hidden obligations outcome) (tableOf (now (facts .entry))) (now (words .entry)) at depth (lent count (now (entries .entry)) (now (seen .entry))) r (lent (r .count) (now (entries .exit)) (now (seen .exit))) buf room (now (out .exit))) ⌝ }
+    ensures { λ r. ⌜ ((g : Option OutcomeTable) (order : Order) (hidden : Bool) (obligations outcome : ℕ) (buf : List ℕ) (room : ℕ) → ReducesBy g order (Grant hidden obligations outcome) (tableOf (now (facts .entry))) (now (words .entry)) at depth (lent count (now (entries .entry)) (now (seen .entry))) r (lent (r .count) (now (entries .exit)) (now (seen .exit))) buf room (now (out .exit))) ⌝ }
 {
     let none = words.len();
     let own = grant::before_condition_in(words, at) as usize;
@@ -112,7 +115,7 @@ fn reduce_on_fact(
     count: usize,
 ) -> ReducedPolicy
     requires { ⌜ SettledGrant (tableOf (now facts)) (now words) at ⌝ }
-    ensures { λ r. ⌜ ((order : Order) (depth : ℕ) (buf : List ℕ) (room : ℕ) (out : List ℕ) → ReducesP order (tableOf (now (facts .entry))) (now (words .entry)) at depth (lent count (now (entries .entry)) (now (seen .entry))) r (lent (r .count) (now (entries .exit)) (now (seen .exit))) buf room out) ⌝ }
+    ensures { λ r. ⌜ ((g : Option OutcomeTable) (order : Order) (depth : ℕ) (buf : List ℕ) (room : ℕ) (out : List ℕ) → ReducesP g order (tableOf (now (facts .entry))) (now (words .entry)) at depth (lent count (now (entries .entry)) (now (seen .entry))) r (lent (r .count) (now (entries .exit)) (now (seen .exit))) buf room out) ⌝ }
 {
     let outcome = (words[at] % policy_model::HALF) as u16;
     let fact = words[at + 2] % policy_model::FACTS;
@@ -128,15 +131,28 @@ fn reduce_constant(
     at: usize,
     depth: usize,
     facts: &[u8],
+    outcome_levels: u16,
+    outcomes: &[u8],
     entries: &mut [u16],
     seen: &mut [u64],
     count: usize,
     buf: &mut [u8],
 ) -> ReducedPolicy
     requires { ⌜ (depth ≤ levels) × RoomToUnite (depth + 1) (now buf) × (length (now words) ≤ recordWords) ⌝ }
-    ensures { λ r. ⌜ ReducesConstant (tableOf (now (facts .entry))) (now (words .entry)) at depth (lent count (now (entries .entry)) (now (seen .entry))) r (lent (r .count) (now (entries .exit)) (now (seen .exit))) (now (buf .exit)) ⌝ }
+    ensures { λ r. ⌜ ReducesConstant (carried «outcome_levels» (now (outcomes .entry))) (tableOf (now (facts .entry))) (now (words .entry)) at depth (lent count (now (entries .entry)) (now (seen .entry))) r (lent (r .count) (now (entries .exit)) (now (seen .exit))) (now (buf .exit)) ⌝ }
 {
-    let eval = evaluate::eval_policy(words, at, depth, facts, entries, seen, count, buf);
+    let eval = evaluate::eval_policy(
+        words,
+        at,
+        depth,
+        facts,
+        outcome_levels,
+        outcomes,
+        entries,
+        seen,
+        count,
+        buf,
+    );
     partial_list::resolved(eval.decision, eval.next, eval.count)
 }
 
@@ -184,6 +200,8 @@ pub fn reduce_policy(
     depth: usize,
     in_order: bool,
     facts: &[u8],
+    outcome_levels: u16,
+    outcomes: &[u8],
     entries: &mut [u16],
     seen: &mut [u64],
     count: usize,
@@ -193,7 +211,7 @@ pub fn reduce_policy(
     out: &mut [u32],
 ) -> ReducedPolicy
     requires { ⌜ (depth ≤ levels) × RoomToUnite (depth + 1) (now buf) × (length (now words) ≤ recordWords) × RoomToName (now words) (now named) ⌝ }
-    ensures { λ r. ⌜ ReducesP (orderOf in_order) (tableOf (now (facts .entry))) (now (words .entry)) at depth (lent count (now (entries .entry)) (now (seen .entry))) r (lent (r .count) (now (entries .exit)) (now (seen .exit))) (now (buf .exit)) (length (now (front .entry))) (now (out .exit)) ⌝ }
+    ensures { λ r. ⌜ ReducesP (carried «outcome_levels» (now (outcomes .entry))) (orderOf in_order) (tableOf (now (facts .entry))) (now (words .entry)) at depth (lent count (now (entries .entry)) (now (seen .entry))) r (lent (r .count) (now (entries .exit)) (now (seen .exit))) (now (buf .exit)) (length (now (front .entry))) (now (out .exit)) ⌝ }
 {
     let none = words.len();
     if none <= at {
@@ -217,6 +235,8 @@ pub fn reduce_policy(
                 arms,
                 in_order,
                 facts,
+                outcome_levels,
+                outcomes,
                 entries,
                 seen,
                 count,
@@ -234,6 +254,8 @@ pub fn reduce_policy(
                 arms,
                 in_order,
                 facts,
+                outcome_levels,
+                outcomes,
                 entries,
                 seen,
                 count,
@@ -250,6 +272,8 @@ pub fn reduce_policy(
                 below,
                 in_order,
                 facts,
+                outcome_levels,
+                outcomes,
                 entries,
                 seen,
                 count,
@@ -259,7 +283,18 @@ pub fn reduce_policy(
                 out,
             )
         }
-        _ => reduce_constant(words, at, depth, facts, entries, seen, count, buf),
+        _ => reduce_constant(
+            words,
+            at,
+            depth,
+            facts,
+            outcome_levels,
+            outcomes,
+            entries,
+            seen,
+            count,
+            buf,
+        ),
     }
 }
 
@@ -269,6 +304,8 @@ fn reduce_arm(
     at: usize,
     depth: usize,
     facts: &[u8],
+    outcome_levels: u16,
+    outcomes: &[u8],
     entries: &mut [u16],
     seen: &mut [u64],
     count: usize,
@@ -278,7 +315,7 @@ fn reduce_arm(
     out: &mut [u32],
 ) -> ReducedPolicy
     requires { ⌜ (depth ≤ levels) × RoomToUnite (depth + 1) (now buf) × (length (now words) ≤ recordWords) × RoomToName (now words) (now named) ⌝ }
-    ensures { λ r. ⌜ ReducesP permitsFirst (tableOf (now (facts .entry))) (now (words .entry)) at depth (lent count (now (entries .entry)) (now (seen .entry))) r (lent (r .count) (now (entries .exit)) (now (seen .exit))) (now (buf .exit)) (length (now (front .entry))) (now (out .exit)) ⌝ }
+    ensures { λ r. ⌜ ReducesP (carried «outcome_levels» (now (outcomes .entry))) permitsFirst (tableOf (now (facts .entry))) (now (words .entry)) at depth (lent count (now (entries .entry)) (now (seen .entry))) r (lent (r .count) (now (entries .exit)) (now (seen .exit))) (now (buf .exit)) (length (now (front .entry))) (now (out .exit)) ⌝ }
 {
     let none = words.len();
     if none <= at {
@@ -298,6 +335,8 @@ fn reduce_arm(
         depth,
         false,
         facts,
+        outcome_levels,
+        outcomes,
         entries,
         seen,
         count,
@@ -317,6 +356,8 @@ fn reduce_all(
     arms: u32,
     in_order: bool,
     facts: &[u8],
+    outcome_levels: u16,
+    outcomes: &[u8],
     entries: &mut [u16],
     seen: &mut [u64],
     count: usize,
@@ -326,7 +367,7 @@ fn reduce_all(
     out: &mut [u32],
 ) -> ReducedPolicy
     requires { ⌜ (at < length (now words)) × (depth < levels) × (arms < 2 ^ countBits) × RoomToUnite (depth + 2) (now buf) × (length (now words) ≤ recordWords) × RoomToName (now words) (now named) ⌝ }
-    ensures { λ r. ⌜ ReducesBy (orderOf in_order) (listHead true arms) (tableOf (now (facts .entry))) (now (words .entry)) at depth (lent count (now (entries .entry)) (now (seen .entry))) r (lent (r .count) (now (entries .exit)) (now (seen .exit))) (now (buf .exit)) (length (now (front .entry))) (now (out .exit)) ⌝ }
+    ensures { λ r. ⌜ ReducesBy (carried «outcome_levels» (now (outcomes .entry))) (orderOf in_order) (listHead true arms) (tableOf (now (facts .entry))) (now (words .entry)) at depth (lent count (now (entries .entry)) (now (seen .entry))) r (lent (r .count) (now (entries .exit)) (now (seen .exit))) (now (buf .exit)) (length (now (front .entry))) (now (out .exit)) ⌝ }
 {
     if in_order {
         return reduce_in_order(
@@ -336,6 +377,8 @@ fn reduce_all(
             arms,
             true,
             facts,
+            outcome_levels,
+            outcomes,
             entries,
             seen,
             count,
@@ -352,6 +395,8 @@ fn reduce_all(
         arms,
         true,
         facts,
+        outcome_levels,
+        outcomes,
         entries,
         seen,
         count,
@@ -370,6 +415,8 @@ fn reduce_any(
     arms: u32,
     in_order: bool,
     facts: &[u8],
+    outcome_levels: u16,
+    outcomes: &[u8],
     entries: &mut [u16],
     seen: &mut [u64],
     count: usize,
@@ -379,7 +426,7 @@ fn reduce_any(
     out: &mut [u32],
 ) -> ReducedPolicy
     requires { ⌜ (at < length (now words)) × (depth < levels) × (arms < 2 ^ countBits) × RoomToUnite (depth + 2) (now buf) × (length (now words) ≤ recordWords) × RoomToName (now words) (now named) ⌝ }
-    ensures { λ r. ⌜ ReducesBy (orderOf in_order) (listHead false arms) (tableOf (now (facts .entry))) (now (words .entry)) at depth (lent count (now (entries .entry)) (now (seen .entry))) r (lent (r .count) (now (entries .exit)) (now (seen .exit))) (now (buf .exit)) (length (now (front .entry))) (now (out .exit)) ⌝ }
+    ensures { λ r. ⌜ ReducesBy (carried «outcome_levels» (now (outcomes .entry))) (orderOf in_order) (listHead false arms) (tableOf (now (facts .entry))) (now (words .entry)) at depth (lent count (now (entries .entry)) (now (seen .entry))) r (lent (r .count) (now (entries .exit)) (now (seen .exit))) (now (buf .exit)) (length (now (front .entry))) (now (out .exit)) ⌝ }
 {
     if in_order {
         return reduce_in_order(
@@ -389,6 +436,8 @@ fn reduce_any(
             arms,
             false,
             facts,
+            outcome_levels,
+            outcomes,
             entries,
             seen,
             count,
@@ -405,6 +454,8 @@ fn reduce_any(
         arms,
         false,
         facts,
+        outcome_levels,
+        outcomes,
         entries,
         seen,
         count,
@@ -423,6 +474,8 @@ fn reduce_permits_first(
     arms: u32,
     every: bool,
     facts: &[u8],
+    outcome_levels: u16,
+    outcomes: &[u8],
     entries: &mut [u16],
     seen: &mut [u64],
     count: usize,
@@ -432,7 +485,7 @@ fn reduce_permits_first(
     out: &mut [u32],
 ) -> ReducedPolicy
     requires { ⌜ (at < length (now words)) × (depth < levels) × (arms < 2 ^ countBits) × RoomToUnite (depth + 2) (now buf) × (length (now words) ≤ recordWords) × RoomToName (now words) (now named) ⌝ }
-    ensures { λ r. ⌜ ReducesBy permitsFirst (listHead every arms) (tableOf (now (facts .entry))) (now (words .entry)) at depth (lent count (now (entries .entry)) (now (seen .entry))) r (lent (r .count) (now (entries .exit)) (now (seen .exit))) (now (buf .exit)) (length (now (front .entry))) (now (out .exit)) ⌝ }
+    ensures { λ r. ⌜ ReducesBy (carried «outcome_levels» (now (outcomes .entry))) permitsFirst (listHead every arms) (tableOf (now (facts .entry))) (now (words .entry)) at depth (lent count (now (entries .entry)) (now (seen .entry))) r (lent (r .count) (now (entries .exit)) (now (seen .exit))) (now (buf .exit)) (length (now (front .entry))) (now (out .exit)) ⌝ }
 {
     let mut sofar = Sofar {
         decision: decision::denied(words.len()),
@@ -453,6 +506,8 @@ fn reduce_permits_first(
             next,
             depth,
             facts,
+            outcome_levels,
+            outcomes,
             entries,
             seen,
             listed,
@@ -464,6 +519,7 @@ fn reduce_permits_first(
         next = arm.next;
         listed = arm.count;
         left -= 1;
+        let outcome = partial_list::outcome_next(every, sofar, arm, outcome_levels, outcomes);
         if partial_list::stops(every, arm) {
             return partial_list::resolved(
                 arm.decision,
@@ -471,7 +527,7 @@ fn reduce_permits_first(
                 listed,
             );
         }
-        sofar = partial_list::with_arm(words, facts, every, sofar, arm, buf, named, front);
+        sofar = partial_list::with_arm(words, facts, outcome, every, sofar, arm, buf, named, front);
     }
     partial_list::end_list(
         words,
@@ -495,6 +551,8 @@ fn reduce_in_order(
     arms: u32,
     every: bool,
     facts: &[u8],
+    outcome_levels: u16,
+    outcomes: &[u8],
     entries: &mut [u16],
     seen: &mut [u64],
     count: usize,
@@ -504,7 +562,7 @@ fn reduce_in_order(
     out: &mut [u32],
 ) -> ReducedPolicy
     requires { ⌜ (at < length (now words)) × (depth < levels) × (arms < 2 ^ countBits) × RoomToUnite (depth + 2) (now buf) × (length (now words) ≤ recordWords) × RoomToName (now words) (now named) ⌝ }
-    ensures { λ r. ⌜ ReducesBy sheetOrder (listHead every arms) (tableOf (now (facts .entry))) (now (words .entry)) at depth (lent count (now (entries .entry)) (now (seen .entry))) r (lent (r .count) (now (entries .exit)) (now (seen .exit))) (now (buf .exit)) (length (now (front .entry))) (now (out .exit)) ⌝ }
+    ensures { λ r. ⌜ ReducesBy (carried «outcome_levels» (now (outcomes .entry))) sheetOrder (listHead every arms) (tableOf (now (facts .entry))) (now (words .entry)) at depth (lent count (now (entries .entry)) (now (seen .entry))) r (lent (r .count) (now (entries .exit)) (now (seen .exit))) (now (buf .exit)) (length (now (front .entry))) (now (out .exit)) ⌝ }
 {
     let mut sofar = Sofar {
         decision: decision::denied(words.len()),
@@ -525,6 +583,8 @@ fn reduce_in_order(
             depth,
             true,
             facts,
+            outcome_levels,
+            outcomes,
             entries,
             seen,
             listed,
@@ -536,6 +596,7 @@ fn reduce_in_order(
         next = arm.next;
         listed = arm.count;
         left -= 1;
+        let outcome = partial_list::outcome_next(every, sofar, arm, outcome_levels, outcomes);
         if partial_list::stops(every, arm) {
             let end = policy_model::skip_policies(words, next, left);
             if !sofar.pending {
@@ -544,6 +605,7 @@ fn reduce_in_order(
             let whole = partial_list::with_arm_in_order(
                 words,
                 facts,
+                outcome,
                 every,
                 sofar,
                 arm,
@@ -553,7 +615,17 @@ fn reduce_in_order(
             );
             return partial_list::end_in_order(every, whole, words.len(), end, listed, out);
         }
-        sofar = partial_list::with_arm_in_order(words, facts, every, sofar, arm, buf, named, out);
+        sofar = partial_list::with_arm_in_order(
+            words,
+            facts,
+            outcome,
+            every,
+            sofar,
+            arm,
+            buf,
+            named,
+            out,
+        );
     }
     partial_list::end_in_order(every, sofar, words.len(), next, listed, out)
 }
@@ -566,6 +638,8 @@ fn reduce_or_else(
     depth: usize,
     in_order: bool,
     facts: &[u8],
+    outcome_levels: u16,
+    outcomes: &[u8],
     entries: &mut [u16],
     seen: &mut [u64],
     count: usize,
@@ -575,7 +649,7 @@ fn reduce_or_else(
     out: &mut [u32],
 ) -> ReducedPolicy
     requires { ⌜ (at < length (now words)) × (depth < levels) × RoomToUnite (depth + 1) (now buf) × (length (now words) ≤ recordWords) × RoomToName (now words) (now named) ⌝ }
-    ensures { λ r. ⌜ ReducesBy (orderOf in_order) OrElse (tableOf (now (facts .entry))) (now (words .entry)) at depth (lent count (now (entries .entry)) (now (seen .entry))) r (lent (r .count) (now (entries .exit)) (now (seen .exit))) (now (buf .exit)) (length (now (front .entry))) (now (out .exit)) ⌝ }
+    ensures { λ r. ⌜ ReducesBy (carried «outcome_levels» (now (outcomes .entry))) (orderOf in_order) OrElse (tableOf (now (facts .entry))) (now (words .entry)) at depth (lent count (now (entries .entry)) (now (seen .entry))) r (lent (r .count) (now (entries .exit)) (now (seen .exit))) (now (buf .exit)) (length (now (front .entry))) (now (out .exit)) ⌝ }
 {
     let from = sizes::tail_from(1, out.len());
     let primary = reduce_policy(
@@ -584,6 +658,8 @@ fn reduce_or_else(
         depth,
         in_order,
         facts,
+        outcome_levels,
+        outcomes,
         entries,
         seen,
         count,
@@ -603,6 +679,8 @@ fn reduce_or_else(
             depth,
             in_order,
             facts,
+            outcome_levels,
+            outcomes,
             entries,
             seen,
             listed,
@@ -629,6 +707,8 @@ fn reduce_or_else(
         depth,
         in_order,
         facts,
+        outcome_levels,
+        outcomes,
         entries,
         seen,
         listed,

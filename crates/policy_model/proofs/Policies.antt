@@ -3,17 +3,19 @@ use mathlib.Core.Path.{_≡_, refl, sym, _∙_, ap}
 use mathlib.Core.Bool.{Bool, true, false, cond}
 use mathlib.Core.Option.{none, some}
 use mathlib.Core.List.{List, [], _∷_}
-use Prim.Native.Nat.{ℕ, zero, suc, _+_, _-_, _≤_, _<_}
+use Prim.Native.Nat.{ℕ, zero, suc, _+_, _-_, _%_, _≤_, _<_}
 use native.Mathlib.Numerals.{sub-one}
 use native.Mathlib.Omega.{arith}
 use lib.Dec.{ltb}
 use lib.ListN.{length, drop, getD}
-use Rattle.model.specs.Outcome.{productSets}
+use Rattle.model.specs.Outcome.{productSets, below}
 use Rattle.model.specs.Condition.{Condition}
 use Rattle.model.specs.Decision.{permits, denies}
 use Rattle.model.specs.Policy.{Policy, permit, deny, grant, all, any, orElse, stored, pnil, pcons}
-use Rattle.model.specs.Reading.{Parsed, refuse, got, next, many, readCondition}
-use Rattle.model.specs.Products.{Outcome, encode, readPolicy}
+use Rattle.model.specs.Reading.{Parsed, refuse, got, next, unless, many, readCondition}
+use Rattle.model.specs.Reading as reading
+use Rattle.model.specs.Products.{Outcome, encode}
+use Rattle.model.specs.Products as products
 use Rattle.laws.specs.Size.{wordsD, words, wordss}
 use Rattle.laws.specs.Form.{IfThere}
 use Rattle.laws.specs.Lengths.{length-encode}
@@ -24,53 +26,75 @@ use Rattle.policy_model.specs.declared.PolicyHead.{PolicyHead}
 use Rattle.policy_model.specs.declared.PolicyHead.the-variants.{All, Any, OrElse, PermitWithTrace, DenyWithTrace}
 use Rattle.policy_model.specs.declared.Step.{Step}
 use Rattle.policy_model.specs.Answers.{checked, Stepped, stepOf}
-use Rattle.policy_model.specs.Heads.{policyHead, policyNode, permitTraceNode, denyTraceNode, deepPolicy}
-use Rattle.policy_model.specs.HeadLaws.{policy-node, policy-deep}
+use Rattle.policy_model.specs.Heads.{policyHead, withinMost, policyNode, permitTraceNode, denyTraceNode, deepPolicy}
+use Rattle.policy_model.specs.HeadLaws.{policy-node-by, policy-deep-by}
 use Rattle.policy_model.specs.Plain.{plainGrant}
-use Rattle.policy_model.specs.PlainLaws.{plain-reads}
+use Rattle.policy_model.specs.PlainLaws.{plain-reads-by}
 use Rattle.policy_model.proofs.Checking.{word-at, no-word, clash, Leaves, leaves-of, end-with, many-first, many-none}
 use Rattle.policy_model.proofs.Levels.{Lists}
 
--- A number below 2^16 stands for the outcome of that number.
+-- A number that stands for an outcome is its number.
 only-at : (v : ℕ) (t : Bool) → IfThere (λ o. o ≡ v) (cond t (some v) none)
 only-at v true = refl
 only-at v false = tt
 
-pub policy-leaves : (res : Bool) (d : ℕ) (us : List ℕ) → Leaves words us (readPolicy res d us)
-policy-leaves res d us =
-    leaves-of encode words (length-encode (productSets .number)) us (readPolicy res d us)
-    (same-T (productSets .number) (productSets .value) (λ v. only-at v (ltb v 65536)) res d us)
+-- What is read of a policy by a number of outcomes, and of its parts, at the levels that are left below it.
+abbrev pub readBy : ℕ → Bool → ℕ → List ℕ → Parsed (Policy Outcome)
+readBy most = reading.readPolicy (below most)
 
-nothing-there : (res : Bool) (depth : ℕ) → readPolicy res depth [] ≡ refuse 6
-nothing-there res zero = refl
-nothing-there res (suc depth) = refl
+abbrev pub nodeBy : ℕ → Bool → ℕ → PolicyHead → List ℕ → Parsed (Policy Outcome)
+nodeBy most res d h ws = policyNode (readCondition d) (readBy most res d) h ws
 
--- A policy's parts, at the levels that are left below it.
+pub leaves-by : (most : ℕ) (res : Bool) (d : ℕ) (us : List ℕ) → Leaves words us (readBy most res d us)
+leaves-by most res d us =
+    leaves-of encode words (length-encode (productSets .number)) us (readBy most res d us)
+    (same-T (productSets .number) (below most) (λ v. only-at v (ltb v most)) res d us)
+
+-- And by sets of products.
 abbrev pub nodeOf : Bool → ℕ → PolicyHead → List ℕ → Parsed (Policy Outcome)
-nodeOf res d h ws = policyNode (readCondition d) (readPolicy res d) h ws
+nodeOf res d h ws = policyNode (readCondition d) (products.readPolicy res d) h ws
 
-node-there : (res : Bool) (depth w : ℕ) (ws : List ℕ) → (depth ≡ 0 → ⊥) → nodeOf res (depth - 1) (policyHead w res) ws ≡ readPolicy res depth (w ∷ ws)
-node-there res zero w ws f = absurd (f refl)
-node-there res (suc depth) w ws f = rw sub-one (sym (policy-node res depth w ws))
+pub policy-leaves : (res : Bool) (d : ℕ) (us : List ℕ) → Leaves words us (products.readPolicy res d us)
+policy-leaves = leaves-by 65536
 
-module _ (ws : List ℕ) (at depth : ℕ) (res : Bool) where
+nothing-there : (most : ℕ) (res : Bool) (depth : ℕ) → readBy most res depth [] ≡ refuse 6
+nothing-there most res zero = refl
+nothing-there most res (suc depth) = refl
+
+node-there : (most : ℕ) (res : Bool) (depth w : ℕ) (ws : List ℕ) → (depth ≡ 0 → ⊥) →
+    unless (withinMost most (policyHead w res)) 8 (nodeBy most res (depth - 1) (policyHead w res) ws) ≡ readBy most res depth (w ∷ ws)
+node-there most res zero w ws f = absurd (f refl)
+node-there most res (suc depth) w ws f = rw sub-one (sym (policy-node-by most res depth w ws))
+
+module _ (most : ℕ) (ws : List ℕ) (at depth : ℕ) (res : Bool) where
   abbrev pub Asked : Checked
-  Asked = checked words at (readPolicy res depth (drop at ws))
+  Asked = checked words at (readBy most res depth (drop at ws))
 
   pub no-policy : length ws ≤ at → Refused 6 ≡ Asked
   unfolding checked
-  no-policy h = sym (ap (checked words at) (ap (readPolicy res depth) (no-word ws at h) ∙ nothing-there res depth))
+  no-policy h = sym (ap (checked words at) (ap (readBy most res depth) (no-word ws at h) ∙ nothing-there most res depth))
 
   pub too-deep : (n : ℕ) (h : PolicyHead) → at < length ws → depth ≡ 0 → h ≡ policyHead (getD ws at 0) res → n ≡ deepPolicy h → Refused n ≡ Asked
   unfolding checked
   too-deep n h lt z e f =
-      sym (ap (checked words at) (ap (λ d. readPolicy res d (drop at ws)) z ∙ ap (readPolicy res 0) (word-at ws at lt)
-      ∙ policy-deep res (getD ws at 0) (drop (at + 1) ws) ∙ ap refuse (ap deepPolicy (sym e) ∙ sym f)))
+      sym (ap (checked words at) (ap (λ d. readBy most res d (drop at ws)) z ∙ ap (readBy most res 0) (word-at ws at lt)
+      ∙ policy-deep-by most res (getD ws at 0) (drop (at + 1) ws) ∙ ap refuse (ap deepPolicy (sym e) ∙ sym f)))
 
-  pub by-head : (h : PolicyHead) → at < length ws → (depth ≡ 0 → ⊥) → h ≡ policyHead (getD ws at 0) res → checked words at (nodeOf res (depth - 1) h (drop (at + 1) ws)) ≡ Asked
-  by-head h lt f e =
-      ap (checked words at) (ap (λ x. nodeOf res (depth - 1) x (drop (at + 1) ws)) e ∙ node-there res depth (getD ws at 0) (drop (at + 1) ws) f
-      ∙ ap (readPolicy res depth) (sym (word-at ws at lt)))
+  judged : (h : PolicyHead) (b : Bool) → at < length ws → (depth ≡ 0 → ⊥) → h ≡ policyHead (getD ws at 0) res → b ≡ withinMost most h →
+      checked words at (unless b 8 (nodeBy most res (depth - 1) h (drop (at + 1) ws))) ≡ Asked
+  judged h b lt f e g =
+      ap (checked words at) (ap (λ t. unless t 8 (nodeBy most res (depth - 1) h (drop (at + 1) ws))) g
+      ∙ ap (λ x. unless (withinMost most x) 8 (nodeBy most res (depth - 1) x (drop (at + 1) ws))) e ∙ node-there most res depth (getD ws at 0) (drop (at + 1) ws) f
+      ∙ ap (readBy most res depth) (sym (word-at ws at lt)))
+
+  pub by-head : (h : PolicyHead) → at < length ws → (depth ≡ 0 → ⊥) → h ≡ policyHead (getD ws at 0) res → true ≡ withinMost most h →
+      checked words at (nodeBy most res (depth - 1) h (drop (at + 1) ws)) ≡ Asked
+  by-head h lt f e g = judged h true lt f e g
+
+  -- 8 where the outcome is none.
+  pub not-within : (h : PolicyHead) → at < length ws → (depth ≡ 0 → ⊥) → h ≡ policyHead (getD ws at 0) res → false ≡ withinMost most h → Refused 8 ≡ Asked
+  unfolding checked
+  not-within h lt f e g = judged h false lt f e g
 
 -- What follows the first word.
 module _ (pc : List ℕ → Parsed Condition) (p : List ℕ → Parsed (Policy Outcome)) (at : ℕ) (us : List ℕ) where
@@ -109,15 +133,15 @@ module _ (pc : List ℕ → Parsed Condition) (p : List ℕ → Parsed (Policy O
   after-deny hidden denied o = end-with wordsD words at at stored (denyTraceNode hidden denied o us) (λ d. refl)
 
 -- The list rule.
-module _ (ws : List ℕ) (depth : ℕ) (res : Bool) where
+module _ (most : ℕ) (ws : List ℕ) (depth : ℕ) (res : Bool) where
   abbrev pub AskedAll : ℕ → ℕ → Checked
-  AskedAll at count = checked wordss at (many pnil pcons (readPolicy res depth) count (drop at ws))
+  AskedAll at count = checked wordss at (many pnil pcons (readBy most res depth) count (drop at ws))
 
-pub policy-lists : (ws : List ℕ) (res : Bool) → Lists (λ d at. Asked ws at d res) (λ d. AskedAll ws d res)
-policy-lists ws res =
+pub policy-lists : (most : ℕ) (ws : List ℕ) (res : Bool) → Lists (λ d at. Asked most ws at d res) (λ d. AskedAll most ws d res)
+policy-lists most ws res =
     record {
-      first = λ d. many-first words wordss pnil pcons (readPolicy res d) refl (λ a b. refl) (policy-leaves res d) ws;
-      none = λ d. many-none words wordss pnil pcons (readPolicy res d) refl (λ a b. refl) (policy-leaves res d) ws;
+      first = λ d. many-first words wordss pnil pcons (readBy most res d) refl (λ a b. refl) (leaves-by most res d) ws;
+      none = λ d. many-none words wordss pnil pcons (readBy most res d) refl (λ a b. refl) (leaves-by most res d) ws;
     }
 
 -- Every policy takes a word, so a node that is passed ends later than it begins.
@@ -140,14 +164,14 @@ ends-later at after (got t vs) e =
     omega arith
 
 -- The check of a whole node is a step.
-pub whole-node : (ws : List ℕ) (at depth : ℕ) (res : Bool) (c : Checked) (r : Step) → at < length ws → c ≡ Asked ws at depth res → r ≡ stepOf c →
-    Stepped ws at depth (Asked ws at depth res) (AskedAll ws (depth - 1) res (at + 1)) r
-whole-node ws at depth res (Next after) r lt e f = rw f (e, lt, ends-later at after (readPolicy res depth (drop at ws)) e)
-whole-node ws at depth res (Refused n) r lt e f = rw f e
+pub whole-node : (most : ℕ) (ws : List ℕ) (at depth : ℕ) (res : Bool) (c : Checked) (r : Step) → at < length ws → c ≡ Asked most ws at depth res → r ≡ stepOf c →
+    Stepped ws at depth (Asked most ws at depth res) (AskedAll most ws (depth - 1) res (at + 1)) r
+whole-node most ws at depth res (Next after) r lt e f = rw f (e, lt, ends-later at after (readBy most res depth (drop at ws)) e)
+whole-node most ws at depth res (Refused n) r lt e f = rw f e
 
--- A plain grant is passed, with a level below it for its condition.
-pub plain-passed : (ws : List ℕ) (at depth : ℕ) (res : Bool) → plainGrant (drop at ws) ≡ true → 2 ≤ depth → Next (at + 3) ≡ Asked ws at depth res
+-- A plain grant is passed, with a level below it for its condition, where its outcome is one.
+pub plain-passed : (most : ℕ) (ws : List ℕ) (at depth : ℕ) (res : Bool) → getD ws at 0 % 65536 < most → plainGrant (drop at ws) ≡ true → 2 ≤ depth → Next (at + 3) ≡ Asked most ws at depth res
 unfolding checked
-plain-passed ws at zero res plain h = absurd (omega arith)
-plain-passed ws at (suc zero) res plain h = absurd (omega arith)
-plain-passed ws at (suc (suc d)) res plain h = sym (ap (checked words at) (plain-reads ws at plain res d))
+plain-passed most ws at zero res m plain h = absurd (omega arith)
+plain-passed most ws at (suc zero) res m plain h = absurd (omega arith)
+plain-passed most ws at (suc (suc d)) res m plain h = sym (ap (checked words at) (plain-reads-by ws at plain most m res d))

@@ -8,8 +8,9 @@ use lib.Dec.{ltb}
 use lib.ListN.{length}
 use Rattle.model.specs.Partial.{ReducedPolicy, asResidual}
 use Rattle.model.specs.Record.{Record}
-use Rattle.model.specs.Reading.{Parsed, refuse, got}
-use Rattle.model.specs.Products.{Outcome, leadKind, parse14, parse15}
+use Rattle.model.specs.Outcome.{below}
+use Rattle.model.specs.Reading.{Parsed, refuse, got, parse14, parse15}
+use Rattle.model.specs.Products.{Outcome, leadKind}
 use Rattle.laws.specs.Size.{pairs, words}
 use Rattle.policy_model.specs.declared.Checked.{Checked}
 use Rattle.policy_model.specs.declared.Checked.the-variants.{Next, Refused}
@@ -55,10 +56,10 @@ sheetRefusal (sheet.Refused n) = some n
 
 -- ---- records
 
--- What stands after the consulted entries: under 15 a residual tree, under 14 one node 12 or 13.
-unfoldable pub bodyAt : Bool → List ℕ → Parsed (ReducedPolicy Outcome)
-bodyAt true ws = parse15 ws
-bodyAt false ws = parse14 ws
+-- What stands after the consulted entries, by a number of outcomes: under 15 a residual tree, under 14 one node 12 or 13.
+unfoldable pub bodyAt : ℕ → Bool → List ℕ → Parsed (ReducedPolicy Outcome)
+bodyAt most true ws = parse15 (below most) ws
+bodyAt most false ws = parse14 (below most) ws
 
 abbrev pub wordsB : ReducedPolicy Outcome → ℕ
 wordsB b = words (asResidual b)

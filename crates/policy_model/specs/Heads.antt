@@ -108,6 +108,19 @@ policyHeads res r =
 unfoldable pub policyHead : ℕ → Bool → PolicyHead
 policyHead w res = cond (leb 6 (kindOf w)) (getD (policyHeads res (restOf w)) (kindOf w - 6) policy.BadKind) policy.BadKind
 
+-- Whether a head's outcome is one of `most`: of 6, 8, 12, and of a 13 that has a denied outcome.
+abbrev pub withinMost : ℕ → PolicyHead → Bool
+withinMost most (Permit o) = ltb o most
+withinMost most Deny = true
+withinMost most (Grant hidden n o) = ltb o most
+withinMost most (policy.All n) = true
+withinMost most (policy.Any n) = true
+withinMost most OrElse = true
+withinMost most (PermitWithTrace n o) = ltb o most
+withinMost most (DenyWithTrace hidden denied o) = cond denied (ltb o most) true
+withinMost most policy.BadKind = true
+withinMost most policy.BadField = true
+
 -- A flag as the bit that it stands for; the denied outcome, if present.
 abbrev pub bitOf : Bool → ℕ
 bitOf false = 0

@@ -5,16 +5,20 @@ use mathlib.Core.Option.{none}
 use mathlib.Core.List.{List, [], _∷_}
 use Prim.Native.Nat.{ℕ, suc, _+_, _/_, _%_, _≤_, _<_}
 use native.Mathlib.Omega.{arith}
-use borrow.Author.Tests.{eqb-true, leb-true, leb-false}
+use borrow.Author.Tests.{eqb-true, leb-true, leb-false, lt-ltb}
 use lib.Dec.{eqb, leb}
 use lib.ListN.{length, drop, getD, length-drop}
 use lib.Seq.{drop-cons}
+use Rattle.model.specs.Outcome.{below}
 use Rattle.model.specs.Condition.{Condition, has}
 use Rattle.model.specs.Policy.{Policy, grant}
-use Rattle.model.specs.Reading.{got, next, shapeOf, readCondition}
+use Rattle.model.specs.Reading.{Parsed, got, next, unless, shapeOf, readCondition}
+use Rattle.model.specs.Reading as reading
 use Rattle.model.specs.Products.{Outcome, readPolicy}
-use Rattle.policy_model.specs.Heads.{conditionNode, bitOf, grantNode, policyNode}
-use Rattle.policy_model.specs.HeadLaws.{condition-node, policy-node, bit-is, has-word, grant-word}
+use Rattle.policy_model.specs.declared.PolicyHead.{PolicyHead}
+use Rattle.policy_model.specs.declared.PolicyHead.the-variants.{Grant}
+use Rattle.policy_model.specs.Heads.{conditionNode, withinMost, bitOf, grantNode, policyNode}
+use Rattle.policy_model.specs.HeadLaws.{condition-node, policy-node-by, bit-is, has-word, grant-word}
 use Rattle.policy_model.specs.Plain.{plainGrant, shapeBit, plainPolicy}
 
 -- ---- what the three words say
@@ -61,13 +65,15 @@ condition-of : (d u : ℕ) (ws : List ℕ) → u / 1024 ≡ 524288 → readCondi
 unfolding conditionNode
 condition-of d u ws e = condition-node d u ws ∙ ap (λ h. conditionNode (λ vs. readCondition d vs) h ws) (sym (has-word u e))
 
-policy-of : (res : Bool) (d w u : ℕ) (ws : List ℕ) → w / 268435456 ≡ 8 → w / 65536 % 2048 ≡ 0 → u / 1024 ≡ 524288 →
-    readPolicy res (suc (suc d)) (w ∷ 0 ∷ u ∷ ws) ≡ got (plainPolicy w u) ws
+policy-of : (most : ℕ) (res : Bool) (d w u : ℕ) (ws : List ℕ) → w % 65536 < most → w / 268435456 ≡ 8 → w / 65536 % 2048 ≡ 0 → u / 1024 ≡ 524288 →
+    reading.readPolicy (below most) res (suc (suc d)) (w ∷ 0 ∷ u ∷ ws) ≡ got (plainPolicy w u) ws
 unfolding policyNode grantNode
-policy-of res d w u ws k n h =
+policy-of most res d w u ws m k n h =
     let given : ℕ → Condition → Policy Outcome = λ s c. grant (record { outcome = w % 65536; obligations = []; label = none; reason = none; shape = shapeOf s }) c in
-    policy-node res (suc d) w (0 ∷ u ∷ ws)
-    ∙ ap (λ q. policyNode (λ vs. readCondition (suc d) vs) (λ vs. readPolicy res (suc d) vs) q (0 ∷ u ∷ ws)) (sym (grant-word w res k n))
+    let by : PolicyHead → Parsed (Policy Outcome) = λ q. policyNode (λ vs. readCondition (suc d) vs) (λ vs. reading.readPolicy (below most) res (suc d) vs) q (0 ∷ u ∷ ws) in
+    policy-node-by most res (suc d) w (0 ∷ u ∷ ws)
+    ∙ ap (λ q. unless (withinMost most q) 8 (by q)) (sym (grant-word w res k n))
+    ∙ ap (λ b. unless b 8 (by (Grant (eqb (shapeBit w) 1) 0 (w % 65536)))) (lt-ltb (w % 65536) most m)
     ∙ ap (λ q. next q (λ c us. got (given (bitOf (eqb (shapeBit w) 1)) c) us)) (condition-of d u ws h)
     ∙ ap (λ s. got (given s (has (u % 1024))) ws) (bit-is (shapeBit w) (omega arith))
 
@@ -82,8 +88,12 @@ module _ (sheet : List ℕ) (at : ℕ) (plain : plainGrant (drop at sheet) ≡ t
   plain-marks : getD sheet (at + 1) 0 ≡ 0
   plain-marks = all-told .no-mark
 
-  -- The policy is read, at every level that has one below it.
+  -- The policy is read, at every level that has one below it, where its outcome is one.
+  pub plain-reads-by : (most : ℕ) → getD sheet at 0 % 65536 < most → (res : Bool) (d : ℕ) →
+      reading.readPolicy (below most) res (suc (suc d)) (drop at sheet) ≡ got (plainPolicy (getD sheet at 0) (getD sheet (at + 2) 0)) (drop (at + 3) sheet)
+  plain-reads-by most m res d =
+      ap (λ ws. reading.readPolicy (below most) res (suc (suc d)) ws) (three-here sheet at plain-inside ∙ ap (λ v. getD sheet at 0 ∷ v ∷ getD sheet (at + 2) 0 ∷ drop (at + 3) sheet) plain-marks)
+      ∙ policy-of most res d (getD sheet at 0) (getD sheet (at + 2) 0) (drop (at + 3) sheet) m (all-told .kind) (all-told .no-obligation) (all-told .has-it)
+
   pub plain-reads : (res : Bool) (d : ℕ) → readPolicy res (suc (suc d)) (drop at sheet) ≡ got (plainPolicy (getD sheet at 0) (getD sheet (at + 2) 0)) (drop (at + 3) sheet)
-  plain-reads res d =
-      ap (λ ws. readPolicy res (suc (suc d)) ws) (three-here sheet at plain-inside ∙ ap (λ v. getD sheet at 0 ∷ v ∷ getD sheet (at + 2) 0 ∷ drop (at + 3) sheet) plain-marks)
-      ∙ policy-of res d (getD sheet at 0) (getD sheet (at + 2) 0) (drop (at + 3) sheet) (all-told .kind) (all-told .no-obligation) (all-told .has-it)
+  plain-reads res d = plain-reads-by 65536 (omega arith) res d

@@ -4,14 +4,15 @@ ghost use mathlib.Core.Bool.{Bool};
 ghost use Prim.Native.Nat.{ℕ, _+_, _-_, _%_, _^_, _<_, _≤_};
 ghost use lib.ListN.{length, drop, getD};
 ghost use Rattle.model.specs.Fields.{bits, split, wordsFor};
-ghost use Rattle.model.specs.Outcome.{outcomeBits};
+ghost use Rattle.model.specs.Outcome.{outcomeBits, below};
 ghost use Rattle.model.specs.Condition.{cnil, ccons};
 ghost use Rattle.model.specs.Policy.{pnil, pcons};
 ghost use Rattle.model.specs.Writing.{countBits, obligationBits, entryBits};
 ghost use Rattle.model.specs.Reading.{many, readList, obligation, listed, consulted, readCondition, levels, recordWords, sheetNumber, whole};
-ghost use Rattle.model.specs.Products.{readPolicy, readSheet, parse14, readRecord};
+ghost use Rattle.model.specs.Reading as reading;
+ghost use Rattle.model.specs.Products.{readPolicy};
 ghost use Rattle.laws.specs.Size.{quads, pairs, wordsC, wordsCs, wordsD, words as wordsT, wordss as wordsTs};
-ghost use Rattle.policy_model.specs.Heads.{conditionHead, deepCondition, permitHead, grantHead, permitTraceHead, denyTraceHead, policyHead, deepPolicy, grantNode, permitTraceNode, denyTraceNode};
+ghost use Rattle.policy_model.specs.Heads.{conditionHead, deepCondition, permitHead, grantHead, permitTraceHead, denyTraceHead, policyHead, withinMost, deepPolicy, grantNode, permitTraceNode, denyTraceNode};
 ghost use Rattle.policy_model.specs.Plain.{plainGrant};
 ghost use Rattle.policy_model.specs.Lists.{seenOne, seenAll, entryFits, pairFits, markFits, marksFit, checkedPairs};
 ghost use Rattle.policy_model.specs.Answers.{checked, Stepped, stepOf, atEnd, refusal, sheetRefusal, bodyAt, wordsB, leadOf, recordLead, recordOf};
@@ -761,10 +762,43 @@ fn step_of(found: Checked) -> Step
     }
 }
 
+// Whether a head's outcome is one of `most`: of a Permit, a Grant, a PermitWithTrace, and of a DenyWithTrace that has one.
+fn within(head: PolicyHead, most: u32) -> bool
+    ensures { λ r. ⌜ r ≡ withinMost most head ⌝ }
+{
+    match head {
+        PolicyHead::Permit(outcome) => (outcome as u32) < most,
+        PolicyHead::Deny => true,
+        PolicyHead::Grant {
+            hidden: _,
+            obligations: _,
+            outcome,
+        } => (outcome as u32) < most,
+        PolicyHead::All(_) => true,
+        PolicyHead::Any(_) => true,
+        PolicyHead::OrElse => true,
+        PolicyHead::PermitWithTrace {
+            obligations: _,
+            outcome,
+        } => (outcome as u32) < most,
+        PolicyHead::DenyWithTrace {
+            hidden: _,
+            denied,
+            outcome,
+        } => if denied {
+            (outcome as u32) < most
+        } else {
+            true
+        },
+        PolicyHead::BadKind => true,
+        PolicyHead::BadField => true,
+    }
+}
+
 // Checks the policy at `at` up to its arms. A Grant's condition is no arm.
-fn policy_step(words: &[u32], at: usize, depth: usize, residual: bool) -> Step
+fn policy_step(words: &[u32], at: usize, depth: usize, residual: bool, most: u32) -> Step
     requires { ⌜ depth ≤ levels ⌝ }
-    ensures { λ r. ⌜ Stepped (now (words .entry)) at depth (checked wordsT at (readPolicy residual depth (drop at (now (words .entry))))) (λ n. checked wordsTs (at + 1) (many pnil pcons (readPolicy residual (depth - 1)) n (drop (at + 1) (now (words .entry))))) r ⌝ }
+    ensures { λ r. ⌜ Stepped (now (words .entry)) at depth (checked wordsT at (reading.readPolicy (below most) residual depth (drop at (now (words .entry))))) (λ n. checked wordsTs (at + 1) (many pnil pcons (reading.readPolicy (below most) residual (depth - 1)) n (drop (at + 1) (now (words .entry))))) r ⌝ }
 {
     if words.len() <= at {
         return Step::Refused(6);
@@ -773,6 +807,9 @@ fn policy_step(words: &[u32], at: usize, depth: usize, residual: bool) -> Step
         return Step::Refused(deep_policy(head_by_kind(words[at], residual)));
     }
     let head = policy_head(words[at], residual);
+    if !within(head, most) {
+        return Step::Refused(8);
+    }
     match head {
         PolicyHead::Permit(_) => Step::Leaf(at + 1),
         PolicyHead::Deny => Step::Leaf(at + 1),
@@ -799,25 +836,32 @@ fn policy_step(words: &[u32], at: usize, depth: usize, residual: bool) -> Step
 }
 
 // The words of the policy at `at`, of at most `depth` levels, if it is a Permit or a plain grant, the commonest; 0 if it is another. So these are passed with no step.
-fn short_policy(words: &[u32], at: usize, depth: usize) -> usize
-    ensures { λ r. ⌜ ((r ≡ 0 → ⊥) → (at + r ≤ length (now (words .entry))) × ((residual : Bool) → Checked.Next (at + r) ≡ checked wordsT at (readPolicy residual depth (drop at (now (words .entry)))))) ⌝ }
+fn short_policy(words: &[u32], at: usize, depth: usize, most: u32) -> usize
+    ensures { λ r. ⌜ ((r ≡ 0 → ⊥) → (at + r ≤ length (now (words .entry))) × ((residual : Bool) → Checked.Next (at + r) ≡ checked wordsT at (reading.readPolicy (below most) residual depth (drop at (now (words .entry)))))) ⌝ }
 {
     if words.len() <= at {
         return 0;
     }
     if words[at] / HALF == PERMIT {
+        if words[at] % HALF >= most {
+            return 0;
+        }
         return if depth == 0 { 0 } else { 1 };
     }
     if depth < 2 {
         return 0;
     }
-    if plain_grant(words, at) { 3 } else { 0 }
+    if plain_grant(words, at) {
+        if words[at] % HALF < most { 3 } else { 0 }
+    } else {
+        0
+    }
 }
 
 // Checks the policy at `at`, of at most `depth` levels, its conditions among them, in one loop as `check_condition` does.
-fn check_policy(words: &[u32], at: usize, depth: usize, residual: bool) -> Checked
+fn check_policy(words: &[u32], at: usize, depth: usize, residual: bool, most: u32) -> Checked
     requires { ⌜ depth ≤ levels ⌝ }
-    ensures { λ r. ⌜ r ≡ checked wordsT at (readPolicy residual depth (drop at (now (words .entry)))) ⌝ }
+    ensures { λ r. ⌜ r ≡ checked wordsT at (reading.readPolicy (below most) residual depth (drop at (now (words .entry)))) ⌝ }
 {
     let mut above = [0u32; LEVELS];
     let mut level = 0;
@@ -832,13 +876,13 @@ fn check_policy(words: &[u32], at: usize, depth: usize, residual: bool) -> Check
             left = above[level];
             continue;
         }
-        let short = short_policy(words, next, depth - level);
+        let short = short_policy(words, next, depth - level, most);
         if short != 0 {
             next += short;
             left -= 1;
             continue;
         }
-        match policy_step(words, next, depth - level, residual) {
+        match policy_step(words, next, depth - level, residual, most) {
             Step::Leaf(after) => {
                 next = after;
                 left -= 1;
@@ -882,8 +926,8 @@ fn to_the_end(found: Checked, length: usize) -> Checked
 }
 
 // Checks a sheet: 1 to 4,096 words, one tree of at most 32 levels.
-pub fn check_sheet(words: &[u32]) -> SheetCheck
-    ensures { λ r. ⌜ sheetRefusal r ≡ refusal (readSheet (now (words .entry))) ⌝ }
+pub fn check_sheet(words: &[u32], most: u32) -> SheetCheck
+    ensures { λ r. ⌜ sheetRefusal r ≡ refusal (reading.readSheet (below most) (now (words .entry))) ⌝ }
 {
     if words.len() == 0 {
         return SheetCheck::Refused(1);
@@ -891,15 +935,15 @@ pub fn check_sheet(words: &[u32]) -> SheetCheck
     if words.len() > SHEET_WORDS {
         return SheetCheck::Refused(1);
     }
-    match to_the_end(check_policy(words, 0, LEVELS, false), words.len()) {
+    match to_the_end(check_policy(words, 0, LEVELS, false, most), words.len()) {
         Checked::Next(_) => SheetCheck::Accepted,
         Checked::Refused(number) => SheetCheck::Refused(number),
     }
 }
 
 // Checks the tree of a Resolved record: one node 12 or 13.
-fn check_resolved(words: &[u32], at: usize) -> Checked
-    ensures { λ r. ⌜ r ≡ checked wordsB at (parse14 (drop at (now (words .entry)))) ⌝ }
+fn check_resolved(words: &[u32], at: usize, most: u32) -> Checked
+    ensures { λ r. ⌜ r ≡ checked wordsB at (reading.parse14 (below most) (drop at (now (words .entry)))) ⌝ }
 {
     if words.len() <= at {
         return Checked::Refused(6);
@@ -907,17 +951,17 @@ fn check_resolved(words: &[u32], at: usize) -> Checked
     if words[at] / KIND < KIND_PERMIT_WITH_TRACE {
         return Checked::Refused(5);
     }
-    check_policy(words, at, 1, true)
+    check_policy(words, at, 1, true, most)
 }
 
 // Checks the tree of a record, to the last word.
-fn check_body(words: &[u32], at: usize, pending: bool) -> Checked
-    ensures { λ r. ⌜ r ≡ checked wordsB at (whole (bodyAt pending (drop at (now (words .entry))))) ⌝ }
+fn check_body(words: &[u32], at: usize, pending: bool, most: u32) -> Checked
+    ensures { λ r. ⌜ r ≡ checked wordsB at (whole (bodyAt most pending (drop at (now (words .entry))))) ⌝ }
 {
     if pending {
-        to_the_end(check_policy(words, at, LEVELS, true), words.len())
+        to_the_end(check_policy(words, at, LEVELS, true, most), words.len())
     } else {
-        to_the_end(check_resolved(words, at), words.len())
+        to_the_end(check_resolved(words, at, most), words.len())
     }
 }
 
@@ -944,8 +988,8 @@ fn record_of(body: Checked, pending: bool, count: u32, tree: usize) -> RecordChe
 }
 
 // Checks a record: 1 to 16,384 words; the lead, the consulted entries, one residual tree of at most 32 levels.
-pub fn check_record(words: &[u32]) -> RecordCheck
-    ensures { λ r. ⌜ recordLead r ≡ leadOf (readRecord (now (words .entry))) ⌝ }
+pub fn check_record(words: &[u32], most: u32) -> RecordCheck
+    ensures { λ r. ⌜ recordLead r ≡ leadOf (reading.readRecord (below most) (now (words .entry))) ⌝ }
 {
     if words.len() == 0 {
         return RecordCheck::Refused(1);
@@ -960,7 +1004,7 @@ pub fn check_record(words: &[u32]) -> RecordCheck
     let count = words[0] % COUNTS;
     match check_entries(words, 1, count) {
         Checked::Next(tree) => record_of(
-            check_body(words, tree, kind == KIND_PENDING),
+            check_body(words, tree, kind == KIND_PENDING, most),
             kind == KIND_PENDING,
             count,
             tree,

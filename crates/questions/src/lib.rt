@@ -28,7 +28,7 @@ enum Place {
 fn tree_of(words: &[u32]) -> Place
     ensures { λ r. ⌜ Found (now (words .entry)) (readRecord (now (words .entry))) r ⌝ }
 {
-    match policy_model::check_record(words) {
+    match policy_model::check_record(words, outcome::SETS) {
         RecordCheck::Resolved { consulted: _, tree } => Place::At(tree),
         RecordCheck::Pending { consulted: _, tree } => Place::At(tree),
         RecordCheck::Refused(number) => Place::Refused(number),

@@ -174,7 +174,7 @@ fn no_facts(set: &mut [u64])
 pub fn required_facts(sheet: &[u32], set: &mut [u64]) -> Required
     ensures { λ r. ⌜ Answered (requiredFacts (now (sheet .entry))) (readSheet (now (sheet .entry))) (now (set .entry)) (now (set .exit)) r ⌝ }
 {
-    match policy_model::check_sheet(sheet) {
+    match policy_model::check_sheet(sheet, outcome::SETS) {
         SheetCheck::Accepted => Required::Facts(facts_at(sheet, 0, set)),
         SheetCheck::Refused(number) => {
             no_facts(set);
@@ -188,7 +188,7 @@ pub fn required_facts(sheet: &[u32], set: &mut [u64]) -> Required
 pub fn required_residual_facts(words: &[u32], set: &mut [u64]) -> Required
     ensures { λ r. ⌜ Answered (requiredResidualFacts (now (words .entry))) (treeOf (readRecord (now (words .entry)))) (now (set .entry)) (now (set .exit)) r ⌝ }
 {
-    match policy_model::check_record(words) {
+    match policy_model::check_record(words, outcome::SETS) {
         RecordCheck::Resolved {
             consulted: _,
             tree: _,

@@ -9,7 +9,8 @@ use borrow.Author.Tests.{le-leb, ltb-true, eq-eqb}
 use lib.Dec.{leb}
 use lib.ListN.{length}
 use Rattle.model.specs.Facts.{unknown, Table, tableOf, partialFacts, knownFacts, tableFault}
-use Rattle.model.specs.Outcome.{Outcomes, productSets}
+use Rattle.model.specs.Outcome.{Outcomes}
+use Rattle.model.specs.Levels.{OutcomeTable, outcomesOf, acceptable, byTable}
 use Rattle.model.specs.Decision.{Decision, permits, denies, products}
 use Rattle.model.specs.Policy.{Policy, permit, deny, grant, all, any, orElse, stored, Policies, pnil, pcons}
 use Rattle.model.specs.Evaluate.{evalPolicy}
@@ -29,7 +30,9 @@ use Rattle.laws.specs.FormLaws.{few-countable, countable-form}
 use Rattle.laws.specs.Lengths.{length-encodeR, length-numbered}
 use Rattle.laws.specs.ReadBack.{back-R, back-number}
 use Rattle.laws.specs.ReadForm.{Named, OkSheet, ok-sheet}
-use Rattle.laws.specs.Products.{Written, lawfulProducts, InRange, writtenProducts}
+use Rattle.laws.specs.Products.{Written}
+use Rattle.laws.specs.Lattice.{InTable}
+use Rattle.laws.specs.LevelLaws.{lawfulOf, writtenOf, table-wrote}
 use Rattle.staging.specs.SizeLaws.{most}
 use Rattle.staging.specs.ConsultedLaws.{consultedFacts, log-length}
 use Rattle.staging.specs.Chain.{Step, AllOf, all-map, run}
@@ -305,9 +308,9 @@ module _ (L : Outcomes) (G : L .O → Type 0) (codec : Written L G) where
             sym (wrote-what (tableFault knownFacts known) (fits L room (completed L K lastly)) (wordsOf (completed L K lastly)) ws
             (sym (complete-is room known lastly fit) ∙ sym (ap (λ v. completeResidual L number v known room) after-is) ∙ e))
 
-        pub demand3-of : Staged L number o sheet known facts given calls t
+        pub demand3-at : Staged L number o sheet known facts given calls t
         unfolding K P r₀ ss lastly
-        demand3-of = record {
+        demand3-at = record {
           last = lastly;
           by-the-rules = refl;
           as-words = after-is;
@@ -350,30 +353,37 @@ pub demand3 : (L : Outcomes) (G : L .O → Type 0) → Written L G
     → Staged L number o sheet known facts given calls t
 demand3 L G codec number o sheet known facts given calls t room reads knows first agrees later =
     let said = wrote-numbered (sheetLength sheet) (tableFault partialFacts facts) (readSheet (L .value) sheet) (isSheetNumber number) (λ x. under number (write L room (reduced L o (tableOf facts) x))) given first in
-    demand3-of L G codec sheet t reads number said o known facts given calls room knows first agrees later
+    demand3-at L G codec sheet t reads number said o known facts given calls room knows first agrees later
 
--- The same for sets of products.
-pub demand3-products : (number : ℕ) (o : Order) (sheet known facts given : List ℕ) (calls : List Call) (t : Policy ℕ) (room : ℕ)
-    → readSheet (productSets .value) sheet ≡ got t [] → tableFault knownFacts known ≡ none
-    → partialEvaluate productSets o number sheet facts room ≡ wrote given
-    → AgreesOn t (tableOf known) (tableOf facts)
-    → AllOf (λ s. AgreesOn t (tableOf known) (s .table)) (accepted productSets number given calls)
-    → Staged productSets number o sheet known facts given calls t
-demand3-products = demand3 productSets InRange writtenProducts
+-- Once for sets of products and for every outcome table, where all calls of the chain have the same table or all have none; direct evaluation and the completion
+-- as well. That the reduction wrote shows that the table was accepted, so each call of the chain is the one by its outcomes.
+module _ (g : Option OutcomeTable) where
+  abbrev By : Outcomes
+  By = outcomesOf g
 
-pub products-kept : {number : ℕ} {o : Order} {sheet known facts given : List ℕ} {calls : List Call} {t : Policy ℕ} (s : Staged productSets number o sheet known facts given calls t)
-    → products (s .decision) ≡ products (evalPolicy productSets (tableOf known) t)
-products-kept s = s .same-products lawfulProducts
+  pub demand3-of : (number : ℕ) (o : Order) (sheet known facts given : List ℕ) (calls : List Call) (t : Policy ℕ) (room : ℕ)
+      → readSheet (By .value) sheet ≡ got t [] → tableFault knownFacts known ≡ none
+      → byTable g (λ L. partialEvaluate L o number sheet facts room) ≡ wrote given
+      → AgreesOn t (tableOf known) (tableOf facts)
+      → AllOf (λ s. AgreesOn t (tableOf known) (s .table)) (accepted By number given calls)
+      → Staged By number o sheet known facts given calls t
+  demand3-of number o sheet known facts given calls t room reads knows first agrees later =
+      let by-it = table-wrote g (λ L. partialEvaluate L o number sheet facts room) given first in
+      demand3 By (InTable g) (writtenOf g (by-it .0)) number o sheet known facts given calls t room reads knows (by-it .1) agrees later
 
--- Direct evaluation of an accepted sheet: that it is accepted with room enough, what it writes, and that its record reads back.
-module _ (number : ℕ) (sheet : List ℕ) (t : Policy ℕ) (reads : readSheet (productSets .value) sheet ≡ got t []) where
-  pub evaluate-products : (known : List ℕ) (room : ℕ) → isSheetNumber number ≡ true → tableFault knownFacts known ≡ none → Roomy sheet room
-      → evaluate productSets number sheet known room ≡ wrote (numbered number (encodeR (productSets .number) (evaluated productSets (tableOf known) t)))
-  evaluate-products known room said knows h = evaluate-fits productSets InRange writtenProducts sheet t reads number said known room knows h
+  module _ (ok : acceptable g ≡ true) where
+    pub outcomes-kept : {number : ℕ} {o : Order} {sheet known facts given : List ℕ} {calls : List Call} {t : Policy ℕ} (s : Staged By number o sheet known facts given calls t)
+        → products (s .decision) ≡ products (evalPolicy By (tableOf known) t)
+    outcomes-kept s = s .same-products (lawfulOf g ok)
 
-  pub evaluate-products-back : (known : List ℕ) (room : ℕ) (ws : List ℕ) → evaluate productSets number sheet known room ≡ wrote ws
-      → readRecord (productSets .value) ws ≡ got (evaluated productSets (tableOf known) t) []
-  evaluate-products-back known room ws e =
-      let said = wrote-numbered (sheetLength sheet) (tableFault knownFacts known) (readSheet (productSets .value) sheet) (isSheetNumber number) (λ x. under number (write productSets room (evaluated productSets (tableOf known) x))) ws e in
-      ap (readRecord (productSets .value)) (evaluate-wrote productSets InRange writtenProducts sheet t reads number said known room ws e)
-      ∙ evaluate-back productSets InRange writtenProducts sheet t reads number said (tableOf known)
+    -- Direct evaluation of an accepted sheet: that it is accepted with room enough, what it writes, and that its record reads back.
+    module _ (number : ℕ) (sheet : List ℕ) (t : Policy ℕ) (reads : readSheet (By .value) sheet ≡ got t []) where
+      pub evaluate-of : (known : List ℕ) (room : ℕ) → isSheetNumber number ≡ true → tableFault knownFacts known ≡ none → Roomy sheet room
+          → evaluate By number sheet known room ≡ wrote (numbered number (encodeR (By .number) (evaluated By (tableOf known) t)))
+      evaluate-of known room said knows h = evaluate-fits By (InTable g) (writtenOf g ok) sheet t reads number said known room knows h
+
+      pub evaluate-back-of : (known : List ℕ) (room : ℕ) (ws : List ℕ) → evaluate By number sheet known room ≡ wrote ws → readRecord (By .value) ws ≡ got (evaluated By (tableOf known) t) []
+      evaluate-back-of known room ws e =
+          let said = wrote-numbered (sheetLength sheet) (tableFault knownFacts known) (readSheet (By .value) sheet) (isSheetNumber number) (λ x. under number (write By room (evaluated By (tableOf known) x))) ws e in
+          ap (readRecord (By .value)) (evaluate-wrote By (InTable g) (writtenOf g ok) sheet t reads number said known room ws e)
+          ∙ evaluate-back By (InTable g) (writtenOf g ok) sheet t reads number said (tableOf known)

@@ -16,3 +16,4 @@ pub mod Contradictions
 pub mod Statement
 pub mod Demand3
 pub mod Witness
+pub mod WitnessLevels

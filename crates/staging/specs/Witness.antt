@@ -6,19 +6,31 @@ use mathlib.Core.List.{List, [], _∷_}
 use Prim.Native.Nat.{ℕ}
 use native.Mathlib.Omega.{arith}
 use lib.ListN.{length, replicate}
-use Rattle.model.specs.Facts.{absent, silent, tableOf, heard}
+use Rattle.model.specs.Facts.{absent, silent, tableOf, heard, knownFacts, tableFault}
 use Rattle.model.specs.Outcome.{productSets}
+use Rattle.model.specs.Levels.{meetOf, joinOf, outcomeCount}
 use Rattle.model.specs.Condition.{has}
 use Rattle.model.specs.Decision.{Decision, permits, denies, forbidden, hidden}
 use Rattle.model.specs.Policy.{Policy, permit, grant, all, any, pnil, pcons}
 use Rattle.model.specs.Evaluate.{evalPolicy}
-use Rattle.model.specs.Partial.{ReducedPolicy, resolved, pending, permitsFirst, sheetOrder}
+use Rattle.model.specs.Partial.{ReducedPolicy, resolved, pending, Order, permitsFirst, sheetOrder}
 use Rattle.model.specs.Record.{Record}
-use Rattle.model.specs.Reading.{Parsed, refuse, got}
-use Rattle.model.specs.Calls.{refusal, wrote, evaluate, completeResidual}
+use Rattle.model.specs.Reading.{Parsed, refuse, got, readSheet}
+use Rattle.model.specs.Calls.{refusal, wrote, evaluate, partialEvaluate, completeResidual}
 use Rattle.staging.specs.Bare.{bare}
+use Rattle.staging.specs.Chain.{AllOf}
 use Rattle.staging.specs.Statement.{Call, AgreesOn, answerTo, after, accepted, Staged}
-use Rattle.staging.specs.Demand3.{demand3-products}
+use Rattle.staging.specs.Demand3.{demand3-of}
+
+-- The theorem of chains without an outcome table.
+without : (number : ℕ) (o : Order) (sheet known facts given : List ℕ) (calls : List Call) (t : Policy ℕ) (room : ℕ)
+    → readSheet (productSets .value) sheet ≡ got t [] → tableFault knownFacts known ≡ none
+    → partialEvaluate productSets o number sheet facts room ≡ wrote given
+    → AgreesOn t (tableOf known) (tableOf facts)
+    → AllOf (λ s. AgreesOn t (tableOf known) (s .table)) (accepted productSets number given calls)
+    → Staged productSets number o sheet known facts given calls t
+unfolding meetOf joinOf outcomeCount
+without = demand3-of none
 
 -- Sheet D, reduced under number 7 with fact 5 Unknown; then a narrowing refused for a field 3 in its table, one refused for want of room,
 -- one accepted that leaves 5 open, one accepted that reads 5 as Present, and one refused by 17, since it reads 5 as Absent.
@@ -57,7 +69,7 @@ known-agrees : AgreesOn treeD (tableOf knownD) (tableOf knownD)
 known-agrees f n = inr refl
 
 pub chainD : Staged productSets 7 permitsFirst sheetD knownD openD givenD callsD treeD
-chainD = demand3-products 7 permitsFirst sheetD knownD openD givenD callsD treeD 4 refl refl refl open-agrees (open-agrees, (known-agrees, tt))
+chainD = without 7 permitsFirst sheetD knownD openD givenD callsD treeD 4 refl refl refl open-agrees (open-agrees, (known-agrees, tt))
 
 -- What the list comes to: three of its calls are refused, and the record after it is Resolved.
 pub acceptedD : length (accepted productSets 7 givenD callsD) ≡ 2
@@ -101,7 +113,7 @@ district-agrees f (inl n) = inr (ap (λ g. heard (tableOf district g)) n ∙ sym
 district-agrees f (inr (inl n)) = inl (ap (tableOf district) n)
 
 pub chainR : Staged productSets 0 permitsFirst sheetR archive relay givenR (record { order = permitsFirst; facts = district; out = replicate 534 0 } ∷ []) treeR
-chainR = demand3-products 0 permitsFirst sheetR archive relay givenR (record { order = permitsFirst; facts = district; out = replicate 534 0 } ∷ []) treeR 8 refl refl refl relay-agrees (district-agrees, tt)
+chainR = without 0 permitsFirst sheetR archive relay givenR (record { order = permitsFirst; facts = district; out = replicate 534 0 } ∷ []) treeR 8 refl refl refl relay-agrees (district-agrees, tt)
 
 pub completedR : completeResidual productSets 0 (after productSets 0 givenR (record { order = permitsFirst; facts = district; out = replicate 534 0 } ∷ [])) archive 534 ≡ wrote (0xE0000002 ∷ 0x40004001 ∷ 0xC0000003 ∷ 0 ∷ [])
 completedR = refl
@@ -129,7 +141,7 @@ abbrev callsH : List Call
 callsH = record { order = permitsFirst; facts = openD; out = replicate 7 0 } ∷ record { order = sheetOrder; facts = openD; out = replicate 8 0 } ∷ []
 
 pub chainH : Staged productSets 0 sheetOrder sheetH knownD openD givenH callsH treeH
-chainH = demand3-products 0 sheetOrder sheetH knownD openD givenH callsH treeH 8 refl refl refl openH-agrees (openH-agrees, tt)
+chainH = without 0 sheetOrder sheetH knownD openD givenH callsH treeH 8 refl refl refl openH-agrees (openH-agrees, tt)
 
 pub one-sittingH : bare (chainH .decision) ≡ bare (evalPolicy productSets (tableOf knownD) treeH)
 one-sittingH = chainH .same-but-facts refl (refl, tt)
@@ -142,7 +154,7 @@ abbrev mixedH : List Call
 mixedH = record { order = permitsFirst; facts = openD; out = replicate 8 0 } ∷ []
 
 pub chainMixed : Staged productSets 0 sheetOrder sheetH knownD openD givenH mixedH treeH
-chainMixed = demand3-products 0 sheetOrder sheetH knownD openD givenH mixedH treeH 8 refl refl refl openH-agrees (openH-agrees, tt)
+chainMixed = without 0 sheetOrder sheetH knownD openD givenH mixedH treeH 8 refl refl refl openH-agrees (openH-agrees, tt)
 
 pub completedMixed : completeResidual productSets 0 (after productSets 0 givenH mixedH) knownD 531 ≡ wrote (0xE0000001 ∷ 0x40050000 ∷ 0xC0000001 ∷ 0 ∷ [])
 completedMixed = refl
@@ -202,13 +214,13 @@ abbrev givenS : List ℕ
 givenS = 0xF0000001 ∷ 0xC0050000 ∷ 0xA0000002 ∷ 0xD4000002 ∷ 0 ∷ 1 ∷ 0x00050000 ∷ 0x80000001 ∷ 0 ∷ 0x20000000 ∷ []
 
 pub chainS : Staged productSets 0 permitsFirst sheetS archiveS relayS givenS [] treeS
-chainS = demand3-products 0 permitsFirst sheetS archiveS relayS givenS [] treeS 10 refl refl refl silent-agrees tt
+chainS = without 0 permitsFirst sheetS archiveS relayS givenS [] treeS 10 refl refl refl silent-agrees tt
 
 abbrev orderedS : List ℕ
 orderedS = 0xF0000001 ∷ 0xC0050000 ∷ 0xA0000002 ∷ 0x80000001 ∷ 0 ∷ 0x20000000 ∷ 0xD4000002 ∷ 0 ∷ 1 ∷ 0x00050000 ∷ []
 
 pub chainOrderedS : Staged productSets 0 sheetOrder sheetS archiveS relayS orderedS [] treeS
-chainOrderedS = demand3-products 0 sheetOrder sheetS archiveS relayS orderedS [] treeS 10 refl refl refl silent-agrees tt
+chainOrderedS = without 0 sheetOrder sheetS archiveS relayS orderedS [] treeS 10 refl refl refl silent-agrees tt
 
 pub one-sittingS : bare (chainOrderedS .decision) ≡ bare (evalPolicy productSets (tableOf archiveS) treeS)
 one-sittingS = chainOrderedS .same-but-facts refl tt

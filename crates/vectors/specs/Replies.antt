@@ -1,12 +1,13 @@
 -- What the calls return and leave in the output, by the model.
 use mathlib.Core.Path.{_≡_}
+use mathlib.Core.Option.{none}
 use mathlib.Core.List.{List, [], _∷_}
 use Prim.Native.Nat.{ℕ}
 use lib.ListN.{length, getD}
 use Rattle.model.specs.Partial.{permitsFirst}
 use Rattle.model.specs.Calls.{Answer, numberOf, writtenOf, afterwards}
 use Rattle.model.specs.Required.{oneBit, Required, Asked}
-use Rattle.model.specs.Products.{evaluate, partialEvaluate, narrowResidual, completeResidual, requiredFacts, requiredResidualFacts, isPermitConstant, isDenyConstant, carriesObligation}
+use Rattle.model.specs.Products.{evaluateBy, partialEvaluateBy, narrowResidualBy, completeResidualBy, requiredFacts, requiredResidualFacts, isPermitConstant, isDenyConstant, carriesObligation}
 use Rattle.vectors.specs.declared.Reply.{Reply}
 use Rattle.vectors.specs.Words.{setWords}
 
@@ -44,10 +45,10 @@ toldBy call words before = getD (told words before) call (nothing before)
 -- All calls, by their number in a stored answer, with the sheet's number.
 abbrev pub replies : ℕ → List ℕ → List ℕ → List ℕ → List Replies
 replies sheet words table before =
-    writing (evaluate sheet words table (length before)) before
-    ∷ writing (partialEvaluate permitsFirst sheet words table (length before)) before
-    ∷ writing (narrowResidual permitsFirst sheet words table (length before)) before
-    ∷ writing (completeResidual sheet words table (length before)) before
+    writing (evaluateBy none sheet words table (length before)) before
+    ∷ writing (partialEvaluateBy none permitsFirst sheet words table (length before)) before
+    ∷ writing (narrowResidualBy none permitsFirst sheet words table (length before)) before
+    ∷ writing (completeResidualBy none sheet words table (length before)) before
     ∷ told words before
 
 unfoldable pub replyTo : ℕ → ℕ → List ℕ → List ℕ → List ℕ → Replies

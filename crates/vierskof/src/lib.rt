@@ -5,7 +5,7 @@ use calendar::Date;
 use questions::Told;
 use register::InForce;
 use required::Required;
-ghost use Rattle.model.specs.Products.{evaluate, requiredFacts, requiredResidualFacts, isPermitConstant, isDenyConstant, carriesObligation, partialEvaluate, narrowResidual, completeResidual};
+ghost use Rattle.model.specs.Products.{evaluate, requiredFacts, requiredResidualFacts, isPermitConstant, isDenyConstant, carriesObligation, partialEvaluate, narrowResidual, completeResidual, evaluateBy, partialEvaluateBy, narrowResidualBy, completeResidualBy};
 ghost use Rattle.model.specs.Partial.{permitsFirst, sheetOrder};
 ghost use Rattle.model.specs.Register.{sheetInForce};
 ghost use Rattle.model.specs.Join.{joinTables};
@@ -13,6 +13,8 @@ ghost use Rattle.model.specs.Windows.{applyWindows};
 ghost use Rattle.model.specs.Outcome.{productSets};
 ghost use Rattle.model.specs.Tight.{packSheet, packRecord, unpackSheet, unpackRecord};
 ghost use mathlib.Core.Path.{_≡_};
+ghost use mathlib.Core.Option.{none, some};
+ghost use Rattle.outcome.specs.Carried.{table};
 ghost use lib.ListN.{length};
 ghost use Rattle.answer.specs.Answers.{numberOf as Answer·numberOf, writtenOf};
 ghost use Rattle.required.specs.Answers.{numberOf, countOf};
@@ -49,7 +51,7 @@ pub extern "C" fn vierskof_evaluate(
     facts: &[u8],
     out: &mut [u32],
 ) -> u64
-    ensures { λ r. ⌜ Writes (evaluate number (now (sheet .entry)) (now (facts .entry)) (length (now (out .entry)))) (now (out .entry)) (now (out .exit)) r ⌝ }
+    ensures { λ r. ⌜ Writes (evaluateBy none number (now (sheet .entry)) (now (facts .entry)) (length (now (out .entry)))) (now (out .entry)) (now (out .exit)) r ⌝ }
 {
     written(calls::evaluate(sheet, number, facts, out))
 }
@@ -62,7 +64,7 @@ pub extern "C" fn vierskof_partial_evaluate(
     facts: &[u8],
     out: &mut [u32],
 ) -> u64
-    ensures { λ r. ⌜ Writes (partialEvaluate permitsFirst number (now (sheet .entry)) (now (facts .entry)) (length (now (out .entry)))) (now (out .entry)) (now (out .exit)) r ⌝ }
+    ensures { λ r. ⌜ Writes (partialEvaluateBy none permitsFirst number (now (sheet .entry)) (now (facts .entry)) (length (now (out .entry)))) (now (out .entry)) (now (out .exit)) r ⌝ }
 {
     written(calls::partial_evaluate(sheet, number, facts, out))
 }
@@ -75,7 +77,7 @@ pub extern "C" fn vierskof_partial_evaluate_in_order(
     facts: &[u8],
     out: &mut [u32],
 ) -> u64
-    ensures { λ r. ⌜ Writes (partialEvaluate sheetOrder number (now (sheet .entry)) (now (facts .entry)) (length (now (out .entry)))) (now (out .entry)) (now (out .exit)) r ⌝ }
+    ensures { λ r. ⌜ Writes (partialEvaluateBy none sheetOrder number (now (sheet .entry)) (now (facts .entry)) (length (now (out .entry)))) (now (out .entry)) (now (out .exit)) r ⌝ }
 {
     written(calls::partial_evaluate_in_order(sheet, number, facts, out))
 }
@@ -88,7 +90,7 @@ pub extern "C" fn vierskof_narrow_residual(
     facts: &[u8],
     out: &mut [u32],
 ) -> u64
-    ensures { λ r. ⌜ Writes (narrowResidual permitsFirst number (now (residual .entry)) (now (facts .entry)) (length (now (out .entry)))) (now (out .entry)) (now (out .exit)) r ⌝ }
+    ensures { λ r. ⌜ Writes (narrowResidualBy none permitsFirst number (now (residual .entry)) (now (facts .entry)) (length (now (out .entry)))) (now (out .entry)) (now (out .exit)) r ⌝ }
 {
     written(calls::narrow_residual(residual, number, facts, out))
 }
@@ -101,7 +103,7 @@ pub extern "C" fn vierskof_narrow_residual_in_order(
     facts: &[u8],
     out: &mut [u32],
 ) -> u64
-    ensures { λ r. ⌜ Writes (narrowResidual sheetOrder number (now (residual .entry)) (now (facts .entry)) (length (now (out .entry)))) (now (out .entry)) (now (out .exit)) r ⌝ }
+    ensures { λ r. ⌜ Writes (narrowResidualBy none sheetOrder number (now (residual .entry)) (now (facts .entry)) (length (now (out .entry)))) (now (out .entry)) (now (out .exit)) r ⌝ }
 {
     written(calls::narrow_residual_in_order(residual, number, facts, out))
 }
@@ -114,9 +116,99 @@ pub extern "C" fn vierskof_complete_residual(
     facts: &[u8],
     out: &mut [u32],
 ) -> u64
-    ensures { λ r. ⌜ Writes (completeResidual number (now (residual .entry)) (now (facts .entry)) (length (now (out .entry)))) (now (out .entry)) (now (out .exit)) r ⌝ }
+    ensures { λ r. ⌜ Writes (completeResidualBy none number (now (residual .entry)) (now (facts .entry)) (length (now (out .entry)))) (now (out .entry)) (now (out .exit)) r ⌝ }
 {
     written(calls::complete_residual(residual, number, facts, out))
+}
+
+// Decides a sheet by an outcome table: 21 before every other cause if it is not accepted.
+#[no_mangle]
+pub extern "C" fn vierskof_evaluate_by_levels(
+    levels: u32,
+    outcomes: &[u8],
+    sheet: &[u32],
+    number: u32,
+    facts: &[u8],
+    out: &mut [u32],
+) -> u64
+    ensures { λ r. ⌜ Writes (evaluate (some (table levels (now (outcomes .entry)))) number (now (sheet .entry)) (now (facts .entry)) (length (now (out .entry)))) (now (out .entry)) (now (out .exit)) r ⌝ }
+{
+    written(calls::evaluate_by_levels(levels, outcomes, sheet, number, facts, out))
+}
+
+// Reduces a sheet by an outcome table: 21 before every other cause if it is not accepted.
+#[no_mangle]
+pub extern "C" fn vierskof_partial_evaluate_by_levels(
+    levels: u32,
+    outcomes: &[u8],
+    sheet: &[u32],
+    number: u32,
+    facts: &[u8],
+    out: &mut [u32],
+) -> u64
+    ensures { λ r. ⌜ Writes (partialEvaluate (some (table levels (now (outcomes .entry)))) permitsFirst number (now (sheet .entry)) (now (facts .entry)) (length (now (out .entry)))) (now (out .entry)) (now (out .exit)) r ⌝ }
+{
+    written(calls::partial_evaluate_by_levels(levels, outcomes, sheet, number, false, facts, out))
+}
+
+// Reduces a sheet in sheet order by an outcome table: 21 before every other cause if it is not accepted.
+#[no_mangle]
+pub extern "C" fn vierskof_partial_evaluate_in_order_by_levels(
+    levels: u32,
+    outcomes: &[u8],
+    sheet: &[u32],
+    number: u32,
+    facts: &[u8],
+    out: &mut [u32],
+) -> u64
+    ensures { λ r. ⌜ Writes (partialEvaluate (some (table levels (now (outcomes .entry)))) sheetOrder number (now (sheet .entry)) (now (facts .entry)) (length (now (out .entry)))) (now (out .entry)) (now (out .exit)) r ⌝ }
+{
+    written(calls::partial_evaluate_by_levels(levels, outcomes, sheet, number, true, facts, out))
+}
+
+// Narrows a record by an outcome table: 21 before every other cause if it is not accepted.
+#[no_mangle]
+pub extern "C" fn vierskof_narrow_residual_by_levels(
+    levels: u32,
+    outcomes: &[u8],
+    residual: &[u32],
+    number: u32,
+    facts: &[u8],
+    out: &mut [u32],
+) -> u64
+    ensures { λ r. ⌜ Writes (narrowResidual (some (table levels (now (outcomes .entry)))) permitsFirst number (now (residual .entry)) (now (facts .entry)) (length (now (out .entry)))) (now (out .entry)) (now (out .exit)) r ⌝ }
+{
+    written(calls::narrow_residual_by_levels(levels, outcomes, residual, number, false, facts, out))
+}
+
+// Narrows a record in sheet order by an outcome table: 21 before every other cause if it is not accepted.
+#[no_mangle]
+pub extern "C" fn vierskof_narrow_residual_in_order_by_levels(
+    levels: u32,
+    outcomes: &[u8],
+    residual: &[u32],
+    number: u32,
+    facts: &[u8],
+    out: &mut [u32],
+) -> u64
+    ensures { λ r. ⌜ Writes (narrowResidual (some (table levels (now (outcomes .entry)))) sheetOrder number (now (residual .entry)) (now (facts .entry)) (length (now (out .entry)))) (now (out .entry)) (now (out .exit)) r ⌝ }
+{
+    written(calls::narrow_residual_by_levels(levels, outcomes, residual, number, true, facts, out))
+}
+
+// Completes a record by an outcome table: 21 before every other cause if it is not accepted.
+#[no_mangle]
+pub extern "C" fn vierskof_complete_residual_by_levels(
+    levels: u32,
+    outcomes: &[u8],
+    residual: &[u32],
+    number: u32,
+    facts: &[u8],
+    out: &mut [u32],
+) -> u64
+    ensures { λ r. ⌜ Writes (completeResidual (some (table levels (now (outcomes .entry)))) number (now (residual .entry)) (now (facts .entry)) (length (now (out .entry)))) (now (out .entry)) (now (out .exit)) r ⌝ }
+{
+    written(calls::complete_residual_by_levels(levels, outcomes, residual, number, facts, out))
 }
 
 // The facts that a sheet names: their count, and their set in `set`, sixteen numbers, fact 0 the top bit of the first.

@@ -9,6 +9,7 @@
 
 mod calls;
 mod join;
+mod levels;
 mod sheets;
 mod tight;
 mod timing;
@@ -33,6 +34,7 @@ fn main() {
     }
     by_order();
     by_table();
+    by_levels();
     registers();
     joins();
     by_windows();
@@ -97,6 +99,32 @@ fn by_table() {
         };
         table_row("partial_evaluate", calls::reduced_by(&words, tables));
         table_row("narrow_residual", calls::narrowed_by(&words, tables));
+    }
+}
+
+/// One sheet by sixteen levels beside the same sheet by sets of products; and a Permit by outcome tables beside one by none, which is what judging the table
+/// costs.
+fn by_levels() {
+    println!("\nnanoseconds a call, by sets of products and by levels\n");
+    println!(
+        "{:24} {:>14} {:>10} {:>10} {:>7}",
+        "call", "sheet", "sets", "16 levels", "ratio"
+    );
+    for (sheet, words) in [
+        ("4,096 words", sheets::of_levels()),
+        ("1,365 grants", sheets::on_one_fact()),
+    ] {
+        for (call, [sets, levels]) in levels::beside_sets(&words) {
+            println!(
+                "{call:24} {sheet:>14} {sets:>10.0} {levels:>10.0} {:>7.2}",
+                levels / sets
+            );
+        }
+    }
+    println!("\nnanoseconds for the judging of an outcome table\n");
+    println!("{:>24} {:>10}", "levels", "judging");
+    for count in [1, 2, 5, 8, 16] {
+        println!("{count:>24} {:>10.0}", levels::judging(count));
     }
 }
 

@@ -2,6 +2,7 @@
 
 use compare::generate::grow::{Alphabet, Grower};
 use compare::generate::rng::Rng;
+use compare::products::Products;
 use compare::words::{LEVELS, LIST, SHEET_WORDS, TABLE_BYTES, write};
 
 /// Half of the facts Present.
@@ -120,9 +121,21 @@ fn obliging(count: usize, obligations: usize) -> Vec<u32> {
 
 /// An Any of generated trees, of every kind of node.
 fn mixed(words: usize) -> Vec<u32> {
+    mixed_of(words, |alphabet| alphabet)
+}
+
+/// The same of as many words as there may be, with outcomes below 16.
+pub fn of_levels() -> Vec<u32> {
+    mixed_of(SHEET_WORDS, |alphabet| Alphabet {
+        outcomes: (0..16).map(Products).collect(),
+        ..alphabet
+    })
+}
+
+fn mixed_of(words: usize, with: impl Fn(Alphabet) -> Alphabet) -> Vec<u32> {
     let mut rng = Rng::new(1);
     loop {
-        let alphabet = Alphabet::wide(&mut rng);
+        let alphabet = with(Alphabet::wide(&mut rng));
         let sheet = write::tree(&Grower::of_sheets(&mut rng, &alphabet).exactly(words));
         if sheet[0] >> 28 == 0xA {
             return sheet;

@@ -118,6 +118,11 @@ pub struct Call {
     /// The record that is written carries it. Narrow and complete take only a record that carries it already.
     #[arg(long, value_name = "NUMBER", default_value = "0", value_parser = sheet)]
     pub sheet: u16,
+    /// A file with an outcome table, for sheets and records of levels and not of products.
+    ///
+    /// A count of levels, which are numbered from 0; then, for each ordered pair of them, the first one slowest, the level in which the two meet, and after all of these so the one in which they join. Numbers in a text with # comments, or a byte each. Every call of a road takes the same table.
+    #[arg(long, value_name = "FILE")]
+    pub levels: Option<PathBuf>,
     /// The form of the record that is written.
     #[arg(long, value_name = "FORM", default_value = "text")]
     pub to: Form,

@@ -8,6 +8,7 @@ use vierskof::{FactSet, Refusal, required_facts, required_residual_facts};
 pub struct Document<'w> {
     kind: Kind<'w>,
     facts: FactSet,
+    levels: bool,
 }
 
 /// Which of the two it is.
@@ -26,13 +27,26 @@ impl<'w> Document<'w> {
             Self {
                 kind: Kind::Record(Record::read(words)?),
                 facts: required_residual_facts(words)?,
+                levels: false,
             }
         } else {
             Self {
                 kind: Kind::Sheet(Sheet::read(words)?),
                 facts: required_facts(words)?,
+                levels: false,
             }
         })
+    }
+
+    /// The same with levels for outcomes, and not products.
+    #[must_use]
+    pub const fn by_levels(self, levels: bool) -> Self {
+        Self { levels, ..self }
+    }
+
+    /// Whether its outcomes are levels.
+    pub const fn has_levels(&self) -> bool {
+        self.levels
     }
 
     /// The sheet or record.

@@ -116,7 +116,8 @@ fn unmarked(text: &str) -> &str {
     text.strip_prefix(MARK).unwrap_or(text)
 }
 
-fn utf8(bytes: &[u8]) -> Result<&str, String> {
+/// The text that bytes are.
+pub fn utf8(bytes: &[u8]) -> Result<&str, String> {
     let text = str::from_utf8(bytes);
     let no_text = |error| mistaken(bytes).unwrap_or_else(|| format!("no text: {error}"));
     Ok(unmarked(text.map_err(no_text)?))

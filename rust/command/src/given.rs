@@ -5,7 +5,10 @@ use std::io::Read;
 use std::path::Path;
 
 use vierskof::read::{Record, Sheet};
-use vierskof::{RECORD_WORDS, Refusal, SHEET_WORDS};
+use vierskof::{
+    Levels, RECORD_WORDS, Refusal, SHEET_WORDS, complete_residual_by_levels,
+    partial_evaluate_by_levels,
+};
 
 use crate::arguments::{Asked, Input};
 use crate::document::{Document, Kind, is_record};
@@ -84,12 +87,12 @@ impl Given {
     }
 
     /// The failure that a refusal of the words is, with the place if there is one.
-    pub fn refused(&self, refusal: Refusal, due: Due) -> Failure {
+    pub fn refused(&self, refusal: Refusal, due: Due, levels: Option<&Levels>) -> Failure {
         match &self.mistaken {
-            Some(mistaken) if judged(&self.words, Due::Either).is_err() => {
+            Some(mistaken) if judged(&self.words, Due::Either, None).is_err() => {
                 Failure::Usage(format!("{}: {mistaken}", self.name))
             }
-            _ => Failure::Refused(refusal, self.place(refusal, due)),
+            _ => Failure::Refused(refusal, self.place(refusal, due, levels)),
         }
     }
 
@@ -101,19 +104,30 @@ impl Given {
         }
     }
 
-    fn place(&self, refusal: Refusal, due: Due) -> Option<String> {
+    fn place(&self, refusal: Refusal, due: Due, levels: Option<&Levels>) -> Option<String> {
+        let stops = || self.stops(refusal, due, levels);
         match refusal {
             Refusal::Length => Some(self.length(due)),
             Refusal::WordsEnd => Some(format!("after word {}, the last", self.words.len())),
             Refusal::Kind => Some(
                 self.other(due)
-                    .map_or_else(|| self.word(self.stops(refusal, due)), ToOwned::to_owned),
+                    .map_or_else(|| self.word(stops()), ToOwned::to_owned),
             ),
-            Refusal::Level | Refusal::Field | Refusal::WordsAfterTree => {
-                Some(self.word(self.stops(refusal, due)))
-            }
+            Refusal::Level | Refusal::WordsAfterTree => Some(self.word(stops())),
+            Refusal::Field => Some(self.field(stops(), due, levels)),
             Refusal::SheetNumber => self.sheet(),
             _ => None,
+        }
+    }
+
+    /// The word with a field that it may not hold, and whether that is an outcome which is no level.
+    fn field(&self, at: usize, due: Due, levels: Option<&Levels>) -> String {
+        let word = self.word(at);
+        match levels {
+            Some(levels) if judged(&self.words[..=at], due, None) != Err(Refusal::Field) => {
+                format!("{word}: its outcome is none of {} levels", levels.count())
+            }
+            _ => word,
         }
     }
 
@@ -156,8 +170,8 @@ impl Given {
 
     /// Where reading stops: the last word of the shortest beginning that the proved reader refuses for the same cause. It refuses every longer one for
     /// that cause too, and a shorter one because it ends.
-    fn stops(&self, refusal: Refusal, due: Due) -> usize {
-        let same = |words: &[u32]| judged(words, due).err() == Some(refusal);
+    fn stops(&self, refusal: Refusal, due: Due, levels: Option<&Levels>) -> usize {
+        let same = |words: &[u32]| judged(words, due, levels).err() == Some(refusal);
         last_of_shortest(self.words.len(), |length| same(&self.words[..length]))
     }
 
@@ -184,12 +198,30 @@ pub fn last_of_shortest(length: usize, is_refused: impl Fn(usize) -> bool) -> us
     shorter
 }
 
-/// What the proved reader says of words.
-fn judged(words: &[u32], due: Due) -> Result<(), Refusal> {
+/// What the proved reader says of words, by levels if there are any.
+fn judged(words: &[u32], due: Due, levels: Option<&Levels>) -> Result<(), Refusal> {
+    if let Some(levels) = levels {
+        return judged_by(levels, words, due);
+    }
     match due {
         Due::Sheet => Sheet::read(words).map(|_| ()),
         Due::Record => Record::read(words).map(|_| ()),
         Due::Either => Document::read(words).map(|_| ()),
+    }
+}
+
+/// The same by levels: a call with no facts and no room, under the number that a record has, is refused for its words, or else for want of room.
+fn judged_by(levels: &Levels, words: &[u32], due: Due) -> Result<(), Refusal> {
+    let told = if due == Due::Sheet {
+        partial_evaluate_by_levels(levels, words, 0, &[], &mut [])
+    } else {
+        let lead = words.first().map_or(0, |lead| lead >> 12 & 0xFFFF);
+        let number = u16::try_from(lead).unwrap_or_default();
+        complete_residual_by_levels(levels, words, number, &[], &mut [])
+    };
+    match told {
+        Ok(_) | Err(Refusal::Room) => Ok(()),
+        Err(refusal) => Err(refusal),
     }
 }
 

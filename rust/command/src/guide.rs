@@ -80,6 +80,20 @@ The text form
   An obligation may stand twice in a list. A grant has at most 64 of them, a
   permit-with-trace 127, all other lists 4095 items.
 
+Levels
+  Networks that grade access by levels, and not by products, give evaluate,
+  reduce, narrow and complete an outcome table: --levels FILE. It says how many
+  levels there are, 1 to 16, numbered from 0, and for each ordered pair of them
+  the level in which the two meet, and then so the one in which they join; #
+  begins a comment:
+    2       # levels
+    0 0 0 1 # meets of 0 and 0, 0 and 1, 1 and 0, 1 and 1
+    0 1 1 1 # joins
+  or the same numbers as bytes. Both have to be commutative and associative and
+  to absorb each other. The four digits of an outcome are then the number of a
+  level: all permits what its policies meet in, and any what they join in. Each
+  command of a road takes the same table.
+
 Windows
   A list of retention windows says what facts are while a reading has an age,
   one window a line; # begins a comment:

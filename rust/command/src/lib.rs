@@ -13,6 +13,7 @@ pub mod facts;
 pub mod form;
 pub mod given;
 pub mod guide;
+pub mod levels;
 pub mod numbers;
 pub mod register;
 pub mod text;

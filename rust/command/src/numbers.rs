@@ -38,6 +38,17 @@ pub fn sheet(text: &str) -> Result<u16, &'static str> {
     number(text).ok_or("a sheet's number from 0 to 65535")
 }
 
+/// How many levels an outcome table has, or says that it has.
+pub fn levels(text: &str) -> Result<u16, &'static str> {
+    number(text).ok_or("a number of levels")
+}
+
+/// A level, or what stands in the place of one.
+pub fn level(text: &str) -> Result<u8, &'static str> {
+    let level = number(text).and_then(|number| u8::try_from(number).ok());
+    level.ok_or("a level from 0 to 15")
+}
+
 /// A set of products.
 pub fn products(text: &str) -> Result<Products, &'static str> {
     let digits = text.len() == 4 && text.bytes().all(|byte| byte.is_ascii_hexdigit());

@@ -6,7 +6,7 @@ use std::io::Read;
 use std::path::Path;
 
 use vierskof::read::{Decision, Record};
-use vierskof::{Presence, RECORD_WORDS, Refusal, TABLE_BYTES, tight_room};
+use vierskof::{Levels, Presence, RECORD_WORDS, Refusal, TABLE_BYTES, tight_room};
 
 use crate::arguments::{
     Arguments, Asked, Call, Command, Facts, Input, Join, Packed, Reduction, Unpacked, Windowed,
@@ -16,6 +16,7 @@ use crate::facts;
 use crate::form::Form;
 use crate::given::{Due, Given, bytes_of, open};
 use crate::tight::{self, Tight};
+use crate::levels;
 use crate::windows::{self, List};
 
 /// Why there is no answer.
@@ -66,37 +67,48 @@ impl Done {
     }
 }
 
-/// A proved call that writes a record.
-type Proved = for<'o> fn(&[u32], u16, &[u8], &'o mut [u32]) -> Result<&'o [u32], Refusal>;
+/// A proved call that writes a record, by sets of products and by levels.
+type Proved = (Plain, ByLevels);
+type Plain = for<'o> fn(&[u32], u16, &[u8], &'o mut [u32]) -> Result<&'o [u32], Refusal>;
+type ByLevels =
+    for<'o> fn(&Levels, &[u32], u16, &[u8], &'o mut [u32]) -> Result<&'o [u32], Refusal>;
+
+const EVALUATE: Proved = (vierskof::evaluate, vierskof::evaluate_by_levels);
+const REDUCE: Proved = (
+    vierskof::partial_evaluate,
+    vierskof::partial_evaluate_by_levels,
+);
+const REDUCE_IN_ORDER: Proved = (
+    vierskof::partial_evaluate_in_order,
+    vierskof::partial_evaluate_in_order_by_levels,
+);
+const NARROW: Proved = (
+    vierskof::narrow_residual,
+    vierskof::narrow_residual_by_levels,
+);
+const NARROW_IN_ORDER: Proved = (
+    vierskof::narrow_residual_in_order,
+    vierskof::narrow_residual_in_order_by_levels,
+);
+const COMPLETE: Proved = (
+    vierskof::complete_residual,
+    vierskof::complete_residual_by_levels,
+);
 
 /// Carries a command out; what a file is due to hold and none is named comes from `stdin`.
 pub fn run(arguments: &Arguments, stdin: impl Read) -> Result<Done, Failure> {
     use Presence::{Absent, Unknown};
     match &arguments.command {
-        Command::Evaluate(call) => decide(call, stdin, Due::Sheet, vierskof::evaluate, Absent),
+        Command::Evaluate(call) => decide(call, stdin, Due::Sheet, EVALUATE, Absent),
         Command::Reduce(Reduction { call, in_order }) => {
-            let proved = if *in_order {
-                vierskof::partial_evaluate_in_order
-            } else {
-                vierskof::partial_evaluate
-            };
+            let proved = if *in_order { REDUCE_IN_ORDER } else { REDUCE };
             decide(call, stdin, Due::Sheet, proved, Unknown)
         }
         Command::Narrow(Reduction { call, in_order }) => {
-            let proved = if *in_order {
-                vierskof::narrow_residual_in_order
-            } else {
-                vierskof::narrow_residual
-            };
+            let proved = if *in_order { NARROW_IN_ORDER } else { NARROW };
             decide(call, stdin, Due::Record, proved, Unknown)
         }
-        Command::Complete(call) => decide(
-            call,
-            stdin,
-            Due::Record,
-            vierskof::complete_residual,
-            Absent,
-        ),
+        Command::Complete(call) => decide(call, stdin, Due::Record, COMPLETE, Absent),
         Command::Required(input) => required(input, stdin),
         Command::Show(shown) => rewritten(&shown.input, stdin, shown.to),
         Command::Assemble(assembled) => rewritten(&assembled.input, stdin, assembled.to),
@@ -112,23 +124,30 @@ fn decide(
     call: &Call,
     stdin: impl Read,
     due: Due,
-    proved: Proved,
+    (plain, by_levels): Proved,
     rest: Presence,
 ) -> Result<Done, Failure> {
     let given = Given::read(&call.input, stdin)?;
     let table = table(&call.facts, rest)?;
+    let levels = call.levels.as_deref().map(levels::read).transpose()?;
+    let levels = levels.as_ref();
     let mut out = vec![0; RECORD_WORDS];
-    let record = proved(&given.words, call.sheet, &table, &mut out).map_err(|refusal| {
+    let written = match levels {
+        Some(levels) => by_levels(levels, &given.words, call.sheet, &table, &mut out),
+        None => plain(&given.words, call.sheet, &table, &mut out),
+    };
+    let record = written.map_err(|refusal| {
         let told = match refusal {
             Refusal::Contradiction => facts::contradicted(&given.words, &table),
             _ => facts::faulty(&table, refusal).map(|fact| format!("fact {fact}")),
         };
         told.map_or_else(
-            || given.refused(refusal, due),
+            || given.refused(refusal, due, levels),
             |told| Failure::Refused(refusal, Some(told)),
         )
     })?;
     let document = Document::read(record).map_err(|refusal| Failure::Refused(refusal, None))?;
+    let document = document.by_levels(levels.is_some());
     let status = if call.status { effect(record) } else { 0 };
     Ok(Done {
         bytes: call.to.write(&document),
@@ -167,7 +186,7 @@ fn in_force(asked: &Asked, stdin: impl Read) -> Result<Done, Failure> {
 }
 
 fn judged(given: &Given) -> Result<Document<'_>, Failure> {
-    Document::read(&given.words).map_err(|refusal| given.refused(refusal, Due::Either))
+    Document::read(&given.words).map_err(|refusal| given.refused(refusal, Due::Either, None))
 }
 
 fn join(tables: &Join) -> Result<Done, Failure> {
@@ -229,7 +248,7 @@ fn pack(packed: &Packed, stdin: impl Read) -> Result<Done, Failure> {
     let call = tight::packing(&given.words);
     let mut out = vec![0; tight_room(given.words.len())];
     let bytes = call(&given.words, &mut out);
-    let bytes = bytes.map_err(|refusal| given.refused(refusal, Due::Either))?;
+    let bytes = bytes.map_err(|refusal| given.refused(refusal, Due::Either, None))?;
     Ok(Done::plainly(if packed.hex {
         facts::digits(bytes).into_bytes()
     } else {

@@ -4,9 +4,13 @@ use std::fmt::{UpperHex, Write as _};
 
 use crate::case::{Answer, Call, Case};
 use crate::join::Join;
+use crate::levels::ByLevels;
 use crate::reference::FactSet;
 use crate::refusal::Refusal;
 use crate::register::Question;
+
+/// What the number of a stored call has beside the call's own, if it goes by an outcome table.
+const BY_LEVELS: u8 = 32;
 
 /// Words of a set of facts: sixteen 64-bit numbers, the upper half of each first.
 const SET_WORDS: usize = 32;
@@ -43,6 +47,24 @@ pub fn joins(made_by: &str, joins: &[Join]) -> Vec<u8> {
         }
         bytes.extend([one.as_slice(), two, &written].concat());
     }
+    bytes
+}
+
+/// A call by an outcome table in the same form as [`stored`], with [`BY_LEVELS`] in its number. In front of the fact table, in its place, stand the count of
+/// levels, 32 bits, the bytes of the outcome table, 16 bits, and these bytes.
+pub fn by_levels(by: &ByLevels) -> Vec<u8> {
+    let outcomes = &by.levels.bytes;
+    let length = u16::try_from(outcomes.len()).expect("a stored number has 16 bits");
+    let mut table = by.levels.count.to_be_bytes().to_vec();
+    table.extend(length.to_be_bytes());
+    table.extend(outcomes);
+    table.extend(&by.case.table);
+    let case = Case {
+        table,
+        ..by.case.clone()
+    };
+    let mut bytes = stored(&case, &by.answer());
+    bytes[1] |= BY_LEVELS;
     bytes
 }
 

@@ -6,6 +6,7 @@ pub mod damage;
 pub mod exhaustive;
 pub mod grow;
 pub mod joins;
+pub mod levels;
 pub mod limits;
 pub mod numbers;
 pub mod registers;

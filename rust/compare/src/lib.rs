@@ -2,7 +2,8 @@
 //!
 //! [`words`] is document 01's format, [`reference`] the calls on sheets and records, [`listing`]
 //! the listing's bytes; [`register`], [`join`], [`windows`] and [`tight`] answer for the register of
-//! sheets, the join of tables, retention windows and the tight form, which the original lacks.
+//! sheets, the join of tables, retention windows and the tight form, which the original lacks; [`levels`] are outcome tables,
+//! by which the original answers too.
 //! [`worked`] has document 01's worked sheets as cases, [`generate`] makes cases from a seed;
 //! [`repeats`] tells how much of request 3 is in them, and [`silence`] how much of request 9; [`answers`] and [`rows`] write cases with their answers. With the feature `proved`, `proved` compares the proved calls with them.
 
@@ -10,6 +11,7 @@ pub mod answers;
 pub mod case;
 pub mod generate;
 pub mod join;
+pub mod levels;
 pub mod listing;
 pub mod narrow;
 pub mod products;

@@ -6,7 +6,7 @@ use std::{fs, io};
 use clap::{Parser, Subcommand, ValueEnum};
 use compare::case::{Call, Case};
 use compare::generate::rng::Rng;
-use compare::generate::{cases, joins, limits, registers};
+use compare::generate::{cases, joins, levels, limits, registers};
 use compare::{answers, rows, worked};
 
 /// Cases of document 01's calls, and what the original answers to them.
@@ -24,7 +24,7 @@ enum Command {
         sample: Sample,
     },
     /// Stored answers of all calls on sheets and records, cases at the limits and then drawn ones, a tenth of them with obligations that repeat and a tenth
-    /// with silence in entries and tables; and as many registers as a tenth of these.
+    /// with silence in entries and tables; as many registers as a tenth of these, and as many calls by outcome tables as a fifth.
     Calls {
         #[command(flatten)]
         sample: Sample,
@@ -39,6 +39,13 @@ enum Command {
     },
     /// Stored joins of tables, with what the comparison's own join answers.
     Joins {
+        #[command(flatten)]
+        sample: Sample,
+    },
+    /// Compares the proved calls by outcome tables with the original, and a tenth as many chains by one table with one sitting, and shows the first that
+    /// differs.
+    #[cfg(feature = "proved")]
+    ProvedLevels {
         #[command(flatten)]
         sample: Sample,
     },
@@ -192,6 +199,10 @@ fn main() -> io::Result<()> {
             let mut bytes = answers::file(&sample.command("calls"), &cases);
             let questions = registers::draw(sample.seed, sample.count / 10);
             questions.for_each(|question| bytes.extend(answers::asked(&question)));
+            for mut by in levels::draw(sample.seed, sample.count / 5) {
+                by.case.number = by.case.number.min(0xFFFF);
+                bytes.extend(answers::by_levels(&by));
+            }
             sample.write(&bytes)
         }
         Command::Rows { sample, part } => {
@@ -202,6 +213,8 @@ fn main() -> io::Result<()> {
             let joins = joins::draw(sample.seed, sample.count);
             sample.write(&answers::joins(&sample.command("joins"), &joins))
         }
+        #[cfg(feature = "proved")]
+        Command::ProvedLevels { sample } => proved_levels(&sample),
         #[cfg(feature = "proved")]
         Command::Proved { sample } => proved(&sample),
         #[cfg(feature = "proved")]
@@ -261,6 +274,49 @@ fn proved(sample: &Sample) -> io::Result<()> {
     }
     println!(
         "{} cases and {0} joins, seed {}: no difference; {numbered} accepted under a number, {of_others} refused by 16, {against} by 17; {half_known} with a known grant whose condition names an Unknown fact; {repeated}; {silent}",
+        sample.count, sample.seed
+    );
+    Ok(())
+}
+
+/// In batches as well.
+#[cfg(feature = "proved")]
+fn proved_levels(sample: &Sample) -> io::Result<()> {
+    use compare::levels::Tally;
+    use compare::narrow::Order::{PermitsFirst, SheetOrder};
+    use compare::proved::levels::{agrees, ends_as_one_sitting};
+
+    const BATCH: usize = 20_000;
+    let orders = [
+        &[PermitsFirst][..],
+        &[SheetOrder],
+        &[PermitsFirst, SheetOrder],
+    ];
+    let mut tally = Tally::default();
+    let mut chains = 0;
+    for (batch, first) in (0..sample.count).step_by(BATCH).enumerate() {
+        let count = BATCH.min(sample.count - first);
+        let seed = sample.seed + batch as u64;
+        for by in levels::draw(seed, count) {
+            if !agrees(&by) {
+                let line = by.line();
+                return Err(io::Error::other(format!("differs: {line}")));
+            }
+            tally.add(&by);
+        }
+        let mut rng = Rng::new(seed);
+        for _ in 0..count / 10 {
+            let (table, chain) = levels::chain_by(&mut rng);
+            let orders = rng.pick(&orders);
+            if !ends_as_one_sitting(&mut rng, &table, &chain, orders) {
+                let found = format!("a chain differs: {table:?} {chain:X?}");
+                return Err(io::Error::other(found));
+            }
+            chains += 1;
+        }
+    }
+    println!(
+        "{} calls by outcome tables and {chains} chains, seed {}: no difference; {tally}",
         sample.count, sample.seed
     );
     Ok(())

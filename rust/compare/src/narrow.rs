@@ -1,10 +1,9 @@
-//! Narrowing, and reduction in sheet order, from document 01's 'Reducing' and 'Narrowing' and from requests 3, 8 and 9 alone: the original has no such calls.
+//! Narrowing, and reduction in sheet order, from document 01's 'Reducing' and 'Narrowing' and from requests 3, 8, 9 and 14 alone: the original has no such calls.
 
 mod in_order;
 
-use gatekeep::Presence;
+use gatekeep::{Lattice, Presence};
 
-use crate::products::Products;
 use crate::words::table::Table;
 use crate::words::tree::{Condition, Decided, Deny, Entry, Grant, Permit, Record, Residual, Tree};
 
@@ -222,7 +221,7 @@ impl<'a> Walk<'a> {
     }
 
     fn join(&mut self, earlier: Permit, incoming: Permit) -> Permit {
-        let outcome = Products(earlier.outcome.0 | incoming.outcome.0);
+        let outcome = earlier.outcome.join(&incoming.outcome);
         match (outcome == earlier.outcome, outcome == incoming.outcome) {
             (true, true) => Permit {
                 obligations: self.unite(&earlier, &incoming),
@@ -343,7 +342,7 @@ fn folded(arms: Arms, fold: impl FnMut(Permit, Permit) -> Permit) -> Decided {
 }
 
 fn meet(earlier: Permit, incoming: Permit) -> Permit {
-    let outcome = Products(earlier.outcome.0 & incoming.outcome.0);
+    let outcome = earlier.outcome.meet(&incoming.outcome);
     if outcome == earlier.outcome {
         earlier
     } else if outcome == incoming.outcome {

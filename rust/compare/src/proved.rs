@@ -1,6 +1,7 @@
 //! The proved calls against the original, or against the comparison's own where it has no such call: answer, every word of the output before and after, sets and refusals.
 
 mod c;
+pub mod levels;
 
 use crate::case::{Answer, Call, Case};
 use crate::join::Join;

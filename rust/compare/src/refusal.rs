@@ -40,6 +40,8 @@ pub enum Refusal {
     BitsEnd = 19,
     /// The last byte of a tight form isn't filled with 0 bits, or a byte follows.
     Filler = 20,
+    /// An outcome table that is not accepted.
+    OutcomeTable = 21,
 }
 
 impl Refusal {

@@ -4,6 +4,7 @@ use std::slice;
 
 use compare::case::{Answer, Call, Case};
 use compare::join::Join;
+use compare::levels::{Given, by_levels};
 use compare::reference::{FactSet, evaluate};
 use compare::refusal::Refusal;
 use compare::register::Question;
@@ -11,7 +12,29 @@ use compare::tight::{Kind, Packing, Unpacking};
 use compare::words::tree::{Decided, Record};
 use compare::words::{RECORD_WORDS, read};
 
-/// Answers as the C interface does, and leaves in `out` what it leaves: a record's words, or a set's numbers, the lower half of each first.
+/// An outcome table, as the fuzzer has it.
+#[repr(C)]
+pub struct Outcomes {
+    levels: u32,
+    table: *const u8,
+    bytes: usize,
+}
+
+impl Outcomes {
+    /// # Safety
+    ///
+    /// Behind the pointer there are as many bytes as the number after it says.
+    unsafe fn given(&self) -> Given {
+        // SAFETY: what the caller has to see to.
+        let table = unsafe { slice::from_raw_parts(self.table, self.bytes) };
+        Given {
+            count: self.levels,
+            bytes: table.to_vec(),
+        }
+    }
+}
+
+/// Answers as the C interface does, by an outcome table if there is one, and leaves in `out` what it leaves: a record's words, or a set's numbers, the lower half of each first.
 ///
 /// # Safety
 ///
@@ -19,6 +42,7 @@ use compare::words::{RECORD_WORDS, read};
 #[unsafe(no_mangle)]
 pub unsafe extern "C" fn judge_answer(
     call: usize,
+    by: Option<&Outcomes>,
     words: *const u32,
     count: usize,
     number: u32,
@@ -45,7 +69,13 @@ pub unsafe extern "C" fn judge_answer(
         number,
         room,
     };
-    match case.answer() {
+    // SAFETY: what the caller has to see to.
+    let given = by.map(|by| unsafe { by.given() });
+    let answer = match given {
+        Some(given) if call.writes() => by_levels(&given, || case.answer()).and_then(|told| told),
+        _ => case.answer(),
+    };
+    match answer {
         Ok(Answer::Record(record)) => {
             out[..record.len()].copy_from_slice(&record);
             record.len() as u64
@@ -64,7 +94,7 @@ pub unsafe extern "C" fn judge_answer(
     }
 }
 
-/// Whether the original evaluates a sheet to the clause of a Resolved record: effect, outcome, denied outcome, obligations, label, reason and shape. Fact
+/// Whether the original evaluates a sheet, by an outcome table if there is one, to the clause of a Resolved record: effect, outcome, denied outcome, obligations, label, reason and shape. Fact
 /// lists and consulted facts are not looked at.
 ///
 /// # Safety
@@ -72,6 +102,7 @@ pub unsafe extern "C" fn judge_answer(
 /// Behind each pointer there are as many elements as the number after it says.
 #[unsafe(no_mangle)]
 pub unsafe extern "C" fn judge_clause(
+    by: Option<&Outcomes>,
     words: *const u32,
     count: usize,
     known: *const u8,
@@ -87,7 +118,13 @@ pub unsafe extern "C" fn judge_clause(
             slice::from_raw_parts(record, length),
         )
     };
-    let sitting = evaluate(sheet, 0, known, RECORD_WORDS);
+    // SAFETY: what the caller has to see to.
+    let given = by.map(|by| unsafe { by.given() });
+    let evaluated = || evaluate(sheet, 0, known, RECORD_WORDS);
+    let sitting = match given {
+        Some(given) => by_levels(&given, evaluated).and_then(|told| told),
+        None => evaluated(),
+    };
     sitting.is_ok_and(|sitting| clause(record).is_some_and(|found| clause(&sitting) == Some(found)))
 }
 

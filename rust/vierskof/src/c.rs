@@ -37,6 +37,51 @@ macro_rules! writes {
     };
 }
 
+/// Calls that write a record by an outcome table: its levels and bytes, then as above.
+macro_rules! writes_by {
+    ($($call:ident = $symbol:ident;)*) => {
+        unsafe extern "C" {
+            $(fn $symbol(
+                levels: u32,
+                outcomes: *const u8,
+                outcome_bytes: usize,
+                words: *const u32,
+                count: usize,
+                number: u32,
+                facts: *const u8,
+                bytes: usize,
+                out: *mut u32,
+                room: usize,
+            ) -> u64;)*
+        }
+        $(pub fn $call(
+            levels: u32,
+            outcomes: &[u8],
+            words: &[u32],
+            number: u16,
+            facts: &[u8],
+            out: &mut [u32],
+        ) -> u64 {
+            let room = out.len();
+            // SAFETY: as for the calls that write.
+            unsafe {
+                $symbol(
+                    levels,
+                    outcomes.as_ptr(),
+                    outcomes.len(),
+                    words.as_ptr(),
+                    words.len(),
+                    u32::from(number),
+                    facts.as_ptr(),
+                    facts.len(),
+                    out.as_mut_ptr(),
+                    room,
+                )
+            }
+        })*
+    };
+}
+
 /// Calls that join tables: two tables and an output. The value is the count of bytes written.
 macro_rules! joins {
     ($($call:ident = $symbol:ident;)*) => {
@@ -128,6 +173,15 @@ writes! {
     complete_residual = vierskof_complete_residual;
     partial_evaluate_in_order = vierskof_partial_evaluate_in_order;
     narrow_residual_in_order = vierskof_narrow_residual_in_order;
+}
+
+writes_by! {
+    evaluate_by_levels = vierskof_evaluate_by_levels;
+    partial_evaluate_by_levels = vierskof_partial_evaluate_by_levels;
+    narrow_residual_by_levels = vierskof_narrow_residual_by_levels;
+    complete_residual_by_levels = vierskof_complete_residual_by_levels;
+    partial_evaluate_in_order_by_levels = vierskof_partial_evaluate_in_order_by_levels;
+    narrow_residual_in_order_by_levels = vierskof_narrow_residual_in_order_by_levels;
 }
 
 joins! {

@@ -466,7 +466,7 @@ pub fn unpack_record<'o>(bytes: &[u8], out: &'o mut [u32]) -> Result<&'o [u32], 
 }
 
 /// The words or bytes written.
-fn written<T>(returned: u64, out: &mut [T]) -> Result<&[T], Refusal> {
+pub(crate) fn written<T>(returned: u64, out: &mut [T]) -> Result<&[T], Refusal> {
     let count = value(returned)? as usize;
     out.get(..count).ok_or(Refusal::Room)
 }

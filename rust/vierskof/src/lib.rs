@@ -10,7 +10,8 @@
 //! lends. [`build`] makes a sheet's words, [`read`] gives words back as typed values, and
 //! [`FactTable`] holds what is known. [`in_force`] tells which sheet of a register rules for a group
 //! on a day, [`join_tables`] makes one table of two, [`apply_windows`] sets facts by the age of a
-//! reading, and [`pack_sheet`] and [`pack_record`] make a tight form for a narrow link.
+//! reading, and [`pack_sheet`] and [`pack_record`] make a tight form for a narrow link. Networks that grade access by levels, and not by products, give the calls their
+//! [`Levels`].
 //!
 //! No call blocks, allocates, keeps state or panics, and none needs more than 256 KiB of stack: on a
 //! thread with less, a deep or long sheet may overflow it. Calls on separate outputs may run at the
@@ -120,6 +121,44 @@
 //! # }
 //! ```
 //!
+//! # By levels
+//!
+//! An outcome is a set of products, or the number of a level. What any two levels meet and join in is
+//! said by [`Levels`], an outcome table, which the calls by levels are given: all of a chain the same one.
+//!
+//! ```
+//! use vierskof::build::{Condition, Grant, Policy};
+//! use vierskof::read::{Decision, Record};
+//! use vierskof::{Fact, FactTable, Levels, Presence, Products};
+//!
+//! const PARTNER: Fact = Fact::new(5).unwrap();
+//!
+//! # fn main() -> Result<(), Box<dyn core::error::Error>> {
+//! // Level 0 below 1 and 2, which can't be compared, and these below 3.
+//! let meets = [0, 0, 0, 0, 0, 1, 0, 1, 0, 0, 2, 2, 0, 1, 2, 3];
+//! let joins = [0, 1, 2, 3, 1, 1, 3, 3, 2, 3, 2, 3, 3, 3, 3, 3];
+//! let levels = Levels::new(4, &[meets, joins].concat())?;
+//! assert_eq!((levels.meet(1, 2), levels.join(1, 2)), (Some(0), Some(3)));
+//!
+//! // Everybody has level 1, and partners level 2 as well.
+//! let partner = Condition::Has(PARTNER);
+//! let arms = [
+//!     Policy::Permit(Products::from_bits(1)),
+//!     Policy::Grant(Grant::new(Products::from_bits(2), &partner)),
+//! ];
+//! let mut words = [0; 8];
+//! let sheet = Policy::Any(&arms).write(&mut words)?;
+//! let facts = FactTable::new().with(PARTNER, Presence::Present);
+//! let mut out = [0; vierskof::room(8)];
+//! let record = vierskof::evaluate_by_levels(&levels, sheet.words(), 0, facts.as_bytes(), &mut out)?;
+//! let Some(Decision::Permit(permit)) = Record::read(record)?.decision() else {
+//!     panic!("level 1 is everybody's");
+//! };
+//! assert_eq!(permit.outcome().bits(), 3);
+//! # Ok(())
+//! # }
+//! ```
+//!
 //! # Refusals
 //!
 //! A call that can't answer says why by a [`Refusal`], and leaves its output as it was.
@@ -149,6 +188,7 @@
 mod c;
 mod calls;
 mod facts;
+mod levels;
 mod numbers;
 mod products;
 mod refusal;
@@ -166,6 +206,11 @@ pub use calls::{
     required_residual_facts, unpack_record, unpack_sheet,
 };
 pub use facts::{FactSet, FactSetIter, FactTable, Presence};
+pub use levels::{
+    Levels, complete_residual_by_levels, evaluate_by_levels, narrow_residual_by_levels,
+    narrow_residual_in_order_by_levels, partial_evaluate_by_levels,
+    partial_evaluate_in_order_by_levels,
+};
 pub use numbers::{Fact, Label, Obligation, OutOfRange, Reason};
 pub use products::Products;
 pub use refusal::Refusal;

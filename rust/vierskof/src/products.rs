@@ -5,6 +5,10 @@ use core::ops::{BitAnd, BitOr};
 
 /// A set of the sixteen products, one bit each, product 0 the lowest: what a policy permits.
 ///
+/// In what is decided by [`Levels`](crate::Levels) the same sixteen bits are the number of a level: [`from_bits`](Self::from_bits) and
+/// [`bits`](Self::bits) take and give it. Meet, join, `&` and `|` of this type are those of sets and say nothing of levels: ask
+/// [`Levels::meet`](crate::Levels::meet) and [`Levels::join`](crate::Levels::join).
+///
 /// ```
 /// use vierskof::Products;
 ///

@@ -8,7 +8,7 @@ use crate::OutOfRange;
 /// Why a call was turned back.
 ///
 /// The discriminant is the cause's number; 9 is free, and no call returns it. Where there are several causes, the call names the first
-/// that its reading meets: the length of the words, then the table, then the words from the first,
+/// that its reading meets: the outcome table if it has one, the length of the words, then the table, then the words from the first,
 /// then what follows them, then a record's number, then, of a narrowing, whether the table contradicts
 /// the record, then the room. A register has one cause alone. A join looks at both
 /// lengths, both tables' fields, whether they clash, then the room. For windows it is the dates,
@@ -42,7 +42,7 @@ pub enum Refusal {
     WordsEnd = 6,
     /// A node stands on a 33rd level.
     Level = 7,
-    /// A field that must be 0 isn't, an obligation is over 63, or a grant has over 64 of them.
+    /// A field that must be 0 isn't, an obligation is over 63, a grant has over 64 of them, or, in a call by levels, an outcome is no level.
     Field = 8,
     /// There are words after the tree.
     WordsAfterTree = 10,
@@ -65,6 +65,9 @@ pub enum Refusal {
     BitsEnd = 19,
     /// The last byte of a tight form isn't filled with 0 bits, or a byte follows, be it 0.
     Filler = 20,
+    /// An outcome table has no level or over 16, another length than twice the square of their number, a byte that is no level, or operations that are not
+    /// commutative, associative and absorbing.
+    OutcomeTable = 21,
 }
 
 impl Refusal {
@@ -88,6 +91,7 @@ impl Refusal {
         Self::Contradiction,
         Self::BitsEnd,
         Self::Filler,
+        Self::OutcomeTable,
     ];
 
     /// The number of the cause.
@@ -118,6 +122,7 @@ impl Refusal {
             Self::Contradiction => "the table contradicts a reading that the record has",
             Self::BitsEnd => "the bits end before a field is complete",
             Self::Filler => "the last byte is not filled with 0 bits, or a byte follows",
+            Self::OutcomeTable => "the outcome table is not accepted",
         }
     }
 }

@@ -1,90 +1,22 @@
--- `calls::complete_residual` meets its contract. Assumes nothing.
-use mathlib.Core.Path.{refl, sym, ap, _∙_}
-use mathlib.Core.Bool.{true, false}
-use Rattle.model.specs.Facts.{tableOf}
-use Rattle.model.specs.Products.{completedFrom}
-use Rattle.policy_model.specs.Answers.{recordLead}
-use Rattle.completion.specs.Answers.{completedAfter}
-use Rattle.calls.proofs.Records.{record-few, record-number, record-refused, record-copied, record-made}
+-- `calls::complete_residual` meets its contract: that of the call without a table. Assumes nothing.
+use Rattle.model.specs.Calls as model
+use lib.ListN.{length}
+use Rattle.calls.proofs.Levels.{without-table}
 use borrow.Author.Needs.{needs}
 use Rattle.calls.proofs.complete_residual.Statement.{statement}
 use Rattle.calls.proofs.complete_residual.Tie as tie
 
-judge-record-requires : tie.Need-judge-record-requires
-judge-record-requires c κs = search needs
-
-enum-known-cause : tie.Need-enum-known-cause
-enum-known-cause c = search needs
-
-enum-told : tie.Need-enum-told
-enum-told c = search needs
-
-copy-record-requires : tie.Need-copy-record-requires
-copy-record-requires c κs = search needs
-
-enum-known-consulted : tie.Need-enum-known-consulted
-enum-known-consulted c = search needs
-
-cast-complete : tie.Need-cast-complete
-cast-complete c = search needs
-
-complete-requires : tie.Need-complete-requires
-complete-requires c κs =
-    let told = c .before .before in
-    let judge = told .before .before in
-    let args = judge .before .before .before .before .args in
-    record-few true (args .number) (args .words .now) (args .facts .now) _ (ap recordLead (sym (told .consulted .given .1)) ∙ judge .judge-record .ensures)
-
-under-number-requires : tie.Need-under-number-requires
-under-number-requires c κs =
-    let told = c .before .before .before .before .before .before in
-    let judge = told .before .before in
-    let args = judge .before .before .before .before .args in
-    record-number true (args .number) (args .words .now) (args .facts .now) _ (ap recordLead (sym (told .consulted .given .1)) ∙ judge .judge-record .ensures)
-
-returns : tie.Need-returns
-returns c =
-    let judge = c .before .before .before in
-    let args = judge .before .before .before .before .args in
-    record-refused true (args .number) (args .words .now) (args .facts .now) (completedFrom (tableOf (args .facts .now))) (λ l. false) (args .out .now) _ (ap recordLead (sym (c .before .cause .given .1)) ∙ judge .judge-record .ensures)
+complete-residual-by-requires : tie.Need-complete-residual-by-requires
+complete-residual-by-requires c κs = search needs
 
 same-length : tie.Need-same-length
 same-length c = search needs
 
-returns-2 : tie.Need-returns-2
-returns-2 c =
-    let done = c .before .before in
-    let told = done .before .before in
-    let judge = told .before .before in
-    let args = judge .before .before .before .before .args in
-    record-copied true (args .number) (args .words .now) (args .facts .now) (completedFrom (tableOf (args .facts .now))) (λ l. false) (args .out .now) (λ d l. refl) _ _ (ap recordLead (sym (told .enum-told .given .1)) ∙ judge .judge-record .ensures) (λ x vs q k. refl) (done .copy-record .ensures)
-
-same-length-2 : tie.Need-same-length-2
-same-length-2 c = search needs
-
-returns-3 : tie.Need-returns-3
-returns-3 c =
-    let done = c .before .before in
-    let made = done .before .before .before .before in
-    let told = made .before .before .before in
-    let judge = told .before .before in
-    let args = judge .before .before .before .before .args in
-    record-made true (args .number) (args .words .now) (args .facts .now) (completedFrom (tableOf (args .facts .now))) (λ l. false) (args .out .now) (completedAfter (tableOf (args .facts .now))) (λ t l. refl) _ _ (ap recordLead (sym (told .consulted .given .1)) ∙ judge .judge-record .ensures) (λ x vs q k. refl) (made .complete .ensures) (done .under-number .ensures)
+returns : tie.Need-returns
+returns c =
+    let made = c .before .before in
+    let args = made .before .before .before .before .before .args in
+    without-table (λ L. model.completeResidual L (args .number) (args .words .now) (args .facts .now) (length (args .out .now))) (args .facts .now) (made .complete-residual-by .ensures)
 
 pub complete-residual-spec : {M : Type 1} → statement M
-complete-residual-spec =
-    tie.close
-    (tie.spec
-    judge-record-requires
-    enum-known-cause
-    enum-told
-    copy-record-requires
-    enum-known-consulted
-    cast-complete
-    complete-requires
-    under-number-requires
-    returns
-    same-length
-    returns-2
-    same-length-2
-    returns-3)
+complete-residual-spec = tie.close (tie.spec complete-residual-by-requires same-length returns)

@@ -10,10 +10,10 @@ use Rattle.calls.proofs.judge_sheet.Statement.{statement}
 use Rattle.calls.proofs.judge_sheet.Tie as tie
 
 returns : tie.Need-returns
-returns c = ap refusal (sym (no-words (length (c .before .before .before .args .sheet .now)) sheetWords _ _ (c .if1 .taken)))
+returns c outcomes = ap refusal (sym (no-words (length (c .before .before .before .args .sheet .now)) sheetWords _ _ (c .if1 .taken)))
 
 returns-2 : tie.Need-returns-2
-returns-2 c = ap refusal (sym (too-many-words (length (c .before .before .before .before .args .sheet .now)) sheetWords _ _ (c .if2 .taken)))
+returns-2 c outcomes = ap refusal (sym (too-many-words (length (c .before .before .before .before .args .sheet .now)) sheetWords _ _ (c .if2 .taken)))
 
 table-fault-requires : tie.Need-table-fault-requires
 table-fault-requires c κs = search needs
@@ -28,16 +28,16 @@ check-sheet-requires : tie.Need-check-sheet-requires
 check-sheet-requires c κs = search needs
 
 returns-3 : tie.Need-returns-3
-returns-3 c =
+returns-3 c outcomes =
     let fault = c .before .before .before in
     let left = fault .before in
     ap refusal (sym (bad-table (length (left .before .before .before .before .args .sheet .now)) sheetWords _ _ (left .before .if1 .left) (left .if2 .left) _ (ap faultOf (sym (c .before .cause .given .1)) ∙ fault .table-fault .ensures)))
 
 returns-4 : tie.Need-returns-4
-returns-4 c =
+returns-4 c outcomes =
     let fault = c .before .before .before in
     let left = fault .before in
-    c .check-sheet .ensures
+    c .check-sheet .ensures outcomes
     ∙ ap refusal (sym (good-table (length (left .before .before .before .before .args .sheet .now)) sheetWords _ _ (left .before .if1 .left) (left .if2 .left) (ap faultOf (sym (c .before .enum-told .given .1)) ∙ fault .table-fault .ensures)))
 
 pub judge-sheet-spec : {M : Type 1} → statement M

@@ -1,7 +1,10 @@
 -- `calls::narrow_residual_by` meets its contract. Assumes nothing.
 use mathlib.Core.Path.{refl, sym, ap, _∙_}
 use mathlib.Core.Bool.{false}
+use native.Mathlib.Omega.{arith}
 use Rattle.model.specs.Facts.{tableOf}
+use Rattle.outcome.specs.Carried.{carried}
+use Rattle.outcome.specs.CarriedLaws.{few-carried}
 use Rattle.model.specs.Consulted.{anyContradicted}
 use Rattle.model.specs.Products.{narrowedFrom}
 use Rattle.policy_model.specs.Answers.{recordLead}
@@ -32,8 +35,11 @@ returns c =
     let found = c .before in
     let told = found .before .before in
     let judge = told .before .before in
-    let args = judge .before .before .before .before .args in
-    record-contradicted false (args .number) (args .words .now) (args .facts .now) (narrowedFrom (orderOf (args .in-order)) (tableOf (args .facts .now))) (anyContradicted (tableOf (args .facts .now))) (args .out .now) _ _ _ (ap recordLead (sym (told .consulted .given .1)) ∙ judge .judge-record .ensures) (λ x vs q k. sym (c .if1 .taken) ∙ entries-found false (args .number) (args .words .now) (args .facts .now) (found .contradicted .ensures) x vs q k)
+    let start = judge .before .before .before .before .before in
+    let args = start .args in
+    let g = (carried (args .outcome-levels) (args .outcomes .now)) in
+    let few = few-carried (args .outcome-levels) (args .outcomes .now) (omega (arith, start)) in
+    record-contradicted g few false (args .number) (args .words .now) (args .facts .now) (narrowedFrom g (orderOf (args .in-order)) (tableOf (args .facts .now))) (anyContradicted (tableOf (args .facts .now))) (args .out .now) _ _ _ (ap recordLead (sym (told .consulted .given .1)) ∙ judge .judge-record .ensures (args .outcomes .now)) (λ x vs q k. sym (c .if1 .taken) ∙ entries-found g few false (args .number) (args .words .now) (args .facts .now) (found .contradicted .ensures) x vs q k)
 
 copy-record-requires : tie.Need-copy-record-requires
 copy-record-requires c κs = search needs
@@ -52,8 +58,11 @@ returns-2 c =
     let found = c .before in
     let told = found .before .before in
     let judge = told .before .before in
-    let args = judge .before .before .before .before .args in
-    record-contradicted false (args .number) (args .words .now) (args .facts .now) (narrowedFrom (orderOf (args .in-order)) (tableOf (args .facts .now))) (anyContradicted (tableOf (args .facts .now))) (args .out .now) _ _ _ (ap recordLead (sym (told .consulted2 .given .1)) ∙ judge .judge-record .ensures) (λ x vs q k. sym (c .if2 .taken) ∙ entries-found false (args .number) (args .words .now) (args .facts .now) (found .contradicted2 .ensures) x vs q k)
+    let start = judge .before .before .before .before .before in
+    let args = start .args in
+    let g = (carried (args .outcome-levels) (args .outcomes .now)) in
+    let few = few-carried (args .outcome-levels) (args .outcomes .now) (omega (arith, start)) in
+    record-contradicted g few false (args .number) (args .words .now) (args .facts .now) (narrowedFrom g (orderOf (args .in-order)) (tableOf (args .facts .now))) (anyContradicted (tableOf (args .facts .now))) (args .out .now) _ _ _ (ap recordLead (sym (told .consulted2 .given .1)) ∙ judge .judge-record .ensures (args .outcomes .now)) (λ x vs q k. sym (c .if2 .taken) ∙ entries-found g few false (args .number) (args .words .now) (args .facts .now) (found .contradicted2 .ensures) x vs q k)
 
 cast-narrow : tie.Need-cast-narrow
 cast-narrow c = search needs
@@ -62,22 +71,31 @@ narrow-requires : tie.Need-narrow-requires
 narrow-requires c κs =
     let told = c .before .before .before .before in
     let judge = told .before .before in
-    let args = judge .before .before .before .before .args in
-    record-few false (args .number) (args .words .now) (args .facts .now) _ (ap recordLead (sym (told .consulted2 .given .1)) ∙ judge .judge-record .ensures)
+    let start = judge .before .before .before .before .before in
+    let args = start .args in
+    let g = (carried (args .outcome-levels) (args .outcomes .now)) in
+    let few = few-carried (args .outcome-levels) (args .outcomes .now) (omega (arith, start)) in
+    record-few g few false (args .number) (args .words .now) (args .facts .now) _ (ap recordLead (sym (told .consulted2 .given .1)) ∙ judge .judge-record .ensures (args .outcomes .now))
 
 under-number-requires : tie.Need-under-number-requires
 under-number-requires c κs =
     let told = c .before .before .before .before .before .before .before .before in
     let judge = told .before .before in
-    let args = judge .before .before .before .before .args in
-    record-number false (args .number) (args .words .now) (args .facts .now) _ (ap recordLead (sym (told .consulted2 .given .1)) ∙ judge .judge-record .ensures)
+    let start = judge .before .before .before .before .before in
+    let args = start .args in
+    let g = (carried (args .outcome-levels) (args .outcomes .now)) in
+    let few = few-carried (args .outcome-levels) (args .outcomes .now) (omega (arith, start)) in
+    record-number g few false (args .number) (args .words .now) (args .facts .now) _ (ap recordLead (sym (told .consulted2 .given .1)) ∙ judge .judge-record .ensures (args .outcomes .now))
 
 returns-3 : tie.Need-returns-3
 returns-3 c =
     let told = c .before in
     let judge = told .before .before in
-    let args = judge .before .before .before .before .args in
-    record-refused false (args .number) (args .words .now) (args .facts .now) (narrowedFrom (orderOf (args .in-order)) (tableOf (args .facts .now))) (anyContradicted (tableOf (args .facts .now))) (args .out .now) _ (ap recordLead (sym (told .cause .given .1)) ∙ judge .judge-record .ensures)
+    let start = judge .before .before .before .before .before in
+    let args = start .args in
+    let g = (carried (args .outcome-levels) (args .outcomes .now)) in
+    let few = few-carried (args .outcome-levels) (args .outcomes .now) (omega (arith, start)) in
+    record-refused g few false (args .number) (args .words .now) (args .facts .now) (narrowedFrom g (orderOf (args .in-order)) (tableOf (args .facts .now))) (anyContradicted (tableOf (args .facts .now))) (args .out .now) _ (ap recordLead (sym (told .cause .given .1)) ∙ judge .judge-record .ensures (args .outcomes .now))
 
 same-length : tie.Need-same-length
 same-length c = search needs
@@ -89,8 +107,11 @@ returns-4 c =
     let found = test .before in
     let told = found .before .before in
     let judge = told .before .before in
-    let args = judge .before .before .before .before .args in
-    record-copied false (args .number) (args .words .now) (args .facts .now) (narrowedFrom (orderOf (args .in-order)) (tableOf (args .facts .now))) (anyContradicted (tableOf (args .facts .now))) (args .out .now) (λ d l. refl) _ _ (ap recordLead (sym (told .consulted .given .1)) ∙ judge .judge-record .ensures) (λ x vs q k. sym (test .if1 .left) ∙ entries-found false (args .number) (args .words .now) (args .facts .now) (found .contradicted .ensures) x vs q k) (done .copy-record .ensures)
+    let start = judge .before .before .before .before .before in
+    let args = start .args in
+    let g = (carried (args .outcome-levels) (args .outcomes .now)) in
+    let few = few-carried (args .outcome-levels) (args .outcomes .now) (omega (arith, start)) in
+    record-copied g few false (args .number) (args .words .now) (args .facts .now) (narrowedFrom g (orderOf (args .in-order)) (tableOf (args .facts .now))) (anyContradicted (tableOf (args .facts .now))) (args .out .now) (λ d l. refl) _ _ (ap recordLead (sym (told .consulted .given .1)) ∙ judge .judge-record .ensures (args .outcomes .now)) (λ x vs q k. sym (test .if1 .left) ∙ entries-found g few false (args .number) (args .words .now) (args .facts .now) (found .contradicted .ensures) x vs q k) (done .copy-record .ensures)
 
 same-length-2 : tie.Need-same-length-2
 same-length-2 c = search needs
@@ -103,8 +124,11 @@ returns-5 c =
     let found = test .before in
     let told = found .before .before in
     let judge = told .before .before in
-    let args = judge .before .before .before .before .args in
-    record-made false (args .number) (args .words .now) (args .facts .now) (narrowedFrom (orderOf (args .in-order)) (tableOf (args .facts .now))) (anyContradicted (tableOf (args .facts .now))) (args .out .now) (reducedAfter (orderOf (args .in-order)) (tableOf (args .facts .now))) (λ t l. refl) _ _ (ap recordLead (sym (told .consulted2 .given .1)) ∙ judge .judge-record .ensures) (λ x vs q k. sym (test .if2 .left) ∙ entries-found false (args .number) (args .words .now) (args .facts .now) (found .contradicted2 .ensures) x vs q k) (made .narrow .ensures) (done .under-number .ensures)
+    let start = judge .before .before .before .before .before in
+    let args = start .args in
+    let g = (carried (args .outcome-levels) (args .outcomes .now)) in
+    let few = few-carried (args .outcome-levels) (args .outcomes .now) (omega (arith, start)) in
+    record-made g few false (args .number) (args .words .now) (args .facts .now) (narrowedFrom g (orderOf (args .in-order)) (tableOf (args .facts .now))) (anyContradicted (tableOf (args .facts .now))) (args .out .now) (reducedAfter g (orderOf (args .in-order)) (tableOf (args .facts .now))) (λ t l. refl) _ _ (ap recordLead (sym (told .consulted2 .given .1)) ∙ judge .judge-record .ensures (args .outcomes .now)) (λ x vs q k. sym (test .if2 .left) ∙ entries-found g few false (args .number) (args .words .now) (args .facts .now) (found .contradicted2 .ensures) x vs q k) (made .narrow .ensures) (done .under-number .ensures)
 
 pub narrow-residual-by-spec : {M : Type 1} → statement M
 narrow-residual-by-spec =

@@ -1,7 +1,10 @@
 -- `calls::partial_evaluate_by` meets its contract. Assumes nothing.
 use mathlib.Core.Path.{sym, ap, _∙_}
 use mathlib.Core.Bool.{false}
+use native.Mathlib.Omega.{arith}
 use Rattle.model.specs.Facts.{tableOf}
+use Rattle.outcome.specs.Carried.{carried}
+use Rattle.outcome.specs.CarriedLaws.{few-carried}
 use Rattle.policy_model.specs.Answers.{sheetRefusal}
 use Rattle.partial_policy.specs.Reducing.{orderOf}
 use Rattle.partial.specs.Answers.{reducedAfter}
@@ -23,21 +26,30 @@ reduce-requires : tie.Need-reduce-requires
 reduce-requires c κs =
     let told = c .before in
     let judge = told .before .before in
-    let args = judge .before .before .before .before .args in
-    sheet-few false (args .number) (args .sheet .now) (args .facts .now) (ap sheetRefusal (sym (told .enum-told .given .1)) ∙ judge .judge-sheet .ensures)
+    let start = judge .before .before .before .before .before in
+    let args = start .args in
+    let g = (carried (args .outcome-levels) (args .outcomes .now)) in
+    let few = few-carried (args .outcome-levels) (args .outcomes .now) (omega (arith, start)) in
+    sheet-few g few false (args .number) (args .sheet .now) (args .facts .now) (ap sheetRefusal (sym (told .enum-told .given .1)) ∙ judge .judge-sheet .ensures (args .outcomes .now))
 
 under-number-requires : tie.Need-under-number-requires
 under-number-requires c κs =
     let told = c .before .before .before .before .before in
     let judge = told .before .before in
-    let args = judge .before .before .before .before .args in
-    sheet-number false (args .number) (args .sheet .now) (args .facts .now) (ap sheetRefusal (sym (told .enum-told .given .1)) ∙ judge .judge-sheet .ensures)
+    let start = judge .before .before .before .before .before in
+    let args = start .args in
+    let g = (carried (args .outcome-levels) (args .outcomes .now)) in
+    let few = few-carried (args .outcome-levels) (args .outcomes .now) (omega (arith, start)) in
+    sheet-number g few false (args .number) (args .sheet .now) (args .facts .now) (ap sheetRefusal (sym (told .enum-told .given .1)) ∙ judge .judge-sheet .ensures (args .outcomes .now))
 
 returns : tie.Need-returns
 returns c =
     let judge = c .before .before .before in
-    let args = judge .before .before .before .before .args in
-    sheet-refused false (args .number) (args .sheet .now) (args .facts .now) (reducedAfter (orderOf (args .in-order)) (tableOf (args .facts .now))) (args .out .now) _ (ap sheetRefusal (sym (c .before .cause .given .1)) ∙ judge .judge-sheet .ensures)
+    let start = judge .before .before .before .before .before in
+    let args = start .args in
+    let g = (carried (args .outcome-levels) (args .outcomes .now)) in
+    let few = few-carried (args .outcome-levels) (args .outcomes .now) (omega (arith, start)) in
+    sheet-refused g few false (args .number) (args .sheet .now) (args .facts .now) (reducedAfter g (orderOf (args .in-order)) (tableOf (args .facts .now))) (args .out .now) _ (ap sheetRefusal (sym (c .before .cause .given .1)) ∙ judge .judge-sheet .ensures (args .outcomes .now))
 
 same-length : tie.Need-same-length
 same-length c = search needs
@@ -48,8 +60,11 @@ returns-2 c =
     let made = done .before .before .before .before in
     let told = made .before .before in
     let judge = told .before .before in
-    let args = judge .before .before .before .before .args in
-    sheet-made false (args .number) (args .sheet .now) (args .facts .now) (reducedAfter (orderOf (args .in-order)) (tableOf (args .facts .now))) (args .out .now) (ap sheetRefusal (sym (told .enum-told .given .1)) ∙ judge .judge-sheet .ensures) (made .reduce .ensures) (done .under-number .ensures)
+    let start = judge .before .before .before .before .before in
+    let args = start .args in
+    let g = (carried (args .outcome-levels) (args .outcomes .now)) in
+    let few = few-carried (args .outcome-levels) (args .outcomes .now) (omega (arith, start)) in
+    sheet-made g few false (args .number) (args .sheet .now) (args .facts .now) (reducedAfter g (orderOf (args .in-order)) (tableOf (args .facts .now))) (args .out .now) (ap sheetRefusal (sym (told .enum-told .given .1)) ∙ judge .judge-sheet .ensures (args .outcomes .now)) (made .reduce .ensures) (done .under-number .ensures)
 
 pub partial-evaluate-by-spec : {M : Type 1} → statement M
 partial-evaluate-by-spec =

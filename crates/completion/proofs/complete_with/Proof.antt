@@ -24,7 +24,7 @@ put-record-requires c κs =
     let entries2 = buf .before .before .before in
     let eval = entries2 .before in
     let entries = eval .before .before .before .before .before .before in
-    let start = entries .before .before .before .before .before .before .before .before .before .before in
+    let start = entries .before .before .before .before .before .before .before .before .before .before .before in
     (eval .eval-policy .ensures .few, omega (arith, start .pre .3, buf .buf .given), omega (arith, start .pre .5 .1, entries .entries .given, entries2 .entries2 .given), start .pre .4)
 
 same-length : tie.Need-same-length
@@ -44,7 +44,7 @@ returns c =
     let put = c .before .before .before .before in
     let eval = put .before .before .before .before .before .before .before .before .before .before in
     let load = eval .before .before .before .before .before .before .before in
-    let start = load .before .before .before .before .before .before .before .before .before in
+    let start = load .before .before .before .before .before .before .before .before .before .before in
     completes (load .load-consulted .ensures) (no-facts _) (start .pre .1) (start .pre .2) (start .pre .5 .0) (eval .eval-policy .ensures) (put .put-record .ensures)
 
 pub complete-with-spec : {M : Type 1} → statement M

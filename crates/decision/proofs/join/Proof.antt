@@ -1,18 +1,10 @@
--- `decision::join` meets its contract, by which of the two outcomes the union equals. Assumes nothing.
+-- `decision::join` meets its contract, by which of the two outcomes theirs is. Assumes nothing.
 use mathlib.Core.Path.{_≡_, sym, _∙_}
 use native.Mathlib.Omega.{arith}
 use borrow.Author.Needs.{needs}
-use Rattle.model.specs.Outcome.{productSets}
-use Rattle.decision.proofs.Folding.{join-of, join-first, join-second, join-both, join-unobliged, join-neither}
+use Rattle.decision.proofs.Folding.{join-first, join-second, join-both, join-unobliged, join-neither}
 use Rattle.decision.proofs.join.Statement.{statement}
 use Rattle.decision.proofs.join.Tie as tie
-
--- The result's outcome.
-outcome-is : (c : tie.After-join) → c .join .result .bits ≡ productSets .join (c .before .before .before .args .sofar .outcome) (c .before .before .before .args .incoming .outcome)
-outcome-is c = let start = c .before .before .before in c .join .ensures ∙ join-of (start .args .sofar .outcome) (start .args .incoming .outcome)
-
-join-requires : tie.Need-join-requires
-join-requires c κs = search needs
 
 same-requires : tie.Need-same-requires
 same-requires c κs = search needs
@@ -48,19 +40,19 @@ returns : tie.Need-returns
 returns c =
     let second = c .before .before in
     let first = second .before .before in
-    join-unobliged _ _ _ _ _ (outcome-is (first .before .before)) (omega (arith, first)) (sym (first .before .same .ensures) ∙ first .if1 .taken) (sym (second .before .same2 .ensures) ∙ second .if2 .taken) (c .before .unobliged .ensures (c .if3 .taken))
+    (omega (arith, first), λ g e. join-unobliged g _ _ _ _ _ e (omega (arith, first)) (sym (first .before .same .ensures) ∙ first .if1 .taken) (sym (second .before .same2 .ensures) ∙ second .if2 .taken) (c .before .unobliged .ensures (c .if3 .taken)))
 
 returns-2 : tie.Need-returns-2
 returns-2 c =
     let united = c .before .before .before in
     let second = united .before .before .before .before in
     let first = second .before .before in
-    join-both _ _ _ _ _ (outcome-is (first .before .before)) _ _ _ (c .with-united .ensures) (united .unite .ensures) (sym (first .before .same .ensures) ∙ first .if1 .taken) (sym (second .before .same2 .ensures) ∙ second .if2 .taken)
+    (rw (c .with-united .ensures) (united .unite .ensures .few), λ g e. join-both g _ _ _ _ _ e _ _ _ (c .with-united .ensures) (united .unite .ensures) (sym (first .before .same .ensures) ∙ first .if1 .taken) (sym (second .before .same2 .ensures) ∙ second .if2 .taken))
 
 returns-3 : tie.Need-returns-3
 returns-3 c =
     let first = c .before .before in
-    join-first _ _ _ _ _ (outcome-is (first .before .before)) (omega (arith, first)) (sym (first .before .same .ensures) ∙ first .if1 .taken) (sym (c .before .same2 .ensures) ∙ c .if2 .left)
+    (omega (arith, first), λ g e. join-first g _ _ _ _ _ e (omega (arith, first)) (sym (first .before .same .ensures) ∙ first .if1 .taken) (sym (c .before .same2 .ensures) ∙ c .if2 .left))
 
 same-length-2 : tie.Need-same-length-2
 same-length-2 c = search needs
@@ -70,7 +62,7 @@ returns-4 c =
     let kept = c .before .before in
     let second = kept .before .before in
     let first = second .before .before in
-    join-second _ _ _ _ _ (outcome-is (first .before .before)) _ _ (omega (arith, first)) (kept .keep .ensures) (sym (first .before .same .ensures) ∙ first .if1 .left) (sym (second .before .same3 .ensures) ∙ second .if4 .taken)
+    (rw (kept .keep .ensures .same) (omega (arith, first)), λ g e. join-second g _ _ _ _ _ e _ _ (omega (arith, first)) (kept .keep .ensures) (sym (first .before .same .ensures) ∙ first .if1 .left) (sym (second .before .same3 .ensures) ∙ second .if4 .taken))
 
 same-length-3 : tie.Need-same-length-3
 same-length-3 c = search needs
@@ -80,13 +72,12 @@ returns-5 c =
     let united = c .before .before .before in
     let second = united .before .before in
     let first = second .before .before in
-    join-neither _ _ _ _ _ (outcome-is (first .before .before)) _ _ _ (c .with-united2 .ensures) (united .unite2 .ensures) (sym (first .before .same .ensures) ∙ first .if1 .left) (sym (second .before .same3 .ensures) ∙ second .if4 .left)
+    (rw (c .with-united2 .ensures) (united .unite2 .ensures .few), λ g e. join-neither g _ _ _ _ _ e _ _ _ (c .with-united2 .ensures) (united .unite2 .ensures) (sym (first .before .same .ensures) ∙ first .if1 .left) (sym (second .before .same3 .ensures) ∙ second .if4 .left))
 
 pub join-spec : {M : Type 1} → statement M
 join-spec =
     tie.close
     (tie.spec
-    join-requires
     same-requires
     same-requires-2
     unobliged-requires

@@ -8,6 +8,7 @@ use Prim.Native.Nat.{ℕ, _+_, _*_, _<_}
 use native.Mathlib.Omega.{arith}
 use Rattle.model.specs.Facts.{tableOf}
 use Rattle.model.specs.Products.{readAll, readAny}
+use Rattle.outcome.specs.Carried.{carried}
 use Rattle.policy_model.specs.declared.PolicyHead.the-variants.{Permit, Deny, Grant, All, Any, OrElse, PermitWithTrace, DenyWithTrace, BadKind, BadField}
 use Rattle.condition.specs.Listing.{lent}
 use Rattle.evaluate.specs.Evaluating.{EvaluatesBy}
@@ -39,31 +40,33 @@ use Rattle.evaluate.proofs.met.Reads as met-reads
 use Rattle.evaluate.proofs.permitted.Reads as permitted-reads
 use Rattle.evaluate.proofs.stored_deny.Reads as stored-deny-reads
 use Rattle.evaluate.proofs.stored_permit.Reads as stored-permit-reads
+use Rattle.outcome.proofs.Products.join_by.Reads as join-by-reads
+use Rattle.outcome.proofs.Products.meet_by.Reads as meet-by-reads
 use Rattle.policy_model.proofs.policy_head.Reads as policy-head-reads
 use Rattle.policy_model.proofs.skip_policies.Reads as skip-policies-reads
 use Rattle.evaluate.proofs.+eval_all+eval_any+eval_arm+eval_or_else+eval_policy.{statement}
 use Rattle.evaluate.proofs.+eval_all+eval_any+eval_arm+eval_or_else+eval_policy.Tie.{close}
 
-abbrev μ-eval-all : Measures 5 eval-all-kinds.ps ℕ
+abbrev μ-eval-all : Measures 6 eval-all-kinds.ps ℕ
 μ-eval-all κs a = a .1 .1 .0 * 3 + 2
 
-abbrev μ-eval-any : Measures 5 eval-any-kinds.ps ℕ
+abbrev μ-eval-any : Measures 6 eval-any-kinds.ps ℕ
 μ-eval-any κs a = a .1 .1 .0 * 3 + 2
 
-abbrev μ-eval-arm : Measures 5 eval-arm-kinds.ps ℕ
+abbrev μ-eval-arm : Measures 6 eval-arm-kinds.ps ℕ
 μ-eval-arm κs a = a .1 .1 .0 * 3 + 1
 
-abbrev μ-eval-or-else : Measures 5 eval-or-else-kinds.ps ℕ
+abbrev μ-eval-or-else : Measures 6 eval-or-else-kinds.ps ℕ
 μ-eval-or-else κs a = a .1 .1 .0 * 3 + 2
 
-abbrev μ-eval-policy : Measures 5 eval-policy-kinds.ps ℕ
+abbrev μ-eval-policy : Measures 6 eval-policy-kinds.ps ℕ
 μ-eval-policy κs a = a .1 .1 .0 * 3
 
 abbrev eval-all-Inv-loop : eval-all-lts.InvT-loop
-eval-all-Inv-loop words at depth arms facts entries₀ seen₀ count buf₀ sofar₀ next₀ listed₀ left₀ entries seen buf sofar next listed left =
+eval-all-Inv-loop words at depth arms facts outcome-levels outcomes entries₀ seen₀ count buf₀ sofar₀ next₀ listed₀ left₀ entries seen buf sofar next listed left =
     Going
-    (ArmsLeft (allLeft (tableOf facts) words sofar buf) (readAll (tableOf facts)) (tableOf facts) words sofar buf next depth left (lent listed entries seen))
-    (EvaluatesBy (All arms) (tableOf facts) words at depth (lent count entries₀ seen₀))
+    (ArmsLeft (allLeft (carried outcome-levels outcomes) (tableOf facts) words sofar buf) (readAll (carried outcome-levels outcomes) (tableOf facts)) (tableOf facts) words sofar buf next depth left (lent listed entries seen))
+    (EvaluatesBy (carried outcome-levels outcomes) (All arms) (tableOf facts) words at depth (lent count entries₀ seen₀))
     (lent count entries₀ seen₀)
     (lent listed entries seen)
     sofar
@@ -71,13 +74,13 @@ eval-all-Inv-loop words at depth arms facts entries₀ seen₀ count buf₀ sofa
     buf
 
 abbrev eval-all-μ-loop : eval-all-lts.MeasureT-loop
-eval-all-μ-loop words at depth arms facts entries₀ seen₀ count buf₀ sofar₀ next₀ listed₀ left₀ entries seen buf sofar next listed left = left
+eval-all-μ-loop words at depth arms facts outcome-levels outcomes entries₀ seen₀ count buf₀ sofar₀ next₀ listed₀ left₀ entries seen buf sofar next listed left = left
 
 abbrev eval-any-Inv-loop : eval-any-lts.InvT-loop
-eval-any-Inv-loop words at depth arms facts entries₀ seen₀ count buf₀ sofar₀ begun₀ next₀ listed₀ left₀ entries seen buf sofar begun next listed left =
+eval-any-Inv-loop words at depth arms facts outcome-levels outcomes entries₀ seen₀ count buf₀ sofar₀ begun₀ next₀ listed₀ left₀ entries seen buf sofar begun next listed left =
     Going
-    (ArmsLeft (anyLeft (tableOf facts) words begun sofar buf) (readAny (tableOf facts)) (tableOf facts) words sofar buf next depth left (lent listed entries seen))
-    (EvaluatesBy (Any arms) (tableOf facts) words at depth (lent count entries₀ seen₀))
+    (ArmsLeft (anyLeft (carried outcome-levels outcomes) (tableOf facts) words begun sofar buf) (readAny (carried outcome-levels outcomes) (tableOf facts)) (tableOf facts) words sofar buf next depth left (lent listed entries seen))
+    (EvaluatesBy (carried outcome-levels outcomes) (Any arms) (tableOf facts) words at depth (lent count entries₀ seen₀))
     (lent count entries₀ seen₀)
     (lent listed entries seen)
     sofar
@@ -85,42 +88,42 @@ eval-any-Inv-loop words at depth arms facts entries₀ seen₀ count buf₀ sofa
     buf
 
 abbrev eval-any-μ-loop : eval-any-lts.MeasureT-loop
-eval-any-μ-loop words at depth arms facts entries₀ seen₀ count buf₀ sofar₀ begun₀ next₀ listed₀ left₀ entries seen buf sofar begun next listed left = left
+eval-any-μ-loop words at depth arms facts outcome-levels outcomes entries₀ seen₀ count buf₀ sofar₀ begun₀ next₀ listed₀ left₀ entries seen buf sofar begun next listed left = left
 
 module _ (t : ℕ) where
-  abbrev eval-all-at : In 5 eval-all-kinds.ps
-  eval-all-at = and 5 eval-all-kinds.ps (is 5 eval-all-kinds.ps μ-eval-all t) eval-all.Pre
+  abbrev eval-all-at : In 6 eval-all-kinds.ps
+  eval-all-at = and 6 eval-all-kinds.ps (is 6 eval-all-kinds.ps μ-eval-all t) eval-all.Pre
 
-  abbrev eval-all-below : In 5 eval-all-kinds.ps
-  eval-all-below = and 5 eval-all-kinds.ps (falls 5 eval-all-kinds.ps _<_ μ-eval-all t) eval-all.Pre
+  abbrev eval-all-below : In 6 eval-all-kinds.ps
+  eval-all-below = and 6 eval-all-kinds.ps (falls 6 eval-all-kinds.ps _<_ μ-eval-all t) eval-all.Pre
 
-  abbrev eval-any-at : In 5 eval-any-kinds.ps
-  eval-any-at = and 5 eval-any-kinds.ps (is 5 eval-any-kinds.ps μ-eval-any t) eval-any.Pre
+  abbrev eval-any-at : In 6 eval-any-kinds.ps
+  eval-any-at = and 6 eval-any-kinds.ps (is 6 eval-any-kinds.ps μ-eval-any t) eval-any.Pre
 
-  abbrev eval-any-below : In 5 eval-any-kinds.ps
-  eval-any-below = and 5 eval-any-kinds.ps (falls 5 eval-any-kinds.ps _<_ μ-eval-any t) eval-any.Pre
+  abbrev eval-any-below : In 6 eval-any-kinds.ps
+  eval-any-below = and 6 eval-any-kinds.ps (falls 6 eval-any-kinds.ps _<_ μ-eval-any t) eval-any.Pre
 
-  abbrev eval-arm-at : In 5 eval-arm-kinds.ps
-  eval-arm-at = and 5 eval-arm-kinds.ps (is 5 eval-arm-kinds.ps μ-eval-arm t) eval-arm.Pre
+  abbrev eval-arm-at : In 6 eval-arm-kinds.ps
+  eval-arm-at = and 6 eval-arm-kinds.ps (is 6 eval-arm-kinds.ps μ-eval-arm t) eval-arm.Pre
 
-  abbrev eval-arm-below : In 5 eval-arm-kinds.ps
-  eval-arm-below = and 5 eval-arm-kinds.ps (falls 5 eval-arm-kinds.ps _<_ μ-eval-arm t) eval-arm.Pre
+  abbrev eval-arm-below : In 6 eval-arm-kinds.ps
+  eval-arm-below = and 6 eval-arm-kinds.ps (falls 6 eval-arm-kinds.ps _<_ μ-eval-arm t) eval-arm.Pre
 
-  abbrev eval-or-else-at : In 5 eval-or-else-kinds.ps
-  eval-or-else-at = and 5 eval-or-else-kinds.ps (is 5 eval-or-else-kinds.ps μ-eval-or-else t) eval-or-else.Pre
+  abbrev eval-or-else-at : In 6 eval-or-else-kinds.ps
+  eval-or-else-at = and 6 eval-or-else-kinds.ps (is 6 eval-or-else-kinds.ps μ-eval-or-else t) eval-or-else.Pre
 
-  abbrev eval-or-else-below : In 5 eval-or-else-kinds.ps
-  eval-or-else-below = and 5 eval-or-else-kinds.ps (falls 5 eval-or-else-kinds.ps _<_ μ-eval-or-else t) eval-or-else.Pre
+  abbrev eval-or-else-below : In 6 eval-or-else-kinds.ps
+  eval-or-else-below = and 6 eval-or-else-kinds.ps (falls 6 eval-or-else-kinds.ps _<_ μ-eval-or-else t) eval-or-else.Pre
 
-  abbrev eval-policy-at : In 5 eval-policy-kinds.ps
-  eval-policy-at = and 5 eval-policy-kinds.ps (is 5 eval-policy-kinds.ps μ-eval-policy t) eval-policy.Pre
+  abbrev eval-policy-at : In 6 eval-policy-kinds.ps
+  eval-policy-at = and 6 eval-policy-kinds.ps (is 6 eval-policy-kinds.ps μ-eval-policy t) eval-policy.Pre
 
-  abbrev eval-policy-below : In 5 eval-policy-kinds.ps
-  eval-policy-below = and 5 eval-policy-kinds.ps (falls 5 eval-policy-kinds.ps _<_ μ-eval-policy t) eval-policy.Pre
+  abbrev eval-policy-below : In 6 eval-policy-kinds.ps
+  eval-policy-below = and 6 eval-policy-kinds.ps (falls 6 eval-policy-kinds.ps _<_ μ-eval-policy t) eval-policy.Pre
 
   -- what `eval-all` calls
   abbrev eval-all-calls : eval-all-lts.Claims
-  eval-all-calls = (denied-reads.Asked, denied-reads.Learnt, eval-arm-below, eval-arm.Post, skip-policies-reads.Asked, skip-policies-reads.Learnt, met-reads.Asked, met-reads.Learnt)
+  eval-all-calls = (denied-reads.Asked, denied-reads.Learnt, eval-arm-below, eval-arm.Post, skip-policies-reads.Asked, skip-policies-reads.Learnt, meet-by-reads.Asked, meet-by-reads.Learnt, met-reads.Asked, met-reads.Learnt)
 
   eval-all-denied-requires : eval-all-lts.Need-denied-requires eval-all-calls eval-all-at eval-all.Post eval-all-Inv-loop eval-all-μ-loop
   eval-all-denied-requires c κs = search needs
@@ -136,7 +139,7 @@ module _ (t : ℕ) where
         seen-long = refl;
         buf-long = refl;
         few = omega arith;
-        goes = λ r t end e. all-node _ _ _ _ _ _ r t _ end _ refl (c .before .before .before .before .before .before .pre .1 .0) e;
+        goes = λ r t end e. all-node _ _ _ _ _ _ _ r t _ end _ refl (c .before .before .before .before .before .before .before .pre .1 .0) e;
       })
 
   eval-all-sub-eval-arm : eval-all-lts.Need-sub-eval-arm eval-all-calls eval-all-at eval-all.Post eval-all-Inv-loop eval-all-μ-loop
@@ -155,7 +158,7 @@ module _ (t : ℕ) where
   eval-all-sub-left c = search needs
 
   eval-all-skip-policies-requires : eval-all-lts.Need-skip-policies-requires eval-all-calls eval-all-at eval-all.Post eval-all-Inv-loop eval-all-μ-loop
-  eval-all-skip-policies-requires c κs = c .before .before .before .before .before .before .before .before .before .before .before .before .before .before .before .before .before .before .before .before .pre .1 .3
+  eval-all-skip-policies-requires c κs = c .before .before .before .before .before .before .before .before .before .before .before .before .before .before .before .before .before .before .before .before .before .pre .1 .3
 
   eval-all-same-length : eval-all-lts.Need-same-length eval-all-calls eval-all-at eval-all.Post eval-all-Inv-loop eval-all-μ-loop
   eval-all-same-length c = search needs
@@ -173,15 +176,18 @@ module _ (t : ℕ) where
       let turn = call .before .before .before .before in
       let loop = turn .before in
       loop .loop .inv .goes _ _ _
-      (all-stop _ _ _ _ _ _ _ _ _ _ _ _ _ _ (turn .loop-test .taken) (call .eval-arm .ensures) _ (not-true _ (c .before .if1 .taken))
+      (all-stop _ _ _ _ _ _ _ _ _ _ _ _ _ _ _ (turn .loop-test .taken) (call .eval-arm .ensures) _ (not-true _ (c .before .if1 .taken))
       (arms-passed _ _ _ _ _ _ _ _ _ _ (call .eval-arm .ensures .few) (c .skip-policies .ensures)))
+
+  eval-all-meet-by-requires : eval-all-lts.Need-meet-by-requires eval-all-calls eval-all-at eval-all.Post eval-all-Inv-loop eval-all-μ-loop
+  eval-all-meet-by-requires c κs = search needs
 
   eval-all-met-requires : eval-all-lts.Need-met-requires eval-all-calls eval-all-at eval-all.Post eval-all-Inv-loop eval-all-μ-loop
   eval-all-met-requires c κs =
-      let back = c .before .before .before .before in
+      let back = c .before .before .before .before .before in
       let call = back .before .before .before .before .before in
       let loop = call .before .before .before .before .before in
-      let start = loop .before .before .before .before .before .before .before in
+      let start = loop .before .before .before .before .before .before .before .before in
       (loop .loop .inv .few, call .eval-arm .ensures .few, omega (arith, back .buf .given, loop .loop .inv .buf-long, start .pre))
 
   eval-all-loop-less : eval-all-lts.Need-loop-less eval-all-calls eval-all-at eval-all.Post eval-all-Inv-loop eval-all-μ-loop
@@ -190,21 +196,22 @@ module _ (t : ℕ) where
   eval-all-loop-again : eval-all-lts.Need-loop-again eval-all-calls eval-all-at eval-all.Post eval-all-Inv-loop eval-all-μ-loop
   eval-all-loop-again c =
       let meet = c .before .before in
-      let permit = meet .before .before in
+      let both = meet .before .before in
+      let permit = both .before in
       let back = permit .before .before .before in
       let call = back .before .before .before .before .before in
       let turn = call .before .before .before .before in
       let loop = turn .before in
-      let start = loop .before .before .before .before .before .before .before in
+      let start = loop .before .before .before .before .before .before .before .before in
       record {
         entries-long = omega (arith, back .before .before .before .before .entries .given, loop .loop .inv .entries-long);
         seen-long = omega (arith, back .before .before .seen .given, loop .loop .inv .seen-long);
         buf-long = omega (arith, c .before .buf2 .given, back .buf .given, loop .loop .inv .buf-long);
-        few = meet .met .ensures .few;
+        few = meet .met .ensures .0;
         goes = λ r t end e. loop .loop .inv .goes r t end
-            (all-more _ _ _ _ _ t _ r _ _ _ end _ _ (turn .loop-test .taken) (call .eval-arm .ensures) _ _ (not-false _ (permit .if1 .left))
+            (all-more _ _ _ _ _ _ t _ r _ _ _ end _ _ (turn .loop-test .taken) (call .eval-arm .ensures) _ _ (not-false _ (permit .if1 .left))
             (lent-folds _ _ _ _ _ _ _ _ (omega (arith, loop .loop .inv .buf-long, start .pre)) (loop .loop .inv .few) (omega (arith, back .buf .given, loop .loop .inv .buf-long, start .pre, call .eval-arm .ensures .few)) _
-            (meet .met .ensures .folds (not-false _ (permit .if1 .left)))) e);
+            (meet .met .ensures .1 _ (both .meet-by .ensures) .folds (not-false _ (permit .if1 .left)))) e);
       }
 
   eval-all-same-length-4 : eval-all-lts.Need-same-length-4 eval-all-calls eval-all-at eval-all.Post eval-all-Inv-loop eval-all-μ-loop
@@ -223,7 +230,7 @@ module _ (t : ℕ) where
 
   -- what `eval-any` calls
   abbrev eval-any-calls : eval-any-lts.Claims
-  eval-any-calls = (denied-reads.Asked, denied-reads.Learnt, eval-arm-below, eval-arm.Post, joined-reads.Asked, joined-reads.Learnt)
+  eval-any-calls = (denied-reads.Asked, denied-reads.Learnt, eval-arm-below, eval-arm.Post, join-by-reads.Asked, join-by-reads.Learnt, joined-reads.Asked, joined-reads.Learnt)
 
   eval-any-denied-requires : eval-any-lts.Need-denied-requires eval-any-calls eval-any-at eval-any.Post eval-any-Inv-loop eval-any-μ-loop
   eval-any-denied-requires c κs = search needs
@@ -239,7 +246,7 @@ module _ (t : ℕ) where
         seen-long = refl;
         buf-long = refl;
         few = omega arith;
-        goes = λ r t end e. any-node _ _ _ _ _ _ r t _ end _ refl (c .before .before .before .before .before .before .pre .1 .0) e;
+        goes = λ r t end e. any-node _ _ _ _ _ _ _ r t _ end _ refl (c .before .before .before .before .before .before .before .pre .1 .0) e;
       })
 
   eval-any-sub-eval-arm : eval-any-lts.Need-sub-eval-arm eval-any-calls eval-any-at eval-any.Post eval-any-Inv-loop eval-any-μ-loop
@@ -257,12 +264,15 @@ module _ (t : ℕ) where
   eval-any-sub-left : eval-any-lts.Need-sub-left eval-any-calls eval-any-at eval-any.Post eval-any-Inv-loop eval-any-μ-loop
   eval-any-sub-left c = search needs
 
+  eval-any-join-by-requires : eval-any-lts.Need-join-by-requires eval-any-calls eval-any-at eval-any.Post eval-any-Inv-loop eval-any-μ-loop
+  eval-any-join-by-requires c κs = search needs
+
   eval-any-joined-requires : eval-any-lts.Need-joined-requires eval-any-calls eval-any-at eval-any.Post eval-any-Inv-loop eval-any-μ-loop
   eval-any-joined-requires c κs =
-      let back = c .before .before .before in
+      let back = c .before .before .before .before in
       let call = back .before .before .before .before .before in
       let loop = call .before .before .before .before .before in
-      let start = loop .before .before .before .before .before .before .before in
+      let start = loop .before .before .before .before .before .before .before .before in
       (loop .loop .inv .few, call .eval-arm .ensures .few, omega (arith, back .buf .given, loop .loop .inv .buf-long, start .pre))
 
   eval-any-loop-less : eval-any-lts.Need-loop-less eval-any-calls eval-any-at eval-any.Post eval-any-Inv-loop eval-any-μ-loop
@@ -271,20 +281,21 @@ module _ (t : ℕ) where
   eval-any-loop-again : eval-any-lts.Need-loop-again eval-any-calls eval-any-at eval-any.Post eval-any-Inv-loop eval-any-μ-loop
   eval-any-loop-again c =
       let join = c .before .before in
-      let back = join .before .before .before .before in
+      let either = join .before .before in
+      let back = either .before .before .before in
       let call = back .before .before .before .before .before in
       let turn = call .before .before .before .before in
       let loop = turn .before in
-      let start = loop .before .before .before .before .before .before .before in
+      let start = loop .before .before .before .before .before .before .before .before in
       record {
         entries-long = omega (arith, back .before .before .before .before .entries .given, loop .loop .inv .entries-long);
         seen-long = omega (arith, back .before .before .seen .given, loop .loop .inv .seen-long);
         buf-long = omega (arith, c .before .buf2 .given, back .buf .given, loop .loop .inv .buf-long);
-        few = join .joined .ensures .few;
+        few = join .joined .ensures .0;
         goes = λ r t end e. loop .loop .inv .goes r t end
-            (any-more _ _ _ _ _ t _ r _ _ _ end _ _ (turn .loop-test .taken) (call .eval-arm .ensures) (loop .loop .begun) _ _
+            (any-more _ _ _ _ _ _ t _ r _ _ _ end _ _ (turn .loop-test .taken) (call .eval-arm .ensures) (loop .loop .begun) _ _
             (lent-folds _ _ _ _ _ _ _ _ (omega (arith, loop .loop .inv .buf-long, start .pre)) (loop .loop .inv .few) (omega (arith, back .buf .given, loop .loop .inv .buf-long, start .pre, call .eval-arm .ensures .few)) _
-            (join .joined .ensures)) e);
+            (join .joined .ensures .1 _ (either .join-by .ensures))) e);
       }
 
   eval-any-same-length : eval-any-lts.Need-same-length eval-any-calls eval-any-at eval-any.Post eval-any-Inv-loop eval-any-μ-loop
@@ -309,7 +320,7 @@ module _ (t : ℕ) where
   eval-arm-denied-requires c κs = search needs
 
   eval-arm-returns : eval-arm-lts.Need-returns eval-arm-calls eval-arm-at eval-arm.Post
-  eval-arm-returns c = rw (c .denied .ensures) (eval-end _ _ _ _ _ _ _ _ _ (c .before .if1 .taken))
+  eval-arm-returns c = rw (c .denied .ensures) (eval-end _ _ _ _ _ _ _ _ _ _ (c .before .if1 .taken))
 
   eval-arm-mul-word : eval-arm-lts.Need-mul-word eval-arm-calls eval-arm-at eval-arm.Post
   eval-arm-mul-word c = search needs
@@ -329,7 +340,7 @@ module _ (t : ℕ) where
   eval-arm-returns-2 : eval-arm-lts.Need-returns-2 eval-arm-calls eval-arm-at eval-arm.Post
   eval-arm-returns-2 c =
       let permit = c .before in
-      rw (c .permitted .ensures) (eval-permit-word _ _ _ _ _ _ _ _ (permit .before .before .if1 .left) (permit .if2 .taken))
+      rw (c .permitted .ensures) (eval-permit-word _ _ _ _ _ _ _ _ _ (permit .before .before .if1 .left) (permit .if2 .taken))
 
   eval-arm-eval-policy-requires : eval-arm-lts.Need-eval-policy-requires eval-arm-calls eval-arm-at eval-arm.Post
   eval-arm-eval-policy-requires c κs = search needs
@@ -371,8 +382,8 @@ module _ (t : ℕ) where
   eval-or-else-returns : eval-or-else-lts.Need-returns eval-or-else-calls eval-or-else-at eval-or-else.Post
   eval-or-else-returns c =
       let call = c .before .before .before .before .before .before .before .before .before in
-      let start = call .before .before .before .before .before .before .before .before .before in
-      or-permits _ _ _ _ _ _ _ _ (start .pre .1 .0) (call .eval-policy .ensures) _ (c .before .if1 .taken) (c .skip-policies .ensures)
+      let start = call .before .before .before .before .before .before .before .before .before .before in
+      or-permits _ _ _ _ _ _ _ _ _ (start .pre .1 .0) (call .eval-policy .ensures) _ (c .before .if1 .taken) (c .skip-policies .ensures)
 
   eval-or-else-eval-policy-requires-2 : eval-or-else-lts.Need-eval-policy-requires-2 eval-or-else-calls eval-or-else-at eval-or-else.Post
   eval-or-else-eval-policy-requires-2 c κs = search needs
@@ -391,8 +402,8 @@ module _ (t : ℕ) where
       let second = c .before .before .before .before .before .before in
       let deny = second .before .before .before .before in
       let call = deny .before .before .before .before .before .before .before .before in
-      let start = call .before .before .before .before .before .before .before .before .before in
-      or-denies _ _ _ _ _ _ _ _ (start .pre .1 .0) (call .eval-policy .ensures) _ _ _ (deny .if1 .left) (second .eval-policy2 .ensures)
+      let start = call .before .before .before .before .before .before .before .before .before .before in
+      or-denies _ _ _ _ _ _ _ _ _ (start .pre .1 .0) (call .eval-policy .ensures) _ _ _ (deny .if1 .left) (second .eval-policy2 .ensures)
 
   -- what `eval-policy` calls
   abbrev eval-policy-calls : eval-policy-lts.Claims
@@ -402,13 +413,13 @@ module _ (t : ℕ) where
   eval-policy-denied-requires c κs = search needs
 
   eval-policy-returns : eval-policy-lts.Need-returns eval-policy-calls eval-policy-at eval-policy.Post
-  eval-policy-returns c = rw (c .denied .ensures) (eval-end _ _ _ _ _ _ _ _ _ (c .before .if1 .taken))
+  eval-policy-returns c = rw (c .denied .ensures) (eval-end _ _ _ _ _ _ _ _ _ _ (c .before .if1 .taken))
 
   eval-policy-denied-requires-2 : eval-policy-lts.Need-denied-requires-2 eval-policy-calls eval-policy-at eval-policy.Post
   eval-policy-denied-requires-2 c κs = search needs
 
   eval-policy-returns-2 : eval-policy-lts.Need-returns-2 eval-policy-calls eval-policy-at eval-policy.Post
-  eval-policy-returns-2 c = rw (c .denied2 .ensures) (eval-limit _ _ _ _ _ _ _ _ _ (c .before .if2 .taken))
+  eval-policy-returns-2 c = rw (c .denied2 .ensures) (eval-limit _ _ _ _ _ _ _ _ _ _ (c .before .if2 .taken))
 
   eval-policy-add-next : eval-policy-lts.Need-add-next eval-policy-calls eval-policy-at eval-policy.Post
   eval-policy-add-next c = search needs
@@ -489,15 +500,15 @@ module _ (t : ℕ) where
   eval-policy-returns-3 c =
       let head = c .before .before .before .before in
       rw (c .permitted .ensures)
-      (by-head _ _ _ _ _ _ _ _ (Permit _) (head .before .before .if2 .left) (sym (c .before .before .outcome .given .1) ∙ head .policy-head .ensures)
-      (eval-permit _ _ _ _ _ _ _ _ _ (head .before .before .before .if1 .left) _ refl))
+      (by-head _ _ _ _ _ _ _ _ _ (Permit _) (head .before .before .if2 .left) (sym (c .before .before .outcome .given .1) ∙ head .policy-head .ensures)
+      (eval-permit _ _ _ _ _ _ _ _ _ _ (head .before .before .before .if1 .left) _ refl))
 
   eval-policy-returns-4 : eval-policy-lts.Need-returns-4 eval-policy-calls eval-policy-at eval-policy.Post
   eval-policy-returns-4 c =
       let head = c .before .before .before in
       rw (c .denied3 .ensures)
-      (by-head _ _ _ _ _ _ _ _ Deny (head .before .before .if2 .left) (sym (c .before .enum-told .given .1) ∙ head .policy-head .ensures)
-      (eval-deny _ _ _ _ _ _ _ _ _ (head .before .before .before .if1 .left) refl))
+      (by-head _ _ _ _ _ _ _ _ _ Deny (head .before .before .if2 .left) (sym (c .before .enum-told .given .1) ∙ head .policy-head .ensures)
+      (eval-deny _ _ _ _ _ _ _ _ _ _ (head .before .before .before .if1 .left) refl))
 
   eval-policy-same-length : eval-policy-lts.Need-same-length eval-policy-calls eval-policy-at eval-policy.Post
   eval-policy-same-length c = search needs
@@ -509,8 +520,8 @@ module _ (t : ℕ) where
   eval-policy-returns-5 c =
       let call = c .before .before .before .before in
       let head = call .before .before .before .before .before in
-      by-head _ _ _ _ _ _ _ _ (Grant _ _ _) (head .before .before .if2 .left) (sym (call .before .before .before .enum-told2 .given .1) ∙ head .policy-head .ensures)
-      (call .eval-grant .ensures _ _ _ _)
+      by-head _ _ _ _ _ _ _ _ _ (Grant _ _ _) (head .before .before .if2 .left) (sym (call .before .before .before .enum-told2 .given .1) ∙ head .policy-head .ensures)
+      (call .eval-grant .ensures _ _ _ _ _)
 
   eval-policy-same-length-3 : eval-policy-lts.Need-same-length-3 eval-policy-calls eval-policy-at eval-policy.Post
   eval-policy-same-length-3 c = search needs
@@ -525,7 +536,7 @@ module _ (t : ℕ) where
   eval-policy-returns-6 c =
       let call = c .before .before .before .before .before .before in
       let head = call .before .before .before .before .before .before .before in
-      by-head _ _ _ _ _ _ _ _ (All _) (head .before .before .if2 .left) (sym (call .before .before .before .before .before .arms .given .1) ∙ head .policy-head .ensures)
+      by-head _ _ _ _ _ _ _ _ _ (All _) (head .before .before .if2 .left) (sym (call .before .before .before .before .before .arms .given .1) ∙ head .policy-head .ensures)
       (call .eval-all .ensures)
 
   eval-policy-same-length-6 : eval-policy-lts.Need-same-length-6 eval-policy-calls eval-policy-at eval-policy.Post
@@ -541,7 +552,7 @@ module _ (t : ℕ) where
   eval-policy-returns-7 c =
       let call = c .before .before .before .before .before .before in
       let head = call .before .before .before .before .before .before .before in
-      by-head _ _ _ _ _ _ _ _ (Any _) (head .before .before .if2 .left) (sym (call .before .before .before .before .before .arms2 .given .1) ∙ head .policy-head .ensures)
+      by-head _ _ _ _ _ _ _ _ _ (Any _) (head .before .before .if2 .left) (sym (call .before .before .before .before .before .arms2 .given .1) ∙ head .policy-head .ensures)
       (call .eval-any .ensures)
 
   eval-policy-same-length-9 : eval-policy-lts.Need-same-length-9 eval-policy-calls eval-policy-at eval-policy.Post
@@ -557,34 +568,34 @@ module _ (t : ℕ) where
   eval-policy-returns-8 c =
       let call = c .before .before .before .before .before .before in
       let head = call .before .before .before .before .before .before in
-      by-head _ _ _ _ _ _ _ _ OrElse (head .before .before .if2 .left) (sym (call .before .before .before .before .enum-told3 .given .1) ∙ head .policy-head .ensures)
+      by-head _ _ _ _ _ _ _ _ _ OrElse (head .before .before .if2 .left) (sym (call .before .before .before .before .enum-told3 .given .1) ∙ head .policy-head .ensures)
       (call .eval-or-else .ensures)
 
   eval-policy-returns-9 : eval-policy-lts.Need-returns-9 eval-policy-calls eval-policy-at eval-policy.Post
   eval-policy-returns-9 c =
       let head = c .before .before .before .before in
-      by-head _ _ _ _ _ _ _ _ (PermitWithTrace _ _) (head .before .before .if2 .left) (sym (c .before .before .obligations .given .1) ∙ head .policy-head .ensures)
-      (c .stored-permit .ensures _ _ _ _ _ (omega arith))
+      by-head _ _ _ _ _ _ _ _ _ (PermitWithTrace _ _) (head .before .before .if2 .left) (sym (c .before .before .obligations .given .1) ∙ head .policy-head .ensures)
+      (c .stored-permit .ensures _ _ _ _ _ _ (omega arith))
 
   eval-policy-returns-10 : eval-policy-lts.Need-returns-10 eval-policy-calls eval-policy-at eval-policy.Post
   eval-policy-returns-10 c =
       let head = c .before .before .before in
-      by-head _ _ _ _ _ _ _ _ (DenyWithTrace _ _ _) (head .before .before .if2 .left) (sym (c .before .enum-told4 .given .1) ∙ head .policy-head .ensures)
-      (c .stored-deny .ensures _ _ _ _ _ _ _ _ (omega arith))
+      by-head _ _ _ _ _ _ _ _ _ (DenyWithTrace _ _ _) (head .before .before .if2 .left) (sym (c .before .enum-told4 .given .1) ∙ head .policy-head .ensures)
+      (c .stored-deny .ensures _ _ _ _ _ _ _ _ _ (omega arith))
 
   eval-policy-returns-11 : eval-policy-lts.Need-returns-11 eval-policy-calls eval-policy-at eval-policy.Post
   eval-policy-returns-11 c =
       let head = c .before .before .before in
       rw (c .denied4 .ensures)
-      (by-head _ _ _ _ _ _ _ _ BadKind (head .before .before .if2 .left) (sym (c .before .enum-told5 .given .1) ∙ head .policy-head .ensures)
-      (eval-bad-kind _ _ _ _ _ _ _ _ _ (head .before .before .before .if1 .left)))
+      (by-head _ _ _ _ _ _ _ _ _ BadKind (head .before .before .if2 .left) (sym (c .before .enum-told5 .given .1) ∙ head .policy-head .ensures)
+      (eval-bad-kind _ _ _ _ _ _ _ _ _ _ (head .before .before .before .if1 .left)))
 
   eval-policy-returns-12 : eval-policy-lts.Need-returns-12 eval-policy-calls eval-policy-at eval-policy.Post
   eval-policy-returns-12 c =
       let head = c .before .before .before in
       rw (c .denied5 .ensures)
-      (by-head _ _ _ _ _ _ _ _ BadField (head .before .before .if2 .left) (sym (c .before .enum-told6 .given .1) ∙ head .policy-head .ensures)
-      (eval-bad-field _ _ _ _ _ _ _ _ _ (head .before .before .before .if1 .left)))
+      (by-head _ _ _ _ _ _ _ _ _ BadField (head .before .before .if2 .left) (sym (c .before .enum-told6 .given .1) ∙ head .policy-head .ensures)
+      (eval-bad-field _ _ _ _ _ _ _ _ _ _ (head .before .before .before .if1 .left)))
 
 pub +eval-all+eval-any+eval-arm+eval-or-else+eval-policy-spec : {M : Type 1} → statement M
 +eval-all+eval-any+eval-arm+eval-or-else+eval-policy-spec =
@@ -603,6 +614,7 @@ pub +eval-all+eval-any+eval-arm+eval-or-else+eval-policy-spec : {M : Type 1} →
     (eval-all-same-length-2 t)
     (eval-all-same-length-3 t)
     (eval-all-returns t)
+    (eval-all-meet-by-requires t)
     (eval-all-met-requires t)
     (eval-all-loop-less t)
     (eval-all-loop-again t)
@@ -619,6 +631,7 @@ pub +eval-all+eval-any+eval-arm+eval-or-else+eval-policy-spec : {M : Type 1} →
     (eval-any-part-eval-arm-end t)
     (eval-any-eval-arm-requires t)
     (eval-any-sub-left t)
+    (eval-any-join-by-requires t)
     (eval-any-joined-requires t)
     (eval-any-loop-less t)
     (eval-any-loop-again t)

@@ -22,9 +22,9 @@ returns : tie.Need-returns
 returns c =
     let found = c .before .before in
     let start = found .before .before .before .before .before in
-    λ hidden n o buf. rw (c .denied .ensures)
+    λ g hidden n o buf. rw (c .denied .ensures)
     (grant-by-word hidden n o
-    (grant-short _ _ _ _ hidden _ _ (start .pre .0) (start .pre .1) _ _ buf (omega arith) (omega (arith, c .before .if1 .taken, found .before-condition-in .ensures))))
+    (grant-short g _ _ _ _ hidden _ _ (start .pre .0) (start .pre .1) _ _ buf (omega arith) (omega (arith, c .before .if1 .taken, found .before-condition-in .ensures))))
 
 add-eval-arm : tie.Need-add-eval-arm
 add-eval-arm c = search needs
@@ -53,9 +53,9 @@ returns-2 c =
     let call = outcome .before .before .before .before .before in
     let found = call .before .before .before .before in
     let start = found .before .before .before .before .before in
-    λ hidden n o buf. rw (c .granted .ensures, outcome .outcome-in .ensures)
+    λ g hidden n o buf. rw (c .granted .ensures, outcome .outcome-in .ensures)
     (grant-by-word hidden n o
-    (grant-decides _ _ _ _ hidden _ _ (start .pre .0) (start .pre .1) _ _ _ buf (rw (found .before-condition-in .ensures) at (call .eval-arm .ensures))))
+    (grant-decides g _ _ _ _ hidden _ _ (start .pre .0) (start .pre .1) _ _ _ buf (rw (found .before-condition-in .ensures) at (call .eval-arm .ensures))))
 
 pub eval-grant-spec : {M : Type 1} → statement M
 eval-grant-spec =

@@ -13,10 +13,12 @@ same-length : tie.Need-same-length
 same-length c = search needs
 
 returns : tie.Need-returns
-returns c = join-first _ _ _ _ _ _ (c .before .before .before .before .before .before .before .args .begun) (not-true _ (c .before .before .before .before .if1 .taken)) (omega arith) (c .before .before .keep .ensures)
+returns c =
+    let kept = c .before .before .keep .ensures in
+    (rw (kept .same) (omega arith), λ g _. join-first _ _ _ _ _ _ g (c .before .before .before .before .before .before .before .args .begun) (not-true _ (c .before .before .before .before .if1 .taken)) (omega arith) kept)
 
 returns-2 : tie.Need-returns-2
-returns-2 c = join-deny _ _ _ _ (c .before .before .before .before .before .args .begun) (not-false _ (c .before .before .if1 .left)) (omega arith) (not-true _ (c .if2 .taken))
+returns-2 c = (omega arith, λ g _. join-deny g _ _ _ _ (c .before .before .before .before .before .args .begun) (not-false _ (c .before .before .if1 .left)) (omega arith) (not-true _ (c .if2 .taken)))
 
 join-requires : tie.Need-join-requires
 join-requires c κs = search needs
@@ -28,7 +30,8 @@ returns-3 : tie.Need-returns-3
 returns-3 c =
     let third = c .before .before .before .before in
     let second = third .before in
-    join-permits _ _ _ _ _ _ (second .before .before .before .before .before .args .begun) (not-false _ (second .before .before .if1 .left)) (third .if3 .taken) (not-false _ (second .if2 .left)) (c .before .before .join .ensures)
+    let join = c .before .before .join .ensures in
+    (join .0, λ g e. join-permits _ _ _ _ _ _ g (second .before .before .before .before .before .args .begun) (not-false _ (second .before .before .if1 .left)) (third .if3 .taken) (not-false _ (second .if2 .left)) (join .1 g e))
 
 keep-requires-2 : tie.Need-keep-requires-2
 keep-requires-2 c κs = search needs
@@ -40,7 +43,8 @@ returns-4 : tie.Need-returns-4
 returns-4 c =
     let third = c .before .before .before .before in
     let second = third .before in
-    join-permit _ _ _ _ _ _ (second .before .before .before .before .before .args .begun) (not-false _ (second .before .before .if1 .left)) (omega arith) (third .if3 .left) (not-false _ (second .if2 .left)) (c .before .before .keep2 .ensures)
+    let kept = c .before .before .keep2 .ensures in
+    (rw (kept .same) (omega arith), λ g _. join-permit _ _ _ _ _ _ g (second .before .before .before .before .before .args .begun) (not-false _ (second .before .before .if1 .left)) (omega arith) (third .if3 .left) (not-false _ (second .if2 .left)) kept)
 
 pub joined-spec : {M : Type 1} → statement M
 joined-spec =

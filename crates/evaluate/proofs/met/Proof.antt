@@ -12,7 +12,9 @@ same-length : tie.Need-same-length
 same-length c = search needs
 
 returns : tie.Need-returns
-returns c = met-more _ _ _ _ _ _ (c .before .before .before .before .if1 .taken) (c .before .before .meet .ensures)
+returns c =
+    let meet = c .before .before .meet .ensures in
+    (meet .0, λ g e. met-more _ _ _ _ _ _ g (c .before .before .before .before .if1 .taken) (meet .1 g e))
 
 keep-requires : tie.Need-keep-requires
 keep-requires c κs = search needs
@@ -21,7 +23,9 @@ same-length-2 : tie.Need-same-length-2
 same-length-2 c = search needs
 
 returns-2 : tie.Need-returns-2
-returns-2 c = met-first _ _ _ _ _ _ (omega arith) (c .before .before .before .before .if1 .left) (c .before .before .keep .ensures)
+returns-2 c =
+    let kept = c .before .before .keep .ensures in
+    (rw (kept .same) (omega arith), λ g _. met-first _ _ _ _ _ _ g (omega arith) (c .before .before .before .before .if1 .left) kept)
 
 pub met-spec : {M : Type 1} → statement M
 met-spec =

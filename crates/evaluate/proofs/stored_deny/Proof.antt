@@ -15,7 +15,7 @@ denied-requires c κs = search needs
 returns : tie.Need-returns
 returns c =
     let start = c .before .before .before in
-    λ hidden denied o depth T entries seen buf deep. rw (c .denied .ensures) (deny-short T _ _ depth (start .pre) deep hidden denied o (lent _ entries seen) buf _ (omega arith) (omega arith))
+    λ g hidden denied o depth T entries seen buf deep. rw (c .denied .ensures) (deny-short g T _ _ depth (start .pre) deep hidden denied o (lent _ entries seen) buf _ (omega arith) (omega arith))
 
 add-third : tie.Need-add-third
 add-third c = search needs
@@ -42,8 +42,8 @@ returns-2 : tie.Need-returns-2
 returns-2 c =
     let facts = c .before .before in
     let start = facts .before .before .before .before in
-    λ hidden denied o depth T entries seen buf deep. rw (c .denied2 .ensures)
-    (deny-short T _ _ depth (start .pre) deep hidden denied o (lent _ entries seen) buf _ (omega arith) (omega (arith, c .before .if2 .taken, facts .entry-words .ensures)))
+    λ g hidden denied o depth T entries seen buf deep. rw (c .denied2 .ensures)
+    (deny-short g T _ _ depth (start .pre) deep hidden denied o (lent _ entries seen) buf _ (omega arith) (omega (arith, c .before .if2 .taken, facts .entry-words .ensures)))
 
 denied-by-requires : tie.Need-denied-by-requires
 denied-by-requires c κs = search needs
@@ -55,8 +55,8 @@ returns-3 : tie.Need-returns-3
 returns-3 c =
     let facts = c .before .before in
     let start = facts .before .before .before .before in
-    λ hidden denied o depth T entries seen buf deep. rw (c .denied-by .ensures)
-    (deny-stored T _ _ depth (start .pre) deep hidden denied o (lent _ entries seen) buf _ _ (omega (arith, facts .entry-words .ensures)))
+    λ g hidden denied o depth T entries seen buf deep. rw (c .denied-by .ensures)
+    (deny-stored g T _ _ depth (start .pre) deep hidden denied o (lent _ entries seen) buf _ _ (omega (arith, facts .entry-words .ensures)))
 
 pub stored-deny-spec : {M : Type 1} → statement M
 stored-deny-spec =

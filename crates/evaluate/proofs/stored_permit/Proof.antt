@@ -15,7 +15,7 @@ denied-requires c κs = search needs
 returns : tie.Need-returns
 returns c =
     let start = c .before .before .before in
-    λ depth T entries seen buf deep. rw (c .denied .ensures) (permit-short T _ _ depth (start .pre) deep _ _ (lent _ entries seen) buf _ (omega arith) (omega arith))
+    λ g depth T entries seen buf deep. rw (c .denied .ensures) (permit-short g T _ _ depth (start .pre) deep _ _ (lent _ entries seen) buf _ (omega arith) (omega arith))
 
 obligation-words-requires : tie.Need-obligation-words-requires
 obligation-words-requires c κs = search needs
@@ -46,8 +46,8 @@ returns-2 c =
     let facts = c .before .before in
     let held = facts .before .before in
     let start = held .before .before .before in
-    λ depth T entries seen buf deep. rw (c .denied2 .ensures)
-    (permit-short T _ _ depth (start .pre) deep _ _ (lent _ entries seen) buf _ (omega arith) (omega (arith, c .before .if2 .taken, facts .entry-words .ensures, held .obligation-words .ensures)))
+    λ g depth T entries seen buf deep. rw (c .denied2 .ensures)
+    (permit-short g T _ _ depth (start .pre) deep _ _ (lent _ entries seen) buf _ (omega arith) (omega (arith, c .before .if2 .taken, facts .entry-words .ensures, held .obligation-words .ensures)))
 
 permitted-by-requires : tie.Need-permitted-by-requires
 permitted-by-requires c κs = search needs
@@ -60,8 +60,8 @@ returns-3 c =
     let facts = c .before .before in
     let held = facts .before .before in
     let start = held .before .before .before in
-    λ depth T entries seen buf deep. rw (c .permitted-by .ensures)
-    (permit-stored T _ _ depth (start .pre) deep _ _ (lent _ entries seen) buf _ _ (omega (arith, facts .entry-words .ensures, held .obligation-words .ensures)))
+    λ g depth T entries seen buf deep. rw (c .permitted-by .ensures)
+    (permit-stored g T _ _ depth (start .pre) deep _ _ (lent _ entries seen) buf _ _ (omega (arith, facts .entry-words .ensures, held .obligation-words .ensures)))
 
 pub stored-permit-spec : {M : Type 1} → statement M
 stored-permit-spec =

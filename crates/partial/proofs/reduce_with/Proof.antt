@@ -23,7 +23,7 @@ put-pending-requires c κs =
     let entries2 = c .before .before .before .before .before .before .before .before .before .before .before .before .before .before in
     let reduced = entries2 .before in
     let entries = reduced .before .before .before .before .before .before .before .before .before in
-    let start = entries .before .before .before .before .before .before .before .before .before .before .before .before in
+    let start = entries .before .before .before .before .before .before .before .before .before .before .before .before .before in
     (omega (arith, start .pre .7 .1, entries .entries .given, entries2 .entries2 .given), reduced .reduce-policy .ensures .bound)
 
 same-length : tie.Need-same-length
@@ -50,9 +50,9 @@ returns c =
     let tree = put .before .before .before .before .before .before in
     let reduced = tree .before .before .before .before .before .before .before .before .before .before in
     let load = reduced .before .before .before .before .before .before .before .before .before .before in
-    let start = load .before .before .before .before .before .before .before .before .before .before .before in
+    let start = load .before .before .before .before .before .before .before .before .before .before .before .before in
     reduces-from (load .load-consulted .ensures) (no-facts _) (start .pre .7 .0)
-    (reduces-pending _ (start .pre .1) (start .pre .2) (reduced .reduce-policy .ensures) (put .before .before .before .before .if1 .taken) (start .pre .5) (omega (arith, start .pre .6, tree .tree .given)) (put .put-pending .ensures))
+    (reduces-pending _ _ (start .pre .1) (start .pre .2) (reduced .reduce-policy .ensures) (put .before .before .before .before .if1 .taken) (start .pre .5) (omega (arith, start .pre .6, tree .tree .given)) (put .put-pending .ensures))
 
 put-record-requires : tie.Need-put-record-requires
 put-record-requires c κs =
@@ -61,7 +61,7 @@ put-record-requires c κs =
     let entries2 = buf .before .before .before in
     let reduced = entries2 .before in
     let entries = reduced .before .before .before .before .before .before .before .before .before in
-    let start = entries .before .before .before .before .before .before .before .before .before .before .before .before in
+    let start = entries .before .before .before .before .before .before .before .before .before .before .before .before .before in
     (reduced .reduce-policy .ensures .few, omega (arith, start .pre .3, buf .buf .given), omega (arith, start .pre .7 .1, entries .entries .given, entries2 .entries2 .given), (omega (arith, start .pre .4 .0, named .named .given), omega (arith, start .pre .4 .1, named .named .given)))
 
 same-length-7 : tie.Need-same-length-7
@@ -89,9 +89,9 @@ returns-2 c =
     let put = c .before .before .before .before in
     let reduced = put .before .before .before .before .before .before .before .before .before .before .before .before .before .before .before .before .before in
     let load = reduced .before .before .before .before .before .before .before .before .before .before in
-    let start = load .before .before .before .before .before .before .before .before .before .before .before in
+    let start = load .before .before .before .before .before .before .before .before .before .before .before .before in
     reduces-from (load .load-consulted .ensures) (no-facts _) (start .pre .7 .0)
-    (reduces-resolved _ (start .pre .1) (start .pre .2) (reduced .reduce-policy .ensures) (put .before .before .before .before .before .if1 .left) (put .put-record .ensures))
+    (reduces-resolved _ _ (start .pre .1) (start .pre .2) (reduced .reduce-policy .ensures) (put .before .before .before .before .before .if1 .left) (put .put-record .ensures))
 
 pub reduce-with-spec : {M : Type 1} → statement M
 reduce-with-spec =

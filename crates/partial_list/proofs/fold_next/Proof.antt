@@ -13,7 +13,7 @@ same-length c = search needs
 returns : tie.Need-returns
 returns c =
     let met = c .before .before .met .ensures in
-    (met .few, fold-met _ _ (c .before .before .before .before .if1 .taken) met)
+    (met .0, fold-met _ _ (c .before .before .before .before .if1 .taken) (met .1))
 
 joined-requires : tie.Need-joined-requires
 joined-requires c κs = search needs
@@ -24,7 +24,7 @@ same-length-2 c = search needs
 returns-2 : tie.Need-returns-2
 returns-2 c =
     let joined = c .before .before .joined .ensures in
-    (joined .few, fold-joined _ _ (c .before .before .before .before .if1 .left) joined)
+    (joined .0, fold-joined _ _ (c .before .before .before .before .if1 .left) (joined .1))
 
 pub fold-next-spec : {M : Type 1} → statement M
 fold-next-spec =

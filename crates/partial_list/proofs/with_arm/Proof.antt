@@ -7,8 +7,8 @@ use Rattle.partial_list.proofs.with_arm.Tie as tie
 plus-requires : tie.Need-plus-requires
 plus-requires c κs = search needs
 
-add-t12 : tie.Need-add-t12
-add-t12 c = search needs
+add-t13 : tie.Need-add-t13
+add-t13 c = search needs
 
 returns : tie.Need-returns
 returns c = arm-open _ _ (c .before .before .before .before .before .before .before .before .before .pre .0) (c .before .before .before .if1 .taken) (c .before .plus .ensures)
@@ -35,7 +35,7 @@ with-arm-spec =
     tie.close
     (tie.spec
     plus-requires
-    add-t12
+    add-t13
     returns
     with-decision-requires
     same-length

@@ -8,8 +8,8 @@ use Rattle.partial_list.proofs.with_arm_in_order.Tie as tie
 plus-requires : tie.Need-plus-requires
 plus-requires c κs = search needs
 
-add-t15 : tie.Need-add-t15
-add-t15 c = search needs
+add-t16 : tie.Need-add-t16
+add-t16 c = search needs
 
 returns : tie.Need-returns
 returns c = held-open _ _ (c .before .before .before .before .before .before .before .before .before .pre .0) (c .before .before .if1 .taken) (c .before .plus .ensures)
@@ -17,8 +17,8 @@ returns c = held-open _ _ (c .before .before .before .before .before .before .be
 lay-node-requires : tie.Need-lay-node-requires
 lay-node-requires c κs = search needs
 
-add-t22 : tie.Need-add-t22
-add-t22 c = search needs
+add-t23 : tie.Need-add-t23
+add-t23 c = search needs
 
 same-length : tie.Need-same-length
 same-length c = search needs
@@ -35,8 +35,8 @@ returns-2 c = held-pending (c .before .before .before .before .before .before .b
 fold-next-requires : tie.Need-fold-next-requires
 fold-next-requires c κs = search needs
 
-add-t25 : tie.Need-add-t25
-add-t25 c = search needs
+add-t26 : tie.Need-add-t26
+add-t26 c = search needs
 
 same-length-4 : tie.Need-same-length-4
 same-length-4 c = search needs
@@ -55,16 +55,16 @@ with-arm-in-order-spec =
     tie.close
     (tie.spec
     plus-requires
-    add-t15
+    add-t16
     returns
     lay-node-requires
-    add-t22
+    add-t23
     same-length
     same-length-2
     same-length-3
     returns-2
     fold-next-requires
-    add-t25
+    add-t26
     same-length-4
     same-length-5
     same-length-6

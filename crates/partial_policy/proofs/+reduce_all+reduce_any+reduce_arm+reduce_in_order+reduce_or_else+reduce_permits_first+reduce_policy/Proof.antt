@@ -9,6 +9,7 @@ use native.Mathlib.Omega.{arith}
 use lib.ListN.{length}
 use Rattle.model.specs.Facts.{tableOf}
 use Rattle.model.specs.Partial.{permitsFirst, sheetOrder}
+use Rattle.outcome.specs.Carried.{carried}
 use Rattle.condition.specs.Listing.{lent}
 use Rattle.policy_model.specs.declared.PolicyHead.the-variants.{Grant, All, Any, OrElse}
 use Rattle.partial_policy.specs.Reducing.{ReducesBy, listHead}
@@ -44,6 +45,7 @@ use Rattle.decision.proofs.permitted.Reads as permitted-reads
 use Rattle.partial_list.proofs.end_in_order.Reads as end-in-order-reads
 use Rattle.partial_list.proofs.end_list.Reads as end-list-reads
 use Rattle.partial_policy.proofs.end_or_else.Reads as end-or-else-reads
+use Rattle.partial_list.proofs.outcome_next.Reads as outcome-next-reads
 use Rattle.partial_list.proofs.pending.Reads as pending-reads
 use Rattle.partial_policy.proofs.reduce_constant.Reads as reduce-constant-reads
 use Rattle.partial_policy.proofs.reduce_grant.Reads as reduce-grant-reads
@@ -60,32 +62,32 @@ use Rattle.sizes.proofs.tail_from.Reads as tail-from-reads
 use Rattle.partial_policy.proofs.+reduce_all+reduce_any+reduce_arm+reduce_in_order+reduce_or_else+reduce_permits_first+reduce_policy.{statement}
 use Rattle.partial_policy.proofs.+reduce_all+reduce_any+reduce_arm+reduce_in_order+reduce_or_else+reduce_permits_first+reduce_policy.Tie.{close}
 
-abbrev μ-reduce-all : Measures 8 reduce-all-kinds.ps ℕ
+abbrev μ-reduce-all : Measures 9 reduce-all-kinds.ps ℕ
 μ-reduce-all κs a = a .1 .1 .0 * 4 + 3
 
-abbrev μ-reduce-any : Measures 8 reduce-any-kinds.ps ℕ
+abbrev μ-reduce-any : Measures 9 reduce-any-kinds.ps ℕ
 μ-reduce-any κs a = a .1 .1 .0 * 4 + 3
 
-abbrev μ-reduce-arm : Measures 8 reduce-arm-kinds.ps ℕ
+abbrev μ-reduce-arm : Measures 9 reduce-arm-kinds.ps ℕ
 μ-reduce-arm κs a = a .1 .1 .0 * 4 + 1
 
-abbrev μ-reduce-in-order : Measures 8 reduce-in-order-kinds.ps ℕ
+abbrev μ-reduce-in-order : Measures 9 reduce-in-order-kinds.ps ℕ
 μ-reduce-in-order κs a = a .1 .1 .0 * 4 + 2
 
-abbrev μ-reduce-or-else : Measures 8 reduce-or-else-kinds.ps ℕ
+abbrev μ-reduce-or-else : Measures 9 reduce-or-else-kinds.ps ℕ
 μ-reduce-or-else κs a = a .1 .1 .0 * 4 + 1
 
-abbrev μ-reduce-permits-first : Measures 8 reduce-permits-first-kinds.ps ℕ
+abbrev μ-reduce-permits-first : Measures 9 reduce-permits-first-kinds.ps ℕ
 μ-reduce-permits-first κs a = a .1 .1 .0 * 4 + 2
 
-abbrev μ-reduce-policy : Measures 8 reduce-policy-kinds.ps ℕ
+abbrev μ-reduce-policy : Measures 9 reduce-policy-kinds.ps ℕ
 μ-reduce-policy κs a = a .1 .1 .0 * 4
 
 abbrev reduce-permits-first-Inv-loop : reduce-permits-first-lts.InvT-loop
-reduce-permits-first-Inv-loop words at depth arms every facts entries₀ seen₀ count buf₀ named₀ front₀ out₀ sofar₀ next₀ listed₀ left₀ entries seen buf named front out sofar next listed left =
+reduce-permits-first-Inv-loop words at depth arms every facts levels outcomes entries₀ seen₀ count buf₀ named₀ front₀ out₀ sofar₀ next₀ listed₀ left₀ entries seen buf named front out sofar next listed left =
     Going
-    (ArmsLeft every (tableOf facts) words sofar buf front out next depth left (lent listed entries seen))
-    (λ r t buf′ out′. ReducesBy permitsFirst (listHead every arms) (tableOf facts) words at depth (lent count entries₀ seen₀) r t buf′ (length front₀) out′)
+    (ArmsLeft every (carried levels outcomes) (tableOf facts) words sofar buf front out next depth left (lent listed entries seen))
+    (λ r t buf′ out′. ReducesBy (carried levels outcomes) permitsFirst (listHead every arms) (tableOf facts) words at depth (lent count entries₀ seen₀) r t buf′ (length front₀) out′)
     (lent count entries₀ seen₀)
     (lent listed entries seen)
     sofar
@@ -101,13 +103,13 @@ reduce-permits-first-Inv-loop words at depth arms every facts entries₀ seen₀
     out
 
 abbrev reduce-permits-first-μ-loop : reduce-permits-first-lts.MeasureT-loop
-reduce-permits-first-μ-loop words at depth arms every facts entries₀ seen₀ count buf₀ named₀ front₀ out₀ sofar₀ next₀ listed₀ left₀ entries seen buf named front out sofar next listed left = left
+reduce-permits-first-μ-loop words at depth arms every facts levels outcomes entries₀ seen₀ count buf₀ named₀ front₀ out₀ sofar₀ next₀ listed₀ left₀ entries seen buf named front out sofar next listed left = left
 
 abbrev reduce-in-order-Inv-loop : reduce-in-order-lts.InvT-loop
-reduce-in-order-Inv-loop words at depth arms every facts entries₀ seen₀ count buf₀ named₀ front₀ out₀ sofar₀ next₀ listed₀ left₀ entries seen buf named front out sofar next listed left =
+reduce-in-order-Inv-loop words at depth arms every facts levels outcomes entries₀ seen₀ count buf₀ named₀ front₀ out₀ sofar₀ next₀ listed₀ left₀ entries seen buf named front out sofar next listed left =
     Going
-    (HeldLeft every (tableOf facts) words sofar buf (length front₀) out next depth left (lent listed entries seen))
-    (λ r t buf′ out′. ReducesBy sheetOrder (listHead every arms) (tableOf facts) words at depth (lent count entries₀ seen₀) r t buf′ (length front₀) out′)
+    (HeldLeft every (carried levels outcomes) (tableOf facts) words sofar buf (length front₀) out next depth left (lent listed entries seen))
+    (λ r t buf′ out′. ReducesBy (carried levels outcomes) sheetOrder (listHead every arms) (tableOf facts) words at depth (lent count entries₀ seen₀) r t buf′ (length front₀) out′)
     (lent count entries₀ seen₀)
     (lent listed entries seen)
     sofar
@@ -123,50 +125,50 @@ reduce-in-order-Inv-loop words at depth arms every facts entries₀ seen₀ coun
     out
 
 abbrev reduce-in-order-μ-loop : reduce-in-order-lts.MeasureT-loop
-reduce-in-order-μ-loop words at depth arms every facts entries₀ seen₀ count buf₀ named₀ front₀ out₀ sofar₀ next₀ listed₀ left₀ entries seen buf named front out sofar next listed left = left
+reduce-in-order-μ-loop words at depth arms every facts levels outcomes entries₀ seen₀ count buf₀ named₀ front₀ out₀ sofar₀ next₀ listed₀ left₀ entries seen buf named front out sofar next listed left = left
 
 module _ (t : ℕ) where
-  abbrev reduce-all-at : In 8 reduce-all-kinds.ps
-  reduce-all-at = and 8 reduce-all-kinds.ps (is 8 reduce-all-kinds.ps μ-reduce-all t) reduce-all.Pre
+  abbrev reduce-all-at : In 9 reduce-all-kinds.ps
+  reduce-all-at = and 9 reduce-all-kinds.ps (is 9 reduce-all-kinds.ps μ-reduce-all t) reduce-all.Pre
 
-  abbrev reduce-all-below : In 8 reduce-all-kinds.ps
-  reduce-all-below = and 8 reduce-all-kinds.ps (falls 8 reduce-all-kinds.ps _<_ μ-reduce-all t) reduce-all.Pre
+  abbrev reduce-all-below : In 9 reduce-all-kinds.ps
+  reduce-all-below = and 9 reduce-all-kinds.ps (falls 9 reduce-all-kinds.ps _<_ μ-reduce-all t) reduce-all.Pre
 
-  abbrev reduce-any-at : In 8 reduce-any-kinds.ps
-  reduce-any-at = and 8 reduce-any-kinds.ps (is 8 reduce-any-kinds.ps μ-reduce-any t) reduce-any.Pre
+  abbrev reduce-any-at : In 9 reduce-any-kinds.ps
+  reduce-any-at = and 9 reduce-any-kinds.ps (is 9 reduce-any-kinds.ps μ-reduce-any t) reduce-any.Pre
 
-  abbrev reduce-any-below : In 8 reduce-any-kinds.ps
-  reduce-any-below = and 8 reduce-any-kinds.ps (falls 8 reduce-any-kinds.ps _<_ μ-reduce-any t) reduce-any.Pre
+  abbrev reduce-any-below : In 9 reduce-any-kinds.ps
+  reduce-any-below = and 9 reduce-any-kinds.ps (falls 9 reduce-any-kinds.ps _<_ μ-reduce-any t) reduce-any.Pre
 
-  abbrev reduce-arm-at : In 8 reduce-arm-kinds.ps
-  reduce-arm-at = and 8 reduce-arm-kinds.ps (is 8 reduce-arm-kinds.ps μ-reduce-arm t) reduce-arm.Pre
+  abbrev reduce-arm-at : In 9 reduce-arm-kinds.ps
+  reduce-arm-at = and 9 reduce-arm-kinds.ps (is 9 reduce-arm-kinds.ps μ-reduce-arm t) reduce-arm.Pre
 
-  abbrev reduce-arm-below : In 8 reduce-arm-kinds.ps
-  reduce-arm-below = and 8 reduce-arm-kinds.ps (falls 8 reduce-arm-kinds.ps _<_ μ-reduce-arm t) reduce-arm.Pre
+  abbrev reduce-arm-below : In 9 reduce-arm-kinds.ps
+  reduce-arm-below = and 9 reduce-arm-kinds.ps (falls 9 reduce-arm-kinds.ps _<_ μ-reduce-arm t) reduce-arm.Pre
 
-  abbrev reduce-in-order-at : In 8 reduce-in-order-kinds.ps
-  reduce-in-order-at = and 8 reduce-in-order-kinds.ps (is 8 reduce-in-order-kinds.ps μ-reduce-in-order t) reduce-in-order.Pre
+  abbrev reduce-in-order-at : In 9 reduce-in-order-kinds.ps
+  reduce-in-order-at = and 9 reduce-in-order-kinds.ps (is 9 reduce-in-order-kinds.ps μ-reduce-in-order t) reduce-in-order.Pre
 
-  abbrev reduce-in-order-below : In 8 reduce-in-order-kinds.ps
-  reduce-in-order-below = and 8 reduce-in-order-kinds.ps (falls 8 reduce-in-order-kinds.ps _<_ μ-reduce-in-order t) reduce-in-order.Pre
+  abbrev reduce-in-order-below : In 9 reduce-in-order-kinds.ps
+  reduce-in-order-below = and 9 reduce-in-order-kinds.ps (falls 9 reduce-in-order-kinds.ps _<_ μ-reduce-in-order t) reduce-in-order.Pre
 
-  abbrev reduce-or-else-at : In 8 reduce-or-else-kinds.ps
-  reduce-or-else-at = and 8 reduce-or-else-kinds.ps (is 8 reduce-or-else-kinds.ps μ-reduce-or-else t) reduce-or-else.Pre
+  abbrev reduce-or-else-at : In 9 reduce-or-else-kinds.ps
+  reduce-or-else-at = and 9 reduce-or-else-kinds.ps (is 9 reduce-or-else-kinds.ps μ-reduce-or-else t) reduce-or-else.Pre
 
-  abbrev reduce-or-else-below : In 8 reduce-or-else-kinds.ps
-  reduce-or-else-below = and 8 reduce-or-else-kinds.ps (falls 8 reduce-or-else-kinds.ps _<_ μ-reduce-or-else t) reduce-or-else.Pre
+  abbrev reduce-or-else-below : In 9 reduce-or-else-kinds.ps
+  reduce-or-else-below = and 9 reduce-or-else-kinds.ps (falls 9 reduce-or-else-kinds.ps _<_ μ-reduce-or-else t) reduce-or-else.Pre
 
-  abbrev reduce-permits-first-at : In 8 reduce-permits-first-kinds.ps
-  reduce-permits-first-at = and 8 reduce-permits-first-kinds.ps (is 8 reduce-permits-first-kinds.ps μ-reduce-permits-first t) reduce-permits-first.Pre
+  abbrev reduce-permits-first-at : In 9 reduce-permits-first-kinds.ps
+  reduce-permits-first-at = and 9 reduce-permits-first-kinds.ps (is 9 reduce-permits-first-kinds.ps μ-reduce-permits-first t) reduce-permits-first.Pre
 
-  abbrev reduce-permits-first-below : In 8 reduce-permits-first-kinds.ps
-  reduce-permits-first-below = and 8 reduce-permits-first-kinds.ps (falls 8 reduce-permits-first-kinds.ps _<_ μ-reduce-permits-first t) reduce-permits-first.Pre
+  abbrev reduce-permits-first-below : In 9 reduce-permits-first-kinds.ps
+  reduce-permits-first-below = and 9 reduce-permits-first-kinds.ps (falls 9 reduce-permits-first-kinds.ps _<_ μ-reduce-permits-first t) reduce-permits-first.Pre
 
-  abbrev reduce-policy-at : In 8 reduce-policy-kinds.ps
-  reduce-policy-at = and 8 reduce-policy-kinds.ps (is 8 reduce-policy-kinds.ps μ-reduce-policy t) reduce-policy.Pre
+  abbrev reduce-policy-at : In 9 reduce-policy-kinds.ps
+  reduce-policy-at = and 9 reduce-policy-kinds.ps (is 9 reduce-policy-kinds.ps μ-reduce-policy t) reduce-policy.Pre
 
-  abbrev reduce-policy-below : In 8 reduce-policy-kinds.ps
-  reduce-policy-below = and 8 reduce-policy-kinds.ps (falls 8 reduce-policy-kinds.ps _<_ μ-reduce-policy t) reduce-policy.Pre
+  abbrev reduce-policy-below : In 9 reduce-policy-kinds.ps
+  reduce-policy-below = and 9 reduce-policy-kinds.ps (falls 9 reduce-policy-kinds.ps _<_ μ-reduce-policy t) reduce-policy.Pre
 
   -- what `reduce-all` calls
   abbrev reduce-all-calls : reduce-all-lts.Claims
@@ -321,7 +323,7 @@ module _ (t : ℕ) where
   reduce-arm-same-length-2 c = search needs
 
   reduce-arm-returns-3 : reduce-arm-lts.Need-returns-3 reduce-arm-calls reduce-arm-at reduce-arm.Post
-  reduce-arm-returns-3 c = c .before .before .before .before .reduce-on-fact .ensures _ _ _ _ _
+  reduce-arm-returns-3 c = c .before .before .before .before .reduce-on-fact .ensures _ _ _ _ _ _
 
   reduce-arm-reduce-policy-requires : reduce-arm-lts.Need-reduce-policy-requires reduce-arm-calls reduce-arm-at reduce-arm.Post
   reduce-arm-reduce-policy-requires c κs = search needs
@@ -349,7 +351,7 @@ module _ (t : ℕ) where
 
   -- what `reduce-in-order` calls
   abbrev reduce-in-order-calls : reduce-in-order-lts.Claims
-  reduce-in-order-calls = (denied-reads.Asked, denied-reads.Learnt, tail-from-reads.Asked, tail-from-reads.Learnt, reduce-policy-below, reduce-policy.Post, stops-reads.Asked, stops-reads.Learnt, skip-policies-reads.Asked, skip-policies-reads.Learnt, resolved-reads.Asked, resolved-reads.Learnt, with-arm-in-order-reads.Asked, with-arm-in-order-reads.Learnt, end-in-order-reads.Asked, end-in-order-reads.Learnt)
+  reduce-in-order-calls = (denied-reads.Asked, denied-reads.Learnt, tail-from-reads.Asked, tail-from-reads.Learnt, reduce-policy-below, reduce-policy.Post, outcome-next-reads.Asked, outcome-next-reads.Learnt, stops-reads.Asked, stops-reads.Learnt, skip-policies-reads.Asked, skip-policies-reads.Learnt, resolved-reads.Asked, resolved-reads.Learnt, with-arm-in-order-reads.Asked, with-arm-in-order-reads.Learnt, end-in-order-reads.Asked, end-in-order-reads.Learnt)
 
   reduce-in-order-denied-requires : reduce-in-order-lts.Need-denied-requires reduce-in-order-calls reduce-in-order-at reduce-in-order.Post reduce-in-order-Inv-loop reduce-in-order-μ-loop
   reduce-in-order-denied-requires c κs = search needs
@@ -369,7 +371,7 @@ module _ (t : ℕ) where
         out-long = refl;
         bounds = record { few = omega arith; kept-most = omega arith; size-most = omega arith; size-some = omega arith };
         arms-left = omega arith;
-        goes = λ r t buf out e. order-node _ _ _ _ _ _ _ r t _ _ _ buf out _ refl (c .before .before .before .before .before .before .before .before .before .pre .1 .0) e;
+        goes = λ r t buf out e. order-node _ _ _ _ _ _ _ _ r t _ _ _ buf out _ refl (c .before .before .before .before .before .before .before .before .before .before .pre .1 .0) e;
       })
 
   reduce-in-order-tail-from-requires : reduce-in-order-lts.Need-tail-from-requires reduce-in-order-calls reduce-in-order-at reduce-in-order.Post reduce-in-order-Inv-loop reduce-in-order-μ-loop
@@ -402,123 +404,126 @@ module _ (t : ℕ) where
   reduce-in-order-sub-left : reduce-in-order-lts.Need-sub-left reduce-in-order-calls reduce-in-order-at reduce-in-order.Post reduce-in-order-Inv-loop reduce-in-order-μ-loop
   reduce-in-order-sub-left c = search needs
 
+  reduce-in-order-outcome-next-requires : reduce-in-order-lts.Need-outcome-next-requires reduce-in-order-calls reduce-in-order-at reduce-in-order.Post reduce-in-order-Inv-loop reduce-in-order-μ-loop
+  reduce-in-order-outcome-next-requires c κs = search needs
+
   reduce-in-order-stops-requires : reduce-in-order-lts.Need-stops-requires reduce-in-order-calls reduce-in-order-at reduce-in-order.Post reduce-in-order-Inv-loop reduce-in-order-μ-loop
   reduce-in-order-stops-requires c κs = search needs
 
   reduce-in-order-skip-policies-requires : reduce-in-order-lts.Need-skip-policies-requires reduce-in-order-calls reduce-in-order-at reduce-in-order.Post reduce-in-order-Inv-loop reduce-in-order-μ-loop
-  reduce-in-order-skip-policies-requires c κs = c .before .before .before .before .before .before .before .before .before .before .before .before .before .before .before .before .before .before .before .before .before .before .before .before .before .before .before .before .before .before .before .before .before .pre .1 .4
+  reduce-in-order-skip-policies-requires c κs = c .before .before .before .before .before .before .before .before .before .before .before .before .before .before .before .before .before .before .before .before .before .before .before .before .before .before .before .before .before .before .before .before .before .before .before .pre .1 .4
 
   reduce-in-order-resolved-requires : reduce-in-order-lts.Need-resolved-requires reduce-in-order-calls reduce-in-order-at reduce-in-order.Post reduce-in-order-Inv-loop reduce-in-order-μ-loop
   reduce-in-order-resolved-requires c κs = search needs
 
   reduce-in-order-same-length : reduce-in-order-lts.Need-same-length reduce-in-order-calls reduce-in-order-at reduce-in-order.Post reduce-in-order-Inv-loop reduce-in-order-μ-loop
-  reduce-in-order-same-length c = omega (arith, c .before .before .before .before .before .before .before .before .before .before .before .before .before .before .before .before .before .entries .given, c .before .before .before .before .before .before .before .before .before .before .before .before .before .before .before .before .before .before .before .before .before .before .before .before .before .before .before .loop .inv .entries-long)
+  reduce-in-order-same-length c = omega (arith, c .before .before .before .before .before .before .before .before .before .before .before .before .before .before .before .before .before .before .entries .given, c .before .before .before .before .before .before .before .before .before .before .before .before .before .before .before .before .before .before .before .before .before .before .before .before .before .before .before .before .loop .inv .entries-long)
 
   reduce-in-order-same-length-2 : reduce-in-order-lts.Need-same-length-2 reduce-in-order-calls reduce-in-order-at reduce-in-order.Post reduce-in-order-Inv-loop reduce-in-order-μ-loop
-  reduce-in-order-same-length-2 c = omega (arith, c .before .before .before .before .before .before .before .before .before .before .before .before .before .before .before .seen .given, c .before .before .before .before .before .before .before .before .before .before .before .before .before .before .before .before .before .before .before .before .before .before .before .before .before .before .before .loop .inv .seen-long)
+  reduce-in-order-same-length-2 c = omega (arith, c .before .before .before .before .before .before .before .before .before .before .before .before .before .before .before .before .seen .given, c .before .before .before .before .before .before .before .before .before .before .before .before .before .before .before .before .before .before .before .before .before .before .before .before .before .before .before .before .loop .inv .seen-long)
 
   reduce-in-order-same-length-3 : reduce-in-order-lts.Need-same-length-3 reduce-in-order-calls reduce-in-order-at reduce-in-order.Post reduce-in-order-Inv-loop reduce-in-order-μ-loop
-  reduce-in-order-same-length-3 c = omega (arith, c .before .before .before .before .before .before .before .before .before .before .before .before .before .buf .given, c .before .before .before .before .before .before .before .before .before .before .before .before .before .before .before .before .before .before .before .before .before .before .before .before .before .before .before .loop .inv .buf-long)
+  reduce-in-order-same-length-3 c = omega (arith, c .before .before .before .before .before .before .before .before .before .before .before .before .before .before .buf .given, c .before .before .before .before .before .before .before .before .before .before .before .before .before .before .before .before .before .before .before .before .before .before .before .before .before .before .before .before .loop .inv .buf-long)
 
   reduce-in-order-same-length-4 : reduce-in-order-lts.Need-same-length-4 reduce-in-order-calls reduce-in-order-at reduce-in-order.Post reduce-in-order-Inv-loop reduce-in-order-μ-loop
-  reduce-in-order-same-length-4 c = omega (arith, c .before .before .before .before .before .before .before .before .before .before .before .named .given, c .before .before .before .before .before .before .before .before .before .before .before .before .before .before .before .before .before .before .before .before .before .before .before .before .before .before .before .loop .inv .named-long)
+  reduce-in-order-same-length-4 c = omega (arith, c .before .before .before .before .before .before .before .before .before .before .before .before .named .given, c .before .before .before .before .before .before .before .before .before .before .before .before .before .before .before .before .before .before .before .before .before .before .before .before .before .before .before .before .loop .inv .named-long)
 
   reduce-in-order-same-length-5 : reduce-in-order-lts.Need-same-length-5 reduce-in-order-calls reduce-in-order-at reduce-in-order.Post reduce-in-order-Inv-loop reduce-in-order-μ-loop
-  reduce-in-order-same-length-5 c = omega (arith, c .before .before .before .before .before .before .before .before .before .front .given, c .before .before .before .before .before .before .before .before .before .before .before .before .before .before .before .before .before .before .before .before .before .before .before .before .before .before .before .loop .inv .front-long)
+  reduce-in-order-same-length-5 c = omega (arith, c .before .before .before .before .before .before .before .before .before .before .front .given, c .before .before .before .before .before .before .before .before .before .before .before .before .before .before .before .before .before .before .before .before .before .before .before .before .before .before .before .before .loop .inv .front-long)
 
   reduce-in-order-same-length-6 : reduce-in-order-lts.Need-same-length-6 reduce-in-order-calls reduce-in-order-at reduce-in-order.Post reduce-in-order-Inv-loop reduce-in-order-μ-loop
-  reduce-in-order-same-length-6 c = omega (arith, c .before .before .before .before .before .before .before .out .given, c .before .before .before .before .before .before .before .before .before .before .before .before .before .before .before .before .before .before .before .before .before .before .before .before .before .before .before .loop .inv .out-long)
+  reduce-in-order-same-length-6 c = omega (arith, c .before .before .before .before .before .before .before .before .out .given, c .before .before .before .before .before .before .before .before .before .before .before .before .before .before .before .before .before .before .before .before .before .before .before .before .before .before .before .before .loop .inv .out-long)
 
   reduce-in-order-returns : reduce-in-order-lts.Need-returns reduce-in-order-calls reduce-in-order-at reduce-in-order.Post reduce-in-order-Inv-loop reduce-in-order-μ-loop
   reduce-in-order-returns c =
-      let call = c .before .before .before .before .before .before .before .before .before .before .before .before .before .before .before .before .before .before in
-      let inv = c .before .before .before .before .before .before .before .before .before .before .before .before .before .before .before .before .before .before .before .before .before .before .before .before .before .before .before .loop .inv in
+      let call = c .before .before .before .before .before .before .before .before .before .before .before .before .before .before .before .before .before .before .before in
+      let inv = c .before .before .before .before .before .before .before .before .before .before .before .before .before .before .before .before .before .before .before .before .before .before .before .before .before .before .before .before .loop .inv in
       rw (c .resolved .ensures)
       (inv .goes _ _ _ _
-      (held-answers _ _ _ _ _ _ _ _ _ _ _ _ _ _ _ _ _ _ (c .before .before .before .before .before .before .before .before .before .before .before .before .before .before .before .before .before .before .before .before .before .before .before .before .before .before .loop-test .taken) _ (call .reduce-policy .ensures) (inv .front-long) (sym (c .before .before .before .before .if1 .taken) ∙ c .before .before .before .before .before .stops .ensures) (not-true _ (c .before .if2 .taken)) (c .before .before .before .skip-policies .ensures)))
+      (held-answers _ _ _ _ _ _ _ _ _ _ _ _ _ _ _ _ _ _ _ (c .before .before .before .before .before .before .before .before .before .before .before .before .before .before .before .before .before .before .before .before .before .before .before .before .before .before .before .loop-test .taken) _ (call .reduce-policy .ensures) (inv .front-long) (sym (c .before .before .before .before .if1 .taken) ∙ c .before .before .before .before .before .stops .ensures) (not-true _ (c .before .if2 .taken)) (c .before .before .before .skip-policies .ensures)))
 
   reduce-in-order-with-arm-in-order-requires : reduce-in-order-lts.Need-with-arm-in-order-requires reduce-in-order-calls reduce-in-order-at reduce-in-order.Post reduce-in-order-Inv-loop reduce-in-order-μ-loop
   reduce-in-order-with-arm-in-order-requires c κs =
-      let call = c .before .before .before .before .before .before .before .before .before .before .before .before .before .before .before .before .before .before .before .before in
-      let inv = c .before .before .before .before .before .before .before .before .before .before .before .before .before .before .before .before .before .before .before .before .before .before .before .before .before .before .before .before .before .loop .inv in
-      let start = c .before .before .before .before .before .before .before .before .before .before .before .before .before .before .before .before .before .before .before .before .before .before .before .before .before .before .before .before .before .before .before .before .before .before .before .before .before .before .before in (
+      let call = c .before .before .before .before .before .before .before .before .before .before .before .before .before .before .before .before .before .before .before .before .before in
+      let inv = c .before .before .before .before .before .before .before .before .before .before .before .before .before .before .before .before .before .before .before .before .before .before .before .before .before .before .before .before .before .before .loop .inv in
+      let start = c .before .before .before .before .before .before .before .before .before .before .before .before .before .before .before .before .before .before .before .before .before .before .before .before .before .before .before .before .before .before .before .before .before .before .before .before .before .before .before .before .before in (
         inv .bounds,
-        omega (arith, inv .arms-left, c .before .before .before .before .before .before .before .before .before .before .before .before .before .before .before .before .before .before .before .before .before .before .before .before .before .before .before .before .loop-test .taken, start .pre),
+        omega (arith, inv .arms-left, c .before .before .before .before .before .before .before .before .before .before .before .before .before .before .before .before .before .before .before .before .before .before .before .before .before .before .before .before .before .loop-test .taken, start .pre),
         call .reduce-policy .ensures .few,
         call .reduce-policy .ensures .bound,
-        omega (arith, c .before .before .before .before .before .before .before .before .before .before .before .before .before .before .before .buf .given, inv .buf-long, start .pre),
-        (omega (arith, c .before .before .before .before .before .before .before .before .before .before .before .before .before .named .given, inv .named-long, start .pre), omega (arith, c .before .before .before .before .before .before .before .before .before .before .before .before .before .named .given, inv .named-long, start .pre)),
+        omega (arith, c .before .before .before .before .before .before .before .before .before .before .before .before .before .before .before .before .buf .given, inv .buf-long, start .pre),
+        (omega (arith, c .before .before .before .before .before .before .before .before .before .before .before .before .before .before .named .given, inv .named-long, start .pre), omega (arith, c .before .before .before .before .before .before .before .before .before .before .before .before .before .before .named .given, inv .named-long, start .pre)),
       )
 
   reduce-in-order-end-in-order-requires : reduce-in-order-lts.Need-end-in-order-requires reduce-in-order-calls reduce-in-order-at reduce-in-order.Post reduce-in-order-Inv-loop reduce-in-order-μ-loop
-  reduce-in-order-end-in-order-requires c κs = (c .before .before .before .before .before .before .before .with-arm-in-order .ensures .bounds, omega (arith, c .before .before .before .before .before .before .before .with-arm-in-order .ensures .arms-are, c .before .before .before .before .before .before .before .before .before .before .before .before .before .before .before .before .before .before .before .before .before .before .before .before .before .before .before .before .before .before .before .before .before .before .before .before .before .loop .inv .arms-left, c .before .before .before .before .before .before .before .before .before .before .before .before .before .before .before .before .before .before .before .before .before .before .before .before .before .before .before .before .before .before .before .before .before .before .before .before .loop-test .taken, c .before .before .before .before .before .before .before .before .before .before .before .before .before .before .before .before .before .before .before .before .before .before .before .before .before .before .before .before .before .before .before .before .before .before .before .before .before .before .before .before .before .before .before .before .before .before .before .pre))
+  reduce-in-order-end-in-order-requires c κs = (c .before .before .before .before .before .before .before .with-arm-in-order .ensures .bounds, omega (arith, c .before .before .before .before .before .before .before .with-arm-in-order .ensures .arms-are, c .before .before .before .before .before .before .before .before .before .before .before .before .before .before .before .before .before .before .before .before .before .before .before .before .before .before .before .before .before .before .before .before .before .before .before .before .before .before .loop .inv .arms-left, c .before .before .before .before .before .before .before .before .before .before .before .before .before .before .before .before .before .before .before .before .before .before .before .before .before .before .before .before .before .before .before .before .before .before .before .before .before .loop-test .taken, c .before .before .before .before .before .before .before .before .before .before .before .before .before .before .before .before .before .before .before .before .before .before .before .before .before .before .before .before .before .before .before .before .before .before .before .before .before .before .before .before .before .before .before .before .before .before .before .before .before .pre))
 
   reduce-in-order-same-length-7 : reduce-in-order-lts.Need-same-length-7 reduce-in-order-calls reduce-in-order-at reduce-in-order.Post reduce-in-order-Inv-loop reduce-in-order-μ-loop
-  reduce-in-order-same-length-7 c = omega (arith, c .before .before .before .before .before .before .before .before .before .before .before .before .before .before .before .before .before .before .before .before .before .before .before .before .before .before .before .before .before .before .entries .given, c .before .before .before .before .before .before .before .before .before .before .before .before .before .before .before .before .before .before .before .before .before .before .before .before .before .before .before .before .before .before .before .before .before .before .before .before .before .before .before .before .loop .inv .entries-long)
+  reduce-in-order-same-length-7 c = omega (arith, c .before .before .before .before .before .before .before .before .before .before .before .before .before .before .before .before .before .before .before .before .before .before .before .before .before .before .before .before .before .before .before .entries .given, c .before .before .before .before .before .before .before .before .before .before .before .before .before .before .before .before .before .before .before .before .before .before .before .before .before .before .before .before .before .before .before .before .before .before .before .before .before .before .before .before .before .loop .inv .entries-long)
 
   reduce-in-order-same-length-8 : reduce-in-order-lts.Need-same-length-8 reduce-in-order-calls reduce-in-order-at reduce-in-order.Post reduce-in-order-Inv-loop reduce-in-order-μ-loop
-  reduce-in-order-same-length-8 c = omega (arith, c .before .before .before .before .before .before .before .before .before .before .before .before .before .before .before .before .before .before .before .before .before .before .before .before .before .before .before .before .seen .given, c .before .before .before .before .before .before .before .before .before .before .before .before .before .before .before .before .before .before .before .before .before .before .before .before .before .before .before .before .before .before .before .before .before .before .before .before .before .before .before .before .loop .inv .seen-long)
+  reduce-in-order-same-length-8 c = omega (arith, c .before .before .before .before .before .before .before .before .before .before .before .before .before .before .before .before .before .before .before .before .before .before .before .before .before .before .before .before .before .seen .given, c .before .before .before .before .before .before .before .before .before .before .before .before .before .before .before .before .before .before .before .before .before .before .before .before .before .before .before .before .before .before .before .before .before .before .before .before .before .before .before .before .before .loop .inv .seen-long)
 
   reduce-in-order-same-length-9 : reduce-in-order-lts.Need-same-length-9 reduce-in-order-calls reduce-in-order-at reduce-in-order.Post reduce-in-order-Inv-loop reduce-in-order-μ-loop
-  reduce-in-order-same-length-9 c = omega (arith, c .before .before .before .before .before .before .before .before .before .buf2 .given, c .before .before .before .before .before .before .before .before .before .before .before .before .before .before .before .before .before .before .before .before .before .before .before .before .before .before .buf .given, c .before .before .before .before .before .before .before .before .before .before .before .before .before .before .before .before .before .before .before .before .before .before .before .before .before .before .before .before .before .before .before .before .before .before .before .before .before .before .before .before .loop .inv .buf-long)
+  reduce-in-order-same-length-9 c = omega (arith, c .before .before .before .before .before .before .before .before .before .buf2 .given, c .before .before .before .before .before .before .before .before .before .before .before .before .before .before .before .before .before .before .before .before .before .before .before .before .before .before .before .buf .given, c .before .before .before .before .before .before .before .before .before .before .before .before .before .before .before .before .before .before .before .before .before .before .before .before .before .before .before .before .before .before .before .before .before .before .before .before .before .before .before .before .before .loop .inv .buf-long)
 
   reduce-in-order-same-length-10 : reduce-in-order-lts.Need-same-length-10 reduce-in-order-calls reduce-in-order-at reduce-in-order.Post reduce-in-order-Inv-loop reduce-in-order-μ-loop
-  reduce-in-order-same-length-10 c = omega (arith, c .before .before .before .before .before .before .before .named2 .given, c .before .before .before .before .before .before .before .before .before .before .before .before .before .before .before .before .before .before .before .before .before .before .before .before .named .given, c .before .before .before .before .before .before .before .before .before .before .before .before .before .before .before .before .before .before .before .before .before .before .before .before .before .before .before .before .before .before .before .before .before .before .before .before .before .before .before .before .loop .inv .named-long)
+  reduce-in-order-same-length-10 c = omega (arith, c .before .before .before .before .before .before .before .named2 .given, c .before .before .before .before .before .before .before .before .before .before .before .before .before .before .before .before .before .before .before .before .before .before .before .before .before .named .given, c .before .before .before .before .before .before .before .before .before .before .before .before .before .before .before .before .before .before .before .before .before .before .before .before .before .before .before .before .before .before .before .before .before .before .before .before .before .before .before .before .before .loop .inv .named-long)
 
   reduce-in-order-same-length-11 : reduce-in-order-lts.Need-same-length-11 reduce-in-order-calls reduce-in-order-at reduce-in-order.Post reduce-in-order-Inv-loop reduce-in-order-μ-loop
-  reduce-in-order-same-length-11 c = omega (arith, c .before .before .before .before .before .before .before .before .before .before .before .before .before .before .before .before .before .before .before .before .before .before .front .given, c .before .before .before .before .before .before .before .before .before .before .before .before .before .before .before .before .before .before .before .before .before .before .before .before .before .before .before .before .before .before .before .before .before .before .before .before .before .before .before .before .loop .inv .front-long)
+  reduce-in-order-same-length-11 c = omega (arith, c .before .before .before .before .before .before .before .before .before .before .before .before .before .before .before .before .before .before .before .before .before .before .before .front .given, c .before .before .before .before .before .before .before .before .before .before .before .before .before .before .before .before .before .before .before .before .before .before .before .before .before .before .before .before .before .before .before .before .before .before .before .before .before .before .before .before .before .loop .inv .front-long)
 
   reduce-in-order-same-length-12 : reduce-in-order-lts.Need-same-length-12 reduce-in-order-calls reduce-in-order-at reduce-in-order.Post reduce-in-order-Inv-loop reduce-in-order-μ-loop
-  reduce-in-order-same-length-12 c = omega (arith, c .before .out3 .given, c .before .before .before .before .before .out2 .given, c .before .before .before .before .before .before .before .before .before .before .before .before .before .before .before .before .before .before .before .before .out .given, c .before .before .before .before .before .before .before .before .before .before .before .before .before .before .before .before .before .before .before .before .before .before .before .before .before .before .before .before .before .before .before .before .before .before .before .before .before .before .before .before .loop .inv .out-long)
+  reduce-in-order-same-length-12 c = omega (arith, c .before .out3 .given, c .before .before .before .before .before .out2 .given, c .before .before .before .before .before .before .before .before .before .before .before .before .before .before .before .before .before .before .before .before .before .out .given, c .before .before .before .before .before .before .before .before .before .before .before .before .before .before .before .before .before .before .before .before .before .before .before .before .before .before .before .before .before .before .before .before .before .before .before .before .before .before .before .before .before .loop .inv .out-long)
 
   reduce-in-order-returns-2 : reduce-in-order-lts.Need-returns-2 reduce-in-order-calls reduce-in-order-at reduce-in-order.Post reduce-in-order-Inv-loop reduce-in-order-μ-loop
   reduce-in-order-returns-2 c =
-      let call = c .before .before .before .before .before .before .before .before .before .before .before .before .before .before .before .before .before .before .before .before .before .before .before .before .before .before .before .before .before .before .before in
-      let inv = c .before .before .before .before .before .before .before .before .before .before .before .before .before .before .before .before .before .before .before .before .before .before .before .before .before .before .before .before .before .before .before .before .before .before .before .before .before .before .before .before .loop .inv in
-      let start = c .before .before .before .before .before .before .before .before .before .before .before .before .before .before .before .before .before .before .before .before .before .before .before .before .before .before .before .before .before .before .before .before .before .before .before .before .before .before .before .before .before .before .before .before .before .before .before .before .before .before in
+      let call = c .before .before .before .before .before .before .before .before .before .before .before .before .before .before .before .before .before .before .before .before .before .before .before .before .before .before .before .before .before .before .before .before in
+      let inv = c .before .before .before .before .before .before .before .before .before .before .before .before .before .before .before .before .before .before .before .before .before .before .before .before .before .before .before .before .before .before .before .before .before .before .before .before .before .before .before .before .before .loop .inv in
+      let start = c .before .before .before .before .before .before .before .before .before .before .before .before .before .before .before .before .before .before .before .before .before .before .before .before .before .before .before .before .before .before .before .before .before .before .before .before .before .before .before .before .before .before .before .before .before .before .before .before .before .before .before .before in
       inv .goes _ _ _ _
-      (held-last _ _ _ _ _ _ _ _ _ _ _ _ _ _ _ _ _ _ _ _ _ _ (c .before .before .before .before .before .before .before .before .before .before .before .before .before .before .before .before .before .before .before .before .before .before .before .before .before .before .before .before .before .before .before .before .before .before .before .before .before .before .before .loop-test .taken) _ (call .reduce-policy .ensures) (inv .front-long) (sym (c .before .before .before .before .before .before .before .before .before .before .before .before .before .before .before .before .before .if1 .taken) ∙ c .before .before .before .before .before .before .before .before .before .before .before .before .before .before .before .before .before .before .stops .ensures) (not-false _ (c .before .before .before .before .before .before .before .before .before .before .before .before .before .before .if2 .left)) (c .before .before .before .before .before .before .before .before .before .before .before .before .before .before .before .before .skip-policies .ensures)
-      (order-more _ _ _ _ _ _ _ _ _ _ _ _ _ _ (c .before .before .before .before .before .before .before .before .before .before .before .before .before .before .before .before .before .before .before .before .before .before .before .before .before .before .before .before .before .before .before .before .before .before .before .before .before .before .tail-from .ensures) (c .before .before .before .before .before .before .before .before .before .before .with-arm-in-order .ensures) (inv .bounds)
-      (omega (arith, c .before .before .before .before .before .before .before .before .before .before .before .before .before .before .before .before .before .before .before .before .before .before .before .before .before .before .before .before .before .before .before .before .before .before .before .reduce-policy-arg3 .given, c .before .before .before .before .before .before .before .before .before .before .before .before .before .before .before .before .before .before .before .before .before .before .before .before .before .before .buf .given, inv .buf-long, start .pre, call .reduce-policy .ensures .few)) (omega (arith, inv .buf-long, start .pre))
-      (omega (arith, c .before .before .before .before .before .before .before .before .before .before .before .before .before .before .before .before .before .before .before .before .before .before .before .before .before .before .before .before .before .before .before .before .reduce-policy-arg6 .given, c .before .before .before .before .before .before .before .before .before .before .before .before .before .before .before .before .before .before .before .before .out .given, c .before .before .before .before .before .before .before .before .before .before .before .before .before .before .before .before .before .before .before .before .before .before .before .before .before .before .before .before .before .before .before .before .before .before .before .before .before .before .tail-from .ensures)))
+      (held-last _ _ _ _ _ _ _ _ _ _ _ _ _ _ _ _ _ _ _ _ _ _ _ (c .before .before .before .before .before .before .before .before .before .before .before .before .before .before .before .before .before .before .before .before .before .before .before .before .before .before .before .before .before .before .before .before .before .before .before .before .before .before .before .before .loop-test .taken) _ (call .reduce-policy .ensures) (inv .front-long) (sym (c .before .before .before .before .before .before .before .before .before .before .before .before .before .before .before .before .before .if1 .taken) ∙ c .before .before .before .before .before .before .before .before .before .before .before .before .before .before .before .before .before .before .stops .ensures) (not-false _ (c .before .before .before .before .before .before .before .before .before .before .before .before .before .before .if2 .left)) (c .before .before .before .before .before .before .before .before .before .before .before .before .before .before .before .before .skip-policies .ensures)
+      (order-more _ _ _ _ _ _ _ _ _ _ _ _ _ _ _ _ (c .before .before .before .before .before .before .before .before .before .before .before .before .before .before .before .before .before .before .before .before .before .before .before .before .before .before .before .before .before .before .before .before .before .before .before .before .before .before .before .tail-from .ensures) (c .before .before .before .before .before .before .before .before .before .before .before .before .before .before .before .before .before .before .before .outcome-next .ensures) (c .before .before .before .before .before .before .before .before .before .before .with-arm-in-order .ensures) (inv .bounds)
+      (omega (arith, c .before .before .before .before .before .before .before .before .before .before .before .before .before .before .before .before .before .before .before .before .before .before .before .before .before .before .before .before .before .before .before .before .before .before .before .before .reduce-policy-arg3 .given, c .before .before .before .before .before .before .before .before .before .before .before .before .before .before .before .before .before .before .before .before .before .before .before .before .before .before .before .buf .given, inv .buf-long, start .pre, call .reduce-policy .ensures .few)) (omega (arith, inv .buf-long, start .pre))
+      (omega (arith, c .before .before .before .before .before .before .before .before .before .before .before .before .before .before .before .before .before .before .before .before .before .before .before .before .before .before .before .before .before .before .before .before .before .reduce-policy-arg6 .given, c .before .before .before .before .before .before .before .before .before .before .before .before .before .before .before .before .before .before .before .before .before .out .given, c .before .before .before .before .before .before .before .before .before .before .before .before .before .before .before .before .before .before .before .before .before .before .before .before .before .before .before .before .before .before .before .before .before .before .before .before .before .before .before .tail-from .ensures)))
       (c .before .before .end-in-order .ensures _ _ _))
 
   reduce-in-order-with-arm-in-order-requires-2 : reduce-in-order-lts.Need-with-arm-in-order-requires-2 reduce-in-order-calls reduce-in-order-at reduce-in-order.Post reduce-in-order-Inv-loop reduce-in-order-μ-loop
   reduce-in-order-with-arm-in-order-requires-2 c κs =
-      let call = c .before .before .before .before .before .before .before .before .before .before .before .before .before .before .before .before .before in
-      let inv = c .before .before .before .before .before .before .before .before .before .before .before .before .before .before .before .before .before .before .before .before .before .before .before .before .before .before .loop .inv in
-      let start = c .before .before .before .before .before .before .before .before .before .before .before .before .before .before .before .before .before .before .before .before .before .before .before .before .before .before .before .before .before .before .before .before .before .before .before .before in (
+      let call = c .before .before .before .before .before .before .before .before .before .before .before .before .before .before .before .before .before .before in
+      let inv = c .before .before .before .before .before .before .before .before .before .before .before .before .before .before .before .before .before .before .before .before .before .before .before .before .before .before .before .loop .inv in
+      let start = c .before .before .before .before .before .before .before .before .before .before .before .before .before .before .before .before .before .before .before .before .before .before .before .before .before .before .before .before .before .before .before .before .before .before .before .before .before .before in (
         inv .bounds,
-        omega (arith, inv .arms-left, c .before .before .before .before .before .before .before .before .before .before .before .before .before .before .before .before .before .before .before .before .before .before .before .before .before .loop-test .taken, start .pre),
+        omega (arith, inv .arms-left, c .before .before .before .before .before .before .before .before .before .before .before .before .before .before .before .before .before .before .before .before .before .before .before .before .before .before .loop-test .taken, start .pre),
         call .reduce-policy .ensures .few,
         call .reduce-policy .ensures .bound,
-        omega (arith, c .before .before .before .before .before .before .before .before .before .before .before .before .buf .given, inv .buf-long, start .pre),
-        (omega (arith, c .before .before .before .before .before .before .before .before .before .before .named .given, inv .named-long, start .pre), omega (arith, c .before .before .before .before .before .before .before .before .before .before .named .given, inv .named-long, start .pre)),
+        omega (arith, c .before .before .before .before .before .before .before .before .before .before .before .before .before .buf .given, inv .buf-long, start .pre),
+        (omega (arith, c .before .before .before .before .before .before .before .before .before .before .before .named .given, inv .named-long, start .pre), omega (arith, c .before .before .before .before .before .before .before .before .before .before .before .named .given, inv .named-long, start .pre)),
       )
 
   reduce-in-order-loop-less : reduce-in-order-lts.Need-loop-less reduce-in-order-calls reduce-in-order-at reduce-in-order.Post reduce-in-order-Inv-loop reduce-in-order-μ-loop
-  reduce-in-order-loop-less c = omega (arith, c .before .before .before .before .before .before .before .before .before .before .before .before .before .before .before .before .before .before .before .before .before .before .before .before .before .before .before .before .before .before .before .before .loop-test .taken)
+  reduce-in-order-loop-less c = omega (arith, c .before .before .before .before .before .before .before .before .before .before .before .before .before .before .before .before .before .before .before .before .before .before .before .before .before .before .before .before .before .before .before .before .before .loop-test .taken)
 
   reduce-in-order-loop-again : reduce-in-order-lts.Need-loop-again reduce-in-order-calls reduce-in-order-at reduce-in-order.Post reduce-in-order-Inv-loop reduce-in-order-μ-loop
   reduce-in-order-loop-again c =
       let more = c .before .before .before .before .before .before in
-      let call = c .before .before .before .before .before .before .before .before .before .before .before .before .before .before .before .before .before .before .before .before .before .before .before .before in
-      let inv = c .before .before .before .before .before .before .before .before .before .before .before .before .before .before .before .before .before .before .before .before .before .before .before .before .before .before .before .before .before .before .before .before .before .loop .inv in
-      let start = c .before .before .before .before .before .before .before .before .before .before .before .before .before .before .before .before .before .before .before .before .before .before .before .before .before .before .before .before .before .before .before .before .before .before .before .before .before .before .before .before .before .before .before in
+      let call = c .before .before .before .before .before .before .before .before .before .before .before .before .before .before .before .before .before .before .before .before .before .before .before .before .before in
+      let inv = c .before .before .before .before .before .before .before .before .before .before .before .before .before .before .before .before .before .before .before .before .before .before .before .before .before .before .before .before .before .before .before .before .before .before .loop .inv in
+      let start = c .before .before .before .before .before .before .before .before .before .before .before .before .before .before .before .before .before .before .before .before .before .before .before .before .before .before .before .before .before .before .before .before .before .before .before .before .before .before .before .before .before .before .before .before .before in
       record {
-        entries-long = omega (arith, c .before .before .before .before .before .before .before .before .before .before .before .before .before .before .before .before .before .before .before .before .before .before .before .entries .given, inv .entries-long);
-        seen-long = omega (arith, c .before .before .before .before .before .before .before .before .before .before .before .before .before .before .before .before .before .before .before .before .before .seen .given, inv .seen-long);
-        buf-long = omega (arith, c .before .before .before .before .before .buf3 .given, c .before .before .before .before .before .before .before .before .before .before .before .before .before .before .before .before .before .before .before .buf .given, inv .buf-long);
-        named-long = omega (arith, c .before .before .before .named3 .given, c .before .before .before .before .before .before .before .before .before .before .before .before .before .before .before .before .before .named .given, inv .named-long);
-        front-long = omega (arith, c .before .before .before .before .before .before .before .before .before .before .before .before .before .before .before .front .given, inv .front-long);
-        out-long = omega (arith, c .before .out4 .given, c .before .before .before .before .before .before .before .before .before .before .before .before .before .out .given, inv .out-long);
+        entries-long = omega (arith, c .before .before .before .before .before .before .before .before .before .before .before .before .before .before .before .before .before .before .before .before .before .before .before .before .entries .given, inv .entries-long);
+        seen-long = omega (arith, c .before .before .before .before .before .before .before .before .before .before .before .before .before .before .before .before .before .before .before .before .before .before .seen .given, inv .seen-long);
+        buf-long = omega (arith, c .before .before .before .before .before .buf3 .given, c .before .before .before .before .before .before .before .before .before .before .before .before .before .before .before .before .before .before .before .before .buf .given, inv .buf-long);
+        named-long = omega (arith, c .before .before .before .named3 .given, c .before .before .before .before .before .before .before .before .before .before .before .before .before .before .before .before .before .before .named .given, inv .named-long);
+        front-long = omega (arith, c .before .before .before .before .before .before .before .before .before .before .before .before .before .before .before .before .front .given, inv .front-long);
+        out-long = omega (arith, c .before .out4 .given, c .before .before .before .before .before .before .before .before .before .before .before .before .before .before .out .given, inv .out-long);
         bounds = more .with-arm-in-order2 .ensures .bounds;
-        arms-left = omega (arith, more .with-arm-in-order2 .ensures .arms-are, inv .arms-left, c .before .before .before .before .before .before .before .before .before .before .before .before .before .before .before .before .before .before .before .before .before .before .before .before .before .before .before .before .before .before .before .before .loop-test .taken);
+        arms-left = omega (arith, more .with-arm-in-order2 .ensures .arms-are, inv .arms-left, c .before .before .before .before .before .before .before .before .before .before .before .before .before .before .before .before .before .before .before .before .before .before .before .before .before .before .before .before .before .before .before .before .before .loop-test .taken);
         goes = λ r t buf out e. inv .goes r t buf out
-            (held-goes _ _ _ _ _ _ t _ r _ _ _ _ _ _ buf out _ _ (c .before .before .before .before .before .before .before .before .before .before .before .before .before .before .before .before .before .before .before .before .before .before .before .before .before .before .before .before .before .before .before .before .loop-test .taken) _ (call .reduce-policy .ensures) (inv .front-long) _ _ _
-            (order-more _ _ _ _ _ _ _ _ _ _ _ _ _ _ (c .before .before .before .before .before .before .before .before .before .before .before .before .before .before .before .before .before .before .before .before .before .before .before .before .before .before .before .before .before .before .before .tail-from .ensures) (c .before .before .before .before .before .before .with-arm-in-order2 .ensures) (inv .bounds)
-            (omega (arith, c .before .before .before .before .before .before .before .before .before .before .before .before .before .before .before .before .before .before .before .before .before .before .before .before .before .before .before .before .reduce-policy-arg3 .given, c .before .before .before .before .before .before .before .before .before .before .before .before .before .before .before .before .before .before .before .buf .given, inv .buf-long, start .pre, call .reduce-policy .ensures .few)) (omega (arith, inv .buf-long, start .pre))
-            (omega (arith, c .before .before .before .before .before .before .before .before .before .before .before .before .before .before .before .before .before .before .before .before .before .before .before .before .before .reduce-policy-arg6 .given, c .before .before .before .before .before .before .before .before .before .before .before .before .before .out .given, c .before .before .before .before .before .before .before .before .before .before .before .before .before .before .before .before .before .before .before .before .before .before .before .before .before .before .before .before .before .before .before .tail-from .ensures)))
+            (held-goes _ _ _ _ _ _ _ t _ r _ _ _ _ _ _ buf out _ _ (c .before .before .before .before .before .before .before .before .before .before .before .before .before .before .before .before .before .before .before .before .before .before .before .before .before .before .before .before .before .before .before .before .before .loop-test .taken) _ (call .reduce-policy .ensures) (inv .front-long) _ _ _
+            (order-more _ _ _ _ _ _ _ _ _ _ _ _ _ _ _ _ (c .before .before .before .before .before .before .before .before .before .before .before .before .before .before .before .before .before .before .before .before .before .before .before .before .before .before .before .before .before .before .before .before .tail-from .ensures) (c .before .before .before .before .before .before .before .before .before .before .before .before .outcome-next .ensures) (c .before .before .before .before .before .before .with-arm-in-order2 .ensures) (inv .bounds)
+            (omega (arith, c .before .before .before .before .before .before .before .before .before .before .before .before .before .before .before .before .before .before .before .before .before .before .before .before .before .before .before .before .before .reduce-policy-arg3 .given, c .before .before .before .before .before .before .before .before .before .before .before .before .before .before .before .before .before .before .before .before .buf .given, inv .buf-long, start .pre, call .reduce-policy .ensures .few)) (omega (arith, inv .buf-long, start .pre))
+            (omega (arith, c .before .before .before .before .before .before .before .before .before .before .before .before .before .before .before .before .before .before .before .before .before .before .before .before .before .before .reduce-policy-arg6 .given, c .before .before .before .before .before .before .before .before .before .before .before .before .before .before .out .given, c .before .before .before .before .before .before .before .before .before .before .before .before .before .before .before .before .before .before .before .before .before .before .before .before .before .before .before .before .before .before .before .before .tail-from .ensures)))
             (sym (c .before .before .before .before .before .before .before .before .before .before .if1 .left) ∙ c .before .before .before .before .before .before .before .before .before .before .before .stops .ensures) e);
       }
 
@@ -546,7 +551,7 @@ module _ (t : ℕ) where
   reduce-in-order-returns-3 : reduce-in-order-lts.Need-returns-3 reduce-in-order-calls reduce-in-order-at reduce-in-order.Post reduce-in-order-Inv-loop reduce-in-order-μ-loop
   reduce-in-order-returns-3 c =
       let turn = c .before .before .before .before in
-      turn .before .loop .inv .goes _ _ _ _ (held-end _ _ _ _ _ _ _ _ _ _ _ _ _ _ _ (turn .loop-test .left) (c .before .before .end-in-order2 .ensures _ _ _))
+      turn .before .loop .inv .goes _ _ _ _ (held-end _ _ _ _ _ _ _ _ _ _ _ _ _ _ _ _ (turn .loop-test .left) (c .before .before .end-in-order2 .ensures _ _ _))
 
   -- what `reduce-or-else` calls
   abbrev reduce-or-else-calls : reduce-or-else-lts.Claims
@@ -594,7 +599,7 @@ module _ (t : ℕ) where
   reduce-or-else-reduce-policy-requires-2 : reduce-or-else-lts.Need-reduce-policy-requires-2 reduce-or-else-calls reduce-or-else-at reduce-or-else.Post
   reduce-or-else-reduce-policy-requires-2 c κs =
       let call = c .before .before .before .before .before .before .before .before .before .before .before .before .before .before .before .before .before .before .before .before .before in
-      let pre = c .before .before .before .before .before .before .before .before .before .before .before .before .before .before .before .before .before .before .before .before .before .before .before .before .before .before .before .before .before .before .before .before .before .before .before .before .before .pre in (
+      let pre = c .before .before .before .before .before .before .before .before .before .before .before .before .before .before .before .before .before .before .before .before .before .before .before .before .before .before .before .before .before .before .before .before .before .before .before .before .before .before .pre in (
         omega (arith, pre .0),
         (
           omega (arith, pre .1 .1),
@@ -606,7 +611,7 @@ module _ (t : ℕ) where
 
   reduce-or-else-end-or-else-requires : reduce-or-else-lts.Need-end-or-else-requires reduce-or-else-calls reduce-or-else-at reduce-or-else.Post
   reduce-or-else-end-or-else-requires c κs =
-      let pre = c .before .before .before .before .before .before .before .before .before .before .before .before .before .before .before .before .before .before .before .before .before .before .before .before .before .before .before .before .before .before .before .before .before .before .before .before .before .before .before .before .before .before .before .before .before .before .before .before .before .before .before .before .before .pre in (
+      let pre = c .before .before .before .before .before .before .before .before .before .before .before .before .before .before .before .before .before .before .before .before .before .before .before .before .before .before .before .before .before .before .before .before .before .before .before .before .before .before .before .before .before .before .before .before .before .before .before .before .before .before .before .before .before .before .pre in (
         omega (arith, c .before .before .before .before .before .before .before .before .before .before .before .before .before .before .before .before .before .before .before .before .before .before .before .plus .ensures),
         omega (arith, c .before .before .before .before .before .before .before .before .before .before .before .before .before .before .before .before .before .before .before .before .before .before .before .plus .ensures),
         c .before .before .before .before .before .before .before .before .before .before .before .before .before .before .before .reduce-policy2 .ensures .few,
@@ -639,11 +644,11 @@ module _ (t : ℕ) where
   reduce-or-else-returns : reduce-or-else-lts.Need-returns reduce-or-else-calls reduce-or-else-at reduce-or-else.Post
   reduce-or-else-returns c =
       rw (c .pending .ensures)
-      (or-open _ _ _ _ _ _ _ _ _ _ (c .before .before .before .before .before .before .before .before .before .before .before .before .before .before .before .before .before .before .before .before .before .before .before .before .before .before .before .before .before .before .before .before .before .before .before .before .before .before .before .before .before .before .before .before .before .before .before .before .before .before .before .before .before .before .before .before .before .before .before .before .before .pre .1 .0) (c .before .before .before .before .before .before .before .before .before .before .before .before .before .before .before .before .before .before .before .before .before .before .before .before .before .before .before .before .before .before .before .before .before .before .before .before .before .before .before .before .before .before .before .before .before .reduce-policy .ensures) _ _ _ _ _ _ _ _ _ _ _ _ (c .before .before .before .before .before .before .before .before .before .before .before .before .before .before .before .before .before .before .before .before .before .before .before .before .before .before .before .before .before .before .before .before .if1 .taken) (c .before .before .before .before .before .before .before .before .before .before .before .before .before .before .before .before .before .before .before .before .before .before .before .before .before .before .before .before .before .before .before .before .before .before .before .before .before .before .before .before .before .before .before .before .before .before .before .before .before .before .before .before .tail-from .ensures) (omega (arith, c .before .before .before .before .before .before .before .before .before .before .before .before .before .before .before .before .before .before .before .before .before .before .before .before .before .before .before .before .before .before .before .before .before .before .before .before .before .before .before .before .before .before .before .before .before .before .reduce-policy-arg6 .given, c .before .before .before .before .before .before .before .before .before .before .before .before .before .before .before .before .before .before .before .before .before .before .before .before .before .before .before .before .before .before .before .before .before .before .out .given)) (c .before .before .before .before .before .before .before .before .before .before .before .before .before .before .before .before .before .before .before .before .before .before .before .before .before .before .before .before .before .before .before .plus .ensures) (c .before .before .before .before .before .before .before .before .before .before .before .before .before .before .before .before .before .before .before .before .before .before .before .before .before .before .before .before .before .before .tail-from2 .ensures) (omega (arith, c .before .before .before .before .before .before .before .before .before .before .before .before .before .before .before .before .before .before .before .before .before .before .before .before .reduce-policy-arg12 .given, c .before .before .before .before .before .before .before .before .before .before .before .before .before .before .before .before .before .before .before .before .before .before .before .before .before .before .before .before .before .before .before .before .before .before .out .given, c .before .before .before .before .before .before .before .before .before .before .before .before .out2 .given))
+      (or-open _ _ _ _ _ _ _ _ _ _ (c .before .before .before .before .before .before .before .before .before .before .before .before .before .before .before .before .before .before .before .before .before .before .before .before .before .before .before .before .before .before .before .before .before .before .before .before .before .before .before .before .before .before .before .before .before .before .before .before .before .before .before .before .before .before .before .before .before .before .before .before .before .before .pre .1 .0) (c .before .before .before .before .before .before .before .before .before .before .before .before .before .before .before .before .before .before .before .before .before .before .before .before .before .before .before .before .before .before .before .before .before .before .before .before .before .before .before .before .before .before .before .before .before .reduce-policy .ensures) _ _ _ _ _ _ _ _ _ _ _ _ (c .before .before .before .before .before .before .before .before .before .before .before .before .before .before .before .before .before .before .before .before .before .before .before .before .before .before .before .before .before .before .before .before .if1 .taken) (c .before .before .before .before .before .before .before .before .before .before .before .before .before .before .before .before .before .before .before .before .before .before .before .before .before .before .before .before .before .before .before .before .before .before .before .before .before .before .before .before .before .before .before .before .before .before .before .before .before .before .before .before .tail-from .ensures) (omega (arith, c .before .before .before .before .before .before .before .before .before .before .before .before .before .before .before .before .before .before .before .before .before .before .before .before .before .before .before .before .before .before .before .before .before .before .before .before .before .before .before .before .before .before .before .before .before .before .reduce-policy-arg6 .given, c .before .before .before .before .before .before .before .before .before .before .before .before .before .before .before .before .before .before .before .before .before .before .before .before .before .before .before .before .before .before .before .before .before .before .out .given)) (c .before .before .before .before .before .before .before .before .before .before .before .before .before .before .before .before .before .before .before .before .before .before .before .before .before .before .before .before .before .before .before .plus .ensures) (c .before .before .before .before .before .before .before .before .before .before .before .before .before .before .before .before .before .before .before .before .before .before .before .before .before .before .before .before .before .before .tail-from2 .ensures) (omega (arith, c .before .before .before .before .before .before .before .before .before .before .before .before .before .before .before .before .before .before .before .before .before .before .before .before .reduce-policy-arg12 .given, c .before .before .before .before .before .before .before .before .before .before .before .before .before .before .before .before .before .before .before .before .before .before .before .before .before .before .before .before .before .before .before .before .before .before .out .given, c .before .before .before .before .before .before .before .before .before .before .before .before .out2 .given))
       _ (c .before .before .before .before .before .before .before .before .before .before .before .before .before .before .before .before .before .before .before .before .before .before .before .reduce-policy2 .ensures) (omega (arith, c .before .before .before .before .before .before .before .before .before .before .before .before .before .before .before .before .before .before .before .before .before .before .before .before .before .before .before .before .before .before .before .before .before .before .before .before .front .given)) (c .before .before .before .before .before .before .before .end-or-else .ensures))
 
   reduce-or-else-skip-policies-requires : reduce-or-else-lts.Need-skip-policies-requires reduce-or-else-calls reduce-or-else-at reduce-or-else.Post
-  reduce-or-else-skip-policies-requires c κs = c .before .before .before .before .before .before .before .before .before .before .before .before .before .before .before .before .before .before .before .before .before .before .before .before .before .before .before .before .before .before .before .pre .1 .3
+  reduce-or-else-skip-policies-requires c κs = c .before .before .before .before .before .before .before .before .before .before .before .before .before .before .before .before .before .before .before .before .before .before .before .before .before .before .before .before .before .before .before .before .pre .1 .3
 
   reduce-or-else-resolved-requires : reduce-or-else-lts.Need-resolved-requires reduce-or-else-calls reduce-or-else-at reduce-or-else.Post
   reduce-or-else-resolved-requires c κs = search needs
@@ -669,12 +674,12 @@ module _ (t : ℕ) where
   reduce-or-else-returns-2 : reduce-or-else-lts.Need-returns-2 reduce-or-else-calls reduce-or-else-at reduce-or-else.Post
   reduce-or-else-returns-2 c =
       rw (c .resolved .ensures)
-      (or-permits _ _ _ _ _ _ _ _ _ _ (c .before .before .before .before .before .before .before .before .before .before .before .before .before .before .before .before .before .before .before .before .before .before .before .before .before .before .before .before .before .before .before .before .before .pre .1 .0) (c .before .before .before .before .before .before .before .before .before .before .before .before .before .before .before .before .before .reduce-policy .ensures) _ _ _ (c .before .before .before .before .if1 .left) (c .before .before .if2 .taken) (c .before .skip-policies .ensures))
+      (or-permits _ _ _ _ _ _ _ _ _ _ (c .before .before .before .before .before .before .before .before .before .before .before .before .before .before .before .before .before .before .before .before .before .before .before .before .before .before .before .before .before .before .before .before .before .before .pre .1 .0) (c .before .before .before .before .before .before .before .before .before .before .before .before .before .before .before .before .before .reduce-policy .ensures) _ _ _ (c .before .before .before .before .if1 .left) (c .before .before .if2 .taken) (c .before .skip-policies .ensures))
 
   reduce-or-else-reduce-policy-requires-3 : reduce-or-else-lts.Need-reduce-policy-requires-3 reduce-or-else-calls reduce-or-else-at reduce-or-else.Post
   reduce-or-else-reduce-policy-requires-3 c κs =
       let call = c .before .before .before .before .before .before .before .before .before .before .before .before .before .before .before .before .before .before .before .before .before in
-      let pre = c .before .before .before .before .before .before .before .before .before .before .before .before .before .before .before .before .before .before .before .before .before .before .before .before .before .before .before .before .before .before .before .before .before .before .before .before .before .pre in (
+      let pre = c .before .before .before .before .before .before .before .before .before .before .before .before .before .before .before .before .before .before .before .before .before .before .before .before .before .before .before .before .before .before .before .before .before .before .before .before .before .before .pre in (
         omega (arith, pre .0),
         (
           omega (arith, pre .1 .1),
@@ -703,11 +708,11 @@ module _ (t : ℕ) where
   reduce-or-else-same-length-18 c = omega (arith, c .before .out4 .given, c .before .before .before .before .before .before .before .before .before .before .before .before .before .before .before .before .before .before .before .before .before .before .before .out .given)
 
   reduce-or-else-returns-3 : reduce-or-else-lts.Need-returns-3 reduce-or-else-calls reduce-or-else-at reduce-or-else.Post
-  reduce-or-else-returns-3 c = or-denies _ _ _ _ _ _ _ _ _ _ (c .before .before .before .before .before .before .before .before .before .before .before .before .before .before .before .before .before .before .before .before .before .before .before .before .before .before .before .before .before .before .before .before .before .before .before .before .before .before .before .before .before .before .before .before .before .before .before .before .before .before .pre .1 .0) (c .before .before .before .before .before .before .before .before .before .before .before .before .before .before .before .before .before .before .before .before .before .before .before .before .before .before .before .before .before .before .before .before .before .before .reduce-policy .ensures) _ _ _ _ _ (c .before .before .before .before .before .before .before .before .before .before .before .before .before .before .before .before .before .before .before .before .before .if1 .left) (c .before .before .before .before .before .before .before .before .before .before .before .before .before .before .before .before .before .before .before .if2 .left) _ (c .before .before .before .before .before .before .before .before .before .before .before .before .reduce-policy3 .ensures) (omega (arith, c .before .before .before .before .before .before .before .before .before .before .before .before .before .before .before .before .before .before .before .before .before .before .before .before .before .front .given))
+  reduce-or-else-returns-3 c = or-denies _ _ _ _ _ _ _ _ _ _ (c .before .before .before .before .before .before .before .before .before .before .before .before .before .before .before .before .before .before .before .before .before .before .before .before .before .before .before .before .before .before .before .before .before .before .before .before .before .before .before .before .before .before .before .before .before .before .before .before .before .before .before .pre .1 .0) (c .before .before .before .before .before .before .before .before .before .before .before .before .before .before .before .before .before .before .before .before .before .before .before .before .before .before .before .before .before .before .before .before .before .before .reduce-policy .ensures) _ _ _ _ _ (c .before .before .before .before .before .before .before .before .before .before .before .before .before .before .before .before .before .before .before .before .before .if1 .left) (c .before .before .before .before .before .before .before .before .before .before .before .before .before .before .before .before .before .before .before .if2 .left) _ (c .before .before .before .before .before .before .before .before .before .before .before .before .reduce-policy3 .ensures) (omega (arith, c .before .before .before .before .before .before .before .before .before .before .before .before .before .before .before .before .before .before .before .before .before .before .before .before .before .front .given))
 
   -- what `reduce-permits-first` calls
   abbrev reduce-permits-first-calls : reduce-permits-first-lts.Claims
-  reduce-permits-first-calls = (denied-reads.Asked, denied-reads.Learnt, tail-from-reads.Asked, tail-from-reads.Learnt, reduce-arm-below, reduce-arm.Post, stops-reads.Asked, stops-reads.Learnt, skip-policies-reads.Asked, skip-policies-reads.Learnt, resolved-reads.Asked, resolved-reads.Learnt, with-arm-reads.Asked, with-arm-reads.Learnt, end-list-reads.Asked, end-list-reads.Learnt)
+  reduce-permits-first-calls = (denied-reads.Asked, denied-reads.Learnt, tail-from-reads.Asked, tail-from-reads.Learnt, reduce-arm-below, reduce-arm.Post, outcome-next-reads.Asked, outcome-next-reads.Learnt, stops-reads.Asked, stops-reads.Learnt, skip-policies-reads.Asked, skip-policies-reads.Learnt, resolved-reads.Asked, resolved-reads.Learnt, with-arm-reads.Asked, with-arm-reads.Learnt, end-list-reads.Asked, end-list-reads.Learnt)
 
   reduce-permits-first-denied-requires : reduce-permits-first-lts.Need-denied-requires reduce-permits-first-calls reduce-permits-first-at reduce-permits-first.Post reduce-permits-first-Inv-loop reduce-permits-first-μ-loop
   reduce-permits-first-denied-requires c κs = search needs
@@ -727,7 +732,7 @@ module _ (t : ℕ) where
         out-long = refl;
         bounds = record { few = omega arith; kept-most = omega arith; size-most = omega arith; size-some = omega arith };
         arms-left = omega arith;
-        goes = λ r t buf out e. list-node _ _ _ _ _ _ _ r t _ _ _ buf out _ refl (c .before .before .before .before .before .before .before .before .before .pre .1 .0) e;
+        goes = λ r t buf out e. list-node _ _ _ _ _ _ _ _ r t _ _ _ buf out _ refl (c .before .before .before .before .before .before .before .before .before .before .pre .1 .0) e;
       })
 
   reduce-permits-first-tail-from-requires : reduce-permits-first-lts.Need-tail-from-requires reduce-permits-first-calls reduce-permits-first-at reduce-permits-first.Post reduce-permits-first-Inv-loop reduce-permits-first-μ-loop
@@ -775,79 +780,82 @@ module _ (t : ℕ) where
   reduce-permits-first-sub-left : reduce-permits-first-lts.Need-sub-left reduce-permits-first-calls reduce-permits-first-at reduce-permits-first.Post reduce-permits-first-Inv-loop reduce-permits-first-μ-loop
   reduce-permits-first-sub-left c = omega (arith, c .before .before .before .before .before .before .before .before .before .before .before .before .before .before .before .before .before .before .before .before .before .loop-test .taken)
 
+  reduce-permits-first-outcome-next-requires : reduce-permits-first-lts.Need-outcome-next-requires reduce-permits-first-calls reduce-permits-first-at reduce-permits-first.Post reduce-permits-first-Inv-loop reduce-permits-first-μ-loop
+  reduce-permits-first-outcome-next-requires c κs = search needs
+
   reduce-permits-first-stops-requires : reduce-permits-first-lts.Need-stops-requires reduce-permits-first-calls reduce-permits-first-at reduce-permits-first.Post reduce-permits-first-Inv-loop reduce-permits-first-μ-loop
   reduce-permits-first-stops-requires c κs = search needs
 
   reduce-permits-first-skip-policies-requires : reduce-permits-first-lts.Need-skip-policies-requires reduce-permits-first-calls reduce-permits-first-at reduce-permits-first.Post reduce-permits-first-Inv-loop reduce-permits-first-μ-loop
-  reduce-permits-first-skip-policies-requires c κs = c .before .before .before .before .before .before .before .before .before .before .before .before .before .before .before .before .before .before .before .before .before .before .before .before .before .before .before .before .before .before .before .before .before .before .pre .1 .4
+  reduce-permits-first-skip-policies-requires c κs = c .before .before .before .before .before .before .before .before .before .before .before .before .before .before .before .before .before .before .before .before .before .before .before .before .before .before .before .before .before .before .before .before .before .before .before .before .pre .1 .4
 
   reduce-permits-first-resolved-requires : reduce-permits-first-lts.Need-resolved-requires reduce-permits-first-calls reduce-permits-first-at reduce-permits-first.Post reduce-permits-first-Inv-loop reduce-permits-first-μ-loop
   reduce-permits-first-resolved-requires c κs = search needs
 
   reduce-permits-first-same-length : reduce-permits-first-lts.Need-same-length reduce-permits-first-calls reduce-permits-first-at reduce-permits-first.Post reduce-permits-first-Inv-loop reduce-permits-first-μ-loop
-  reduce-permits-first-same-length c = omega (arith, c .before .before .before .before .before .before .before .before .before .before .before .before .before .before .before .entries .given, c .before .before .before .before .before .before .before .before .before .before .before .before .before .before .before .before .before .before .before .before .before .before .before .before .before .before .loop .inv .entries-long)
+  reduce-permits-first-same-length c = omega (arith, c .before .before .before .before .before .before .before .before .before .before .before .before .before .before .before .before .entries .given, c .before .before .before .before .before .before .before .before .before .before .before .before .before .before .before .before .before .before .before .before .before .before .before .before .before .before .before .loop .inv .entries-long)
 
   reduce-permits-first-same-length-2 : reduce-permits-first-lts.Need-same-length-2 reduce-permits-first-calls reduce-permits-first-at reduce-permits-first.Post reduce-permits-first-Inv-loop reduce-permits-first-μ-loop
-  reduce-permits-first-same-length-2 c = omega (arith, c .before .before .before .before .before .before .before .before .before .before .before .before .before .seen .given, c .before .before .before .before .before .before .before .before .before .before .before .before .before .before .before .before .before .before .before .before .before .before .before .before .before .before .loop .inv .seen-long)
+  reduce-permits-first-same-length-2 c = omega (arith, c .before .before .before .before .before .before .before .before .before .before .before .before .before .before .seen .given, c .before .before .before .before .before .before .before .before .before .before .before .before .before .before .before .before .before .before .before .before .before .before .before .before .before .before .before .loop .inv .seen-long)
 
   reduce-permits-first-same-length-3 : reduce-permits-first-lts.Need-same-length-3 reduce-permits-first-calls reduce-permits-first-at reduce-permits-first.Post reduce-permits-first-Inv-loop reduce-permits-first-μ-loop
-  reduce-permits-first-same-length-3 c = omega (arith, c .before .before .before .before .before .before .before .before .before .before .before .buf .given, c .before .before .before .before .before .before .before .before .before .before .before .before .before .before .before .before .before .before .before .before .before .before .before .before .before .before .loop .inv .buf-long)
+  reduce-permits-first-same-length-3 c = omega (arith, c .before .before .before .before .before .before .before .before .before .before .before .before .buf .given, c .before .before .before .before .before .before .before .before .before .before .before .before .before .before .before .before .before .before .before .before .before .before .before .before .before .before .before .loop .inv .buf-long)
 
   reduce-permits-first-same-length-4 : reduce-permits-first-lts.Need-same-length-4 reduce-permits-first-calls reduce-permits-first-at reduce-permits-first.Post reduce-permits-first-Inv-loop reduce-permits-first-μ-loop
-  reduce-permits-first-same-length-4 c = omega (arith, c .before .before .before .before .before .before .before .before .before .named .given, c .before .before .before .before .before .before .before .before .before .before .before .before .before .before .before .before .before .before .before .before .before .before .before .before .before .before .loop .inv .named-long)
+  reduce-permits-first-same-length-4 c = omega (arith, c .before .before .before .before .before .before .before .before .before .before .named .given, c .before .before .before .before .before .before .before .before .before .before .before .before .before .before .before .before .before .before .before .before .before .before .before .before .before .before .before .loop .inv .named-long)
 
   reduce-permits-first-same-length-5 : reduce-permits-first-lts.Need-same-length-5 reduce-permits-first-calls reduce-permits-first-at reduce-permits-first.Post reduce-permits-first-Inv-loop reduce-permits-first-μ-loop
-  reduce-permits-first-same-length-5 c = omega (arith, c .before .before .before .before .before .before .before .front .given, c .before .before .before .before .before .before .before .before .before .before .before .before .before .before .before .before .before .before .before .before .before .before .before .before .before .before .loop .inv .front-long)
+  reduce-permits-first-same-length-5 c = omega (arith, c .before .before .before .before .before .before .before .before .front .given, c .before .before .before .before .before .before .before .before .before .before .before .before .before .before .before .before .before .before .before .before .before .before .before .before .before .before .before .loop .inv .front-long)
 
   reduce-permits-first-same-length-6 : reduce-permits-first-lts.Need-same-length-6 reduce-permits-first-calls reduce-permits-first-at reduce-permits-first.Post reduce-permits-first-Inv-loop reduce-permits-first-μ-loop
-  reduce-permits-first-same-length-6 c = omega (arith, c .before .before .before .before .before .out .given, c .before .before .before .before .before .before .before .before .before .before .before .before .before .before .before .before .before .before .before .before .before .before .before .before .before .before .loop .inv .out-long)
+  reduce-permits-first-same-length-6 c = omega (arith, c .before .before .before .before .before .before .out .given, c .before .before .before .before .before .before .before .before .before .before .before .before .before .before .before .before .before .before .before .before .before .before .before .before .before .before .before .loop .inv .out-long)
 
   reduce-permits-first-returns : reduce-permits-first-lts.Need-returns reduce-permits-first-calls reduce-permits-first-at reduce-permits-first.Post reduce-permits-first-Inv-loop reduce-permits-first-μ-loop
   reduce-permits-first-returns c =
-      let call = c .before .before .before .before .before .before .before .before .before .before .before .before .before .before .before .before in
-      let turn = c .before .before .before .before .before .before .before .before .before .before .before .before .before .before .before .before .before .before .before .before .before .before .before .before .before in
+      let call = c .before .before .before .before .before .before .before .before .before .before .before .before .before .before .before .before .before in
+      let turn = c .before .before .before .before .before .before .before .before .before .before .before .before .before .before .before .before .before .before .before .before .before .before .before .before .before .before in
       rw (c .resolved .ensures)
       (turn .before .loop .inv .goes _ _ _ _
-      (arm-stops _ _ _ _ _ _ _ _ _ _ _ _ _ _ _ _ _ _ _ (turn .loop-test .taken) (call .reduce-arm .ensures) (sym (c .before .before .if1 .taken) ∙ c .before .before .before .stops .ensures) (c .before .skip-policies .ensures)))
+      (arm-stops _ _ _ _ _ _ _ _ _ _ _ _ _ _ _ _ _ _ _ _ (turn .loop-test .taken) (call .reduce-arm .ensures) (sym (c .before .before .if1 .taken) ∙ c .before .before .before .stops .ensures) (c .before .skip-policies .ensures)))
 
   reduce-permits-first-with-arm-requires : reduce-permits-first-lts.Need-with-arm-requires reduce-permits-first-calls reduce-permits-first-at reduce-permits-first.Post reduce-permits-first-Inv-loop reduce-permits-first-μ-loop
   reduce-permits-first-with-arm-requires c κs =
-      let call = c .before .before .before .before .before .before .before .before .before .before .before .before .before .before .before .before .before in
-      let turn = c .before .before .before .before .before .before .before .before .before .before .before .before .before .before .before .before .before .before .before .before .before .before .before .before .before .before in
+      let call = c .before .before .before .before .before .before .before .before .before .before .before .before .before .before .before .before .before .before in
+      let turn = c .before .before .before .before .before .before .before .before .before .before .before .before .before .before .before .before .before .before .before .before .before .before .before .before .before .before .before in
       let inv = turn .before .loop .inv in
-      let start = c .before .before .before .before .before .before .before .before .before .before .before .before .before .before .before .before .before .before .before .before .before .before .before .before .before .before .before .before .before .before .before .before .before .before .before .before .before in (
+      let start = c .before .before .before .before .before .before .before .before .before .before .before .before .before .before .before .before .before .before .before .before .before .before .before .before .before .before .before .before .before .before .before .before .before .before .before .before .before .before .before in (
         inv .bounds,
         omega (arith, inv .arms-left, turn .loop-test .taken, start .pre),
         call .reduce-arm .ensures .few,
         call .reduce-arm .ensures .bound,
-        omega (arith, c .before .before .before .before .before .before .before .before .before .before .before .before .buf .given, inv .buf-long, start .pre),
-        (omega (arith, c .before .before .before .before .before .before .before .before .before .before .named .given, inv .named-long, start .pre), omega (arith, c .before .before .before .before .before .before .before .before .before .before .named .given, inv .named-long, start .pre)),
+        omega (arith, c .before .before .before .before .before .before .before .before .before .before .before .before .before .buf .given, inv .buf-long, start .pre),
+        (omega (arith, c .before .before .before .before .before .before .before .before .before .before .before .named .given, inv .named-long, start .pre), omega (arith, c .before .before .before .before .before .before .before .before .before .before .before .named .given, inv .named-long, start .pre)),
       )
 
   reduce-permits-first-loop-less : reduce-permits-first-lts.Need-loop-less reduce-permits-first-calls reduce-permits-first-at reduce-permits-first.Post reduce-permits-first-Inv-loop reduce-permits-first-μ-loop
-  reduce-permits-first-loop-less c = omega (arith, c .before .before .before .before .before .before .before .before .before .before .before .before .before .before .before .before .before .before .before .before .before .before .before .before .before .before .before .before .before .before .before .before .before .loop-test .taken)
+  reduce-permits-first-loop-less c = omega (arith, c .before .before .before .before .before .before .before .before .before .before .before .before .before .before .before .before .before .before .before .before .before .before .before .before .before .before .before .before .before .before .before .before .before .before .loop-test .taken)
 
   reduce-permits-first-loop-again : reduce-permits-first-lts.Need-loop-again reduce-permits-first-calls reduce-permits-first-at reduce-permits-first.Post reduce-permits-first-Inv-loop reduce-permits-first-μ-loop
   reduce-permits-first-loop-again c =
       let more = c .before .before .before .before .before .before in
-      let call = c .before .before .before .before .before .before .before .before .before .before .before .before .before .before .before .before .before .before .before .before .before .before .before .before in
-      let turn = c .before .before .before .before .before .before .before .before .before .before .before .before .before .before .before .before .before .before .before .before .before .before .before .before .before .before .before .before .before .before .before .before .before in
+      let call = c .before .before .before .before .before .before .before .before .before .before .before .before .before .before .before .before .before .before .before .before .before .before .before .before .before in
+      let turn = c .before .before .before .before .before .before .before .before .before .before .before .before .before .before .before .before .before .before .before .before .before .before .before .before .before .before .before .before .before .before .before .before .before .before in
       let inv = turn .before .loop .inv in
-      let start = c .before .before .before .before .before .before .before .before .before .before .before .before .before .before .before .before .before .before .before .before .before .before .before .before .before .before .before .before .before .before .before .before .before .before .before .before .before .before .before .before .before .before .before .before in
+      let start = c .before .before .before .before .before .before .before .before .before .before .before .before .before .before .before .before .before .before .before .before .before .before .before .before .before .before .before .before .before .before .before .before .before .before .before .before .before .before .before .before .before .before .before .before .before .before in
       record {
-        entries-long = omega (arith, c .before .before .before .before .before .before .before .before .before .before .before .before .before .before .before .before .before .before .before .before .before .before .before .entries .given, inv .entries-long);
-        seen-long = omega (arith, c .before .before .before .before .before .before .before .before .before .before .before .before .before .before .before .before .before .before .before .before .before .seen .given, inv .seen-long);
-        buf-long = omega (arith, c .before .before .before .before .before .buf2 .given, c .before .before .before .before .before .before .before .before .before .before .before .before .before .before .before .before .before .before .before .buf .given, inv .buf-long);
-        named-long = omega (arith, c .before .before .before .named2 .given, c .before .before .before .before .before .before .before .before .before .before .before .before .before .before .before .before .before .named .given, inv .named-long);
-        front-long = omega (arith, c .before .front2 .given, c .before .before .before .before .before .before .before .before .before .before .before .before .before .before .before .front .given, inv .front-long);
-        out-long = omega (arith, c .before .before .before .before .before .before .before .before .before .before .before .before .before .out .given, inv .out-long);
+        entries-long = omega (arith, c .before .before .before .before .before .before .before .before .before .before .before .before .before .before .before .before .before .before .before .before .before .before .before .before .entries .given, inv .entries-long);
+        seen-long = omega (arith, c .before .before .before .before .before .before .before .before .before .before .before .before .before .before .before .before .before .before .before .before .before .before .seen .given, inv .seen-long);
+        buf-long = omega (arith, c .before .before .before .before .before .buf2 .given, c .before .before .before .before .before .before .before .before .before .before .before .before .before .before .before .before .before .before .before .before .buf .given, inv .buf-long);
+        named-long = omega (arith, c .before .before .before .named2 .given, c .before .before .before .before .before .before .before .before .before .before .before .before .before .before .before .before .before .before .named .given, inv .named-long);
+        front-long = omega (arith, c .before .front2 .given, c .before .before .before .before .before .before .before .before .before .before .before .before .before .before .before .before .front .given, inv .front-long);
+        out-long = omega (arith, c .before .before .before .before .before .before .before .before .before .before .before .before .before .before .out .given, inv .out-long);
         bounds = more .with-arm .ensures .bounds;
         arms-left = omega (arith, more .with-arm .ensures .arms-most, inv .arms-left, turn .loop-test .taken);
         goes = λ r t buf out e. inv .goes r t buf out
-            (arm-goes _ _ _ _ _ _ t _ r _ _ _ _ _ _ _ buf out _ _ (turn .loop-test .taken) (call .reduce-arm .ensures) _ _ _ _ (omega (arith, c .before .front2 .given, c .before .before .before .before .before .before .before .before .before .before .before .before .before .before .before .front .given))
-            (sofar-more _ _ _ _ _ _ _ _ (call .reduce-arm .last .1 .1 .1 .1 .1 .1 .1 .1 .1 .0) _ _ _ _ _ _ _ _ (c .before .before .before .before .before .before .before .before .before .before .before .before .before .before .before .before .before .before .before .before .before .before .before .before .before .before .before .before .before .before .before .before .tail-from .ensures) (c .before .before .before .before .before .before .before .before .before .before .before .before .before .before .before .before .before .before .before .before .before .before .before .before .before .before .before .before .before .before .before .tail-from2 .ensures) (more .with-arm .ensures) (omega (arith, c .before .front2 .given, c .before .before .before .before .before .before .before .before .before .before .before .before .before .before .before .front .given)) (inv .bounds)
-            (omega (arith, c .before .before .before .before .before .before .before .before .before .before .before .before .before .before .before .before .before .before .before .before .before .before .before .before .before .before .before .before .reduce-arm-arg3 .given, c .before .before .before .before .before .before .before .before .before .before .before .before .before .before .before .before .before .before .before .buf .given, inv .buf-long, start .pre, call .reduce-arm .ensures .few)) (omega (arith, inv .buf-long, start .pre))
-            (omega (arith, c .before .before .before .before .before .before .before .before .before .before .before .before .before .before .before .before .before .before .before .before .before .before .before .before .before .before .reduce-arm-arg5 .given, c .before .before .before .before .before .before .before .before .before .before .before .before .before .before .before .front .given)) (omega (arith, c .before .before .before .before .before .before .before .before .before .before .before .before .before .before .before .before .before .before .before .before .before .before .before .before .before .before .reduce-arm-arg5 .given, c .before .before .before .before .before .before .before .before .before .before .before .before .before .before .before .before .before .before .before .before .before .before .before .before .before .before .before .before .before .before .before .before .tail-from .ensures)) (omega (arith, c .before .before .before .before .before .before .before .before .before .before .before .before .before .before .before .before .before .before .before .before .before .before .before .before .before .reduce-arm-arg6 .given, c .before .before .before .before .before .before .before .before .before .before .before .before .before .out .given)))
+            (arm-goes _ _ _ _ _ _ _ t _ r _ _ _ _ _ _ _ buf out _ _ (turn .loop-test .taken) (call .reduce-arm .ensures) _ _ _ _ (omega (arith, c .before .front2 .given, c .before .before .before .before .before .before .before .before .before .before .before .before .before .before .before .before .front .given))
+            (sofar-more _ _ _ _ _ _ _ _ _ _ (call .reduce-arm .last .1 .1 .1 .1 .1 .1 .1 .1 .1 .1 .1 .0) _ _ _ _ _ _ _ _ (c .before .before .before .before .before .before .before .before .before .before .before .before .before .before .before .before .before .before .before .before .before .before .before .before .before .before .before .before .before .before .before .before .before .tail-from .ensures) (c .before .before .before .before .before .before .before .before .before .before .before .before .before .before .before .before .before .before .before .before .before .before .before .before .before .before .before .before .before .before .before .before .tail-from2 .ensures) (c .before .before .before .before .before .before .before .before .before .before .before .before .outcome-next .ensures) (more .with-arm .ensures) (omega (arith, c .before .front2 .given, c .before .before .before .before .before .before .before .before .before .before .before .before .before .before .before .before .front .given)) (inv .bounds)
+            (omega (arith, c .before .before .before .before .before .before .before .before .before .before .before .before .before .before .before .before .before .before .before .before .before .before .before .before .before .before .before .before .before .reduce-arm-arg3 .given, c .before .before .before .before .before .before .before .before .before .before .before .before .before .before .before .before .before .before .before .before .buf .given, inv .buf-long, start .pre, call .reduce-arm .ensures .few)) (omega (arith, inv .buf-long, start .pre))
+            (omega (arith, c .before .before .before .before .before .before .before .before .before .before .before .before .before .before .before .before .before .before .before .before .before .before .before .before .before .before .before .reduce-arm-arg5 .given, c .before .before .before .before .before .before .before .before .before .before .before .before .before .before .before .before .front .given)) (omega (arith, c .before .before .before .before .before .before .before .before .before .before .before .before .before .before .before .before .before .before .before .before .before .before .before .before .before .before .before .reduce-arm-arg5 .given, c .before .before .before .before .before .before .before .before .before .before .before .before .before .before .before .before .before .before .before .before .before .before .before .before .before .before .before .before .before .before .before .before .before .tail-from .ensures)) (omega (arith, c .before .before .before .before .before .before .before .before .before .before .before .before .before .before .before .before .before .before .before .before .before .before .before .before .before .before .reduce-arm-arg6 .given, c .before .before .before .before .before .before .before .before .before .before .before .before .before .before .out .given)))
             (sym (c .before .before .before .before .before .before .before .before .before .before .if1 .left) ∙ c .before .before .before .before .before .before .before .before .before .before .before .stops .ensures) e);
       }
 
@@ -875,7 +883,7 @@ module _ (t : ℕ) where
   reduce-permits-first-returns-2 : reduce-permits-first-lts.Need-returns-2 reduce-permits-first-calls reduce-permits-first-at reduce-permits-first.Post reduce-permits-first-Inv-loop reduce-permits-first-μ-loop
   reduce-permits-first-returns-2 c =
       let turn = c .before .before .before .before .before .before .before .before .before .before .before .before .before in
-      turn .before .loop .inv .goes _ _ _ _ (arms-end _ _ _ _ _ _ _ _ _ _ _ _ _ _ _ _ (turn .loop-test .left) (c .before .before .before .before .before .before .before .before .end-list .ensures))
+      turn .before .loop .inv .goes _ _ _ _ (arms-end _ _ _ _ _ _ _ _ _ _ _ _ _ _ _ _ _ (turn .loop-test .left) (c .before .before .before .before .before .before .before .before .end-list .ensures))
 
   -- what `reduce-policy` calls
   abbrev reduce-policy-calls : reduce-policy-lts.Claims
@@ -951,7 +959,7 @@ module _ (t : ℕ) where
   reduce-policy-returns-3 c =
       let call = c .before .before .before .before .before .before in
       let head = call .before .before .before .before .before .before in
-      by-head _ _ _ _ _ _ _ _ _ _ (Grant _ _ _) (head .before .before .if2 .left) (sym (call .before .before .before .before .enum-told .given .1) ∙ head .policy-head .ensures) (call .reduce-grant .ensures _ _ _ _ _ _)
+      by-head _ _ _ _ _ _ _ _ _ _ (Grant _ _ _) (head .before .before .if2 .left) (sym (call .before .before .before .before .enum-told .given .1) ∙ head .policy-head .ensures) (call .reduce-grant .ensures _ _ _ _ _ _ _)
 
   reduce-policy-same-length-4 : reduce-policy-lts.Need-same-length-4 reduce-policy-calls reduce-policy-at reduce-policy.Post
   reduce-policy-same-length-4 c = search needs
@@ -1103,6 +1111,7 @@ pub +reduce-all+reduce-any+reduce-arm+reduce-in-order+reduce-or-else+reduce-perm
     (reduce-in-order-part-reduce-policy-end-2 t)
     (reduce-in-order-reduce-policy-requires t)
     (reduce-in-order-sub-left t)
+    (reduce-in-order-outcome-next-requires t)
     (reduce-in-order-stops-requires t)
     (reduce-in-order-skip-policies-requires t)
     (reduce-in-order-resolved-requires t)
@@ -1193,6 +1202,7 @@ pub +reduce-all+reduce-any+reduce-arm+reduce-in-order+reduce-or-else+reduce-perm
     (reduce-permits-first-part-reduce-arm-end-3 t)
     (reduce-permits-first-reduce-arm-requires t)
     (reduce-permits-first-sub-left t)
+    (reduce-permits-first-outcome-next-requires t)
     (reduce-permits-first-stops-requires t)
     (reduce-permits-first-skip-policies-requires t)
     (reduce-permits-first-resolved-requires t)

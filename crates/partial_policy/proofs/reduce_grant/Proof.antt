@@ -25,7 +25,7 @@ returns : tie.Need-returns
 returns c =
     let found = c .before .before .before in
     let start = found .before .before .before .before .before .before in
-    λ order hidden n o buf room. rw (c .resolved .ensures, c .before .denied .ensures)
+    λ g order hidden n o buf room. rw (c .resolved .ensures, c .before .denied .ensures)
     (grant-by-word hidden n o (grant-short _ _ _ _ hidden _ _ _ (start .pre .0) (start .pre .1) (found .before-condition-in .ensures) _ _ buf room _ (omega arith) (omega arith) (c .before .before .if1 .taken)))
 
 lay-words-requires : tie.Need-lay-words-requires
@@ -73,7 +73,7 @@ returns-2 c =
     let own = call .before .before .before .before .before .before .before in
     let found = own .before .before .before in
     let start = found .before .before .before .before .before .before in
-    λ order hidden n o buf room. rw (c .pending .ensures)
+    λ g order hidden n o buf room. rw (c .pending .ensures)
     (grant-by-word hidden n o
     (grant-pending _ _ _ _ hidden _ _ _ (start .pre .0) (start .pre .1) (found .before-condition-in .ensures) _ _ _ _ buf room _ (call .reduce-condition .ensures) _ _ _ _ (c .before .before .if2 .taken) (own .lay-words .ensures) (call .before .before .before .before .tail-from .ensures) (omega (arith, c .before .before .before .before .out2 .given)) (c .before .plus .ensures) refl))
 
@@ -100,7 +100,7 @@ returns-3 c =
     let call = c .before .before .before .before .before .before .before .before .before in
     let found = call .before .before .before .before .before .before .before .before .before .before in
     let start = found .before .before .before .before .before .before in
-    λ order hidden n o buf room. rw (c .granted .ensures, c .before .outcome-in .ensures)
+    λ g order hidden n o buf room. rw (c .granted .ensures, c .before .outcome-in .ensures)
     (grant-by-word hidden n o (grant-decides _ _ _ _ hidden _ _ _ (start .pre .0) (start .pre .1) (found .before-condition-in .ensures) _ _ _ _ buf room _ (call .reduce-condition .ensures) (c .before .before .if2 .left)))
 
 pub reduce-grant-spec : {M : Type 1} → statement M

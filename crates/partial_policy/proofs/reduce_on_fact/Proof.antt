@@ -41,7 +41,7 @@ returns : tie.Need-returns
 returns c =
     let call = c .before .before .before .before .before in
     let start = call .before .before .before .before .before .before .before .before .before in
-    λ order depth buf room out. rw (c .granted .ensures) (reduce-plain _ _ _ depth _ _ _ buf room out (start .pre) (call .eval-has .ensures))
+    λ g order depth buf room out. rw (c .granted .ensures) (reduce-plain _ _ _ depth _ _ _ buf room out (start .pre) (call .eval-has .ensures))
 
 pub reduce-on-fact-spec : {M : Type 1} → statement M
 reduce-on-fact-spec =

@@ -18,10 +18,10 @@ to-the-end-requires-2 : tie.Need-to-the-end-requires-2
 to-the-end-requires-2 c κs = search needs
 
 returns : tie.Need-returns
-returns c = let s = c .before .before .before .before .args in to-pending (now (s .words)) (s .at) (s .pending) (c .before .check-policy .result) (c .to-the-end .result) (c .before .before .if1 .taken) (c .before .check-policy .ensures) (c .to-the-end .ensures)
+returns c = let s = c .before .before .before .before .args in to-pending (s .most) (now (s .words)) (s .at) (s .pending) (c .before .check-policy .result) (c .to-the-end .result) (c .before .before .if1 .taken) (c .before .check-policy .ensures) (c .to-the-end .ensures)
 
 returns-2 : tie.Need-returns-2
-returns-2 c = let s = c .before .before .before .before .args in to-resolved (now (s .words)) (s .at) (s .pending) (c .before .check-resolved .result) (c .to-the-end2 .result) (c .before .before .if1 .left) (c .before .check-resolved .ensures) (c .to-the-end2 .ensures)
+returns-2 c = let s = c .before .before .before .before .args in to-resolved (s .most) (now (s .words)) (s .at) (s .pending) (c .before .check-resolved .result) (c .to-the-end2 .result) (c .before .before .if1 .left) (c .before .check-resolved .ensures) (c .to-the-end2 .ensures)
 
 pub check-body-spec : {M : Type 1} → statement M
 check-body-spec =

@@ -19,11 +19,11 @@ use Rattle.policy_model.proofs.short_policy.Reads as short-policy-reads
 use Rattle.policy_model.proofs.policy_step.Reads as policy-step-reads
 
 abbrev Inv-loop : tie.InvT-loop
-Inv-loop words at depth residual above₀ level₀ left₀ next₀ above level left next =
-    (Due (λ d. AskedAll words d residual) depth above level left next ≡ Asked words at depth residual) × (level ≤ depth) × (length above ≡ 32)
+Inv-loop words at depth residual most above₀ level₀ left₀ next₀ above level left next =
+    (Due (λ d. AskedAll most words d residual) depth above level left next ≡ Asked most words at depth residual) × (level ≤ depth) × (length above ≡ 32)
 
 abbrev μ-loop : tie.MeasureT-loop
-μ-loop words at depth residual above₀ level₀ left₀ next₀ above level left next = 2 * (length words - next) + level
+μ-loop words at depth residual most above₀ level₀ left₀ next₀ above level left next = 2 * (length words - next) + level
 
 -- what it calls; where the loop begins, and what a step says there
 abbrev calls : lts.Claims
@@ -39,16 +39,16 @@ abbrev Found : Looping → Step → Type 0
 Found c r =
     let words = now (start c .args .words) in
     let levels = start c .args .depth - c .loop .level in
-    Stepped words (c .loop .next) levels (Asked words (c .loop .next) levels (start c .args .residual)) (AskedAll words (levels - 1) (start c .args .residual) (c .loop .next + 1)) r
+    Stepped words (c .loop .next) levels (Asked (start c .args .most) words (c .loop .next) levels (start c .args .residual)) (AskedAll (start c .args .most) words (levels - 1) (start c .args .residual) (c .loop .next + 1)) r
 
 found : (c : lts.After-policy-step calls reads.Pre reads.Post Inv-loop μ-loop) (r : Step) → c .policy-step .result ≡ r → Found (c .before .before .before .before) r
 found c r e = subst (Found (c .before .before .before .before)) e (c .policy-step .ensures)
 
 loop-holds : tie.Need-loop-holds Inv-loop μ-loop
-loop-holds c = (one-due (policy-lists _ _) _ _ _, omega arith, search needs)
+loop-holds c = (one-due (policy-lists _ _ _) _ _ _, omega arith, search needs)
 
 returns : tie.Need-returns Inv-loop μ-loop
-returns c = all-done (policy-lists _ _) _ _ _ _ _ (c .before .if1 .taken) (c .if2 .taken) ∙ c .before .before .loop .inv .0
+returns c = all-done (policy-lists _ _ _) _ _ _ _ _ (c .before .if1 .taken) (c .if2 .taken) ∙ c .before .before .loop .inv .0
 
 sub-level : tie.Need-sub-level Inv-loop μ-loop
 sub-level c = search needs
@@ -64,7 +64,7 @@ loop-less c = search needs
 
 loop-again : tie.Need-loop-again Inv-loop μ-loop
 loop-again c = (
-  level-done (policy-lists _ _) _ _ _ _ _ (c .before .if1 .taken) (c .if2 .left) ∙ c .before .before .loop .inv .0,
+  level-done (policy-lists _ _ _) _ _ _ _ _ (c .before .if1 .taken) (c .if2 .left) ∙ c .before .before .loop .inv .0,
   omega arith,
   c .before .before .loop .inv .2,
 )
@@ -87,7 +87,7 @@ loop-less-2 c = let s = c .before .short-policy .ensures (c .if3 .taken) in omeg
 loop-again-2 : tie.Need-loop-again-2 Inv-loop μ-loop
 loop-again-2 c =
     let l = c .before .before .before in (
-      passed (policy-lists _ _) _ _ _ _ _ _ (c .before .before .if1 .left) (c .before .short-policy .ensures (c .if3 .taken) .1 _) ∙ l .loop .inv .0,
+      passed (policy-lists _ _ _) _ _ _ _ _ _ (c .before .before .if1 .left) (c .before .short-policy .ensures (c .if3 .taken) .1 _) ∙ l .loop .inv .0,
       l .loop .inv .1,
       l .loop .inv .2,
     )
@@ -111,7 +111,7 @@ loop-again-3 : tie.Need-loop-again-3 Inv-loop μ-loop
 loop-again-3 c =
     let step = c .before .before .before in
     let l = step .before .before .before .before in (
-      passed (policy-lists _ _) _ _ _ _ _ _ (step .before .before .before .if1 .left) (found step (Leaf _) (c .before .after .given .1) .0) ∙ l .loop .inv .0,
+      passed (policy-lists _ _ _) _ _ _ _ _ _ (step .before .before .before .if1 .left) (found step (Leaf _) (c .before .after .given .1) .0) ∙ l .loop .inv .0,
       l .loop .inv .1,
       l .loop .inv .2,
     )
@@ -142,7 +142,7 @@ loop-again-4 c =
     let step = c .before .before .before in
     let l = step .before .before .before .before in
     let s = found step (Arms _) (c .before .count .given .1) in (
-      opened (policy-lists _ _) _ _ _ _ _ (c .before .count .given .0 .0) (step .before .before .before .if1 .left) (omega arith) (s .0) ∙ l .loop .inv .0,
+      opened (policy-lists _ _ _) _ _ _ _ _ (c .before .count .given .0 .0) (step .before .before .before .if1 .left) (omega arith) (s .0) ∙ l .loop .inv .0,
       omega arith,
       simp length-set (l .loop .inv .2),
     )
@@ -153,7 +153,7 @@ enum-known-number c = search needs
 returns-2 : tie.Need-returns-2 Inv-loop μ-loop
 returns-2 c =
     let step = c .before .before .before in
-    turned-back (policy-lists _ _) _ _ _ _ _ _ (step .before .before .before .if1 .left) (found step (Refused _) (c .before .number .given .1)) ∙ step .before .before .before .before .loop .inv .0
+    turned-back (policy-lists _ _ _) _ _ _ _ _ _ (step .before .before .before .if1 .left) (found step (Refused _) (c .before .number .given .1)) ∙ step .before .before .before .before .loop .inv .0
 
 pub check-policy-spec : {M : Type 1} → statement M
 check-policy-spec =

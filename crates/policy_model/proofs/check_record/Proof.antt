@@ -11,16 +11,16 @@ use Rattle.policy_model.proofs.check_record.Statement.{statement}
 use Rattle.policy_model.proofs.check_record.Tie as tie
 
 returns : tie.Need-returns
-returns c = no-record (now (c .before .before .args .words)) (c .if1 .taken)
+returns c = no-record _ (now (c .before .before .args .words)) (c .if1 .taken)
 
 returns-2 : tie.Need-returns-2
-returns-2 c = long-record (now (c .before .before .before .args .words)) (c .before .if1 .left) (c .if2 .taken)
+returns-2 c = long-record _ (now (c .before .before .before .args .words)) (c .before .if1 .left) (c .if2 .taken)
 
 shared-slice-read-kind : tie.Need-shared-slice-read-kind
 shared-slice-read-kind c = search needs
 
 returns-3 : tie.Need-returns-3
-returns-3 c = other-record (now (c .before .before .before .before .before .args .words)) (c .before .before .before .if1 .left) (c .before .before .if2 .left) (c .if3 .taken)
+returns-3 c = other-record _ (now (c .before .before .before .before .before .args .words)) (c .before .before .before .if1 .left) (c .before .before .if2 .left) (c .if3 .taken)
 
 shared-slice-read-count : tie.Need-shared-slice-read-count
 shared-slice-read-count c = search needs
@@ -46,7 +46,7 @@ returns-4 c =
     let fits : getD ws 0 0 < 4294967296 = omega (arith, c .before .before .before .before .before .before .before .before .shared-slice-known2 .given 0) in
     let entries = c .before .before .before .before .before in
     ap recordLead (c .record-of .ensures)
-    ∙ record-tree ws (entries .before .before .before .before .before .if1 .left) (entries .before .before .before .before .if2 .left) (entries .before .before .if3 .left) fits _ _
+    ∙ record-tree _ ws (entries .before .before .before .before .before .if1 .left) (entries .before .before .before .before .if2 .left) (entries .before .before .if3 .left) fits _ _
     (sym (c .before .before .before .tree .given .1) ∙ entries .check-entries .ensures) (c .before .check-body .ensures)
 
 returns-5 : tie.Need-returns-5
@@ -54,7 +54,7 @@ returns-5 c =
     let ws = now (c .before .before .before .before .before .before .before .before .before .before .args .words) in
     let fits : getD ws 0 0 < 4294967296 = omega (arith, c .before .before .before .before .before .before .shared-slice-known2 .given 0) in
     let entries = c .before .before .before in
-    record-entries ws (entries .before .before .before .before .before .if1 .left) (entries .before .before .before .before .if2 .left) (entries .before .before .if3 .left) fits _
+    record-entries _ ws (entries .before .before .before .before .before .if1 .left) (entries .before .before .before .before .if2 .left) (entries .before .before .if3 .left) fits _
     (sym (c .before .number .given .1) ∙ entries .check-entries .ensures)
 
 pub check-record-spec : {M : Type 1} → statement M

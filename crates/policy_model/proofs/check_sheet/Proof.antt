@@ -7,10 +7,10 @@ use Rattle.policy_model.proofs.check_sheet.Statement.{statement}
 use Rattle.policy_model.proofs.check_sheet.Tie as tie
 
 returns : tie.Need-returns
-returns c = no-sheet (now (c .before .before .args .words)) (c .if1 .taken)
+returns c = no-sheet _ (now (c .before .before .args .words)) (c .if1 .taken)
 
 returns-2 : tie.Need-returns-2
-returns-2 c = long-sheet (now (c .before .before .before .args .words)) (c .before .if1 .left) (c .if2 .taken)
+returns-2 c = long-sheet _ (now (c .before .before .before .args .words)) (c .before .if1 .left) (c .if2 .taken)
 
 check-policy-requires : tie.Need-check-policy-requires
 check-policy-requires c κs = search needs
@@ -27,13 +27,13 @@ enum-known-number c = search needs
 returns-3 : tie.Need-returns-3
 returns-3 c =
     let found = c .before .before .before in
-    sheet-accepted (now (found .before .before .before .before .args .words)) _ _ (found .before .before .if1 .left) (found .before .if2 .left) (found .check-policy .ensures)
+    sheet-accepted _ (now (found .before .before .before .before .args .words)) _ _ (found .before .before .if1 .left) (found .before .if2 .left) (found .check-policy .ensures)
     (sym (c .enum-told .given .1) ∙ c .before .before .to-the-end .ensures)
 
 returns-4 : tie.Need-returns-4
 returns-4 c =
     let found = c .before .before .before .before in
-    sheet-refused (now (found .before .before .before .before .args .words)) _ _ (found .before .before .if1 .left) (found .before .if2 .left) (found .check-policy .ensures)
+    sheet-refused _ (now (found .before .before .before .before .args .words)) _ _ (found .before .before .if1 .left) (found .before .if2 .left) (found .check-policy .ensures)
     (sym (c .before .number .given .1) ∙ c .before .before .before .to-the-end .ensures)
 
 pub check-sheet-spec : {M : Type 1} → statement M

@@ -1,15 +1,16 @@
 -- `policy_model::policy_step` meets its contract: by the head of the word. Assumes nothing.
-use mathlib.Core.Path.{_≡_, sym, _∙_}
+use mathlib.Core.Path.{_≡_, sym, _∙_, ap}
 use Prim.Native.Nat.{_+_, _-_}
 use borrow.Author.Needs.{needs}
+use borrow.Author.Tests.{not-true, not-false}
 use denote.Ref.{now}
 use lib.ListN.{drop}
 use Rattle.laws.specs.Size.{words}
 use Rattle.policy_model.specs.declared.PolicyHead.{PolicyHead}
 use Rattle.policy_model.specs.declared.PolicyHead.the-variants.{Permit, Deny, Grant, All, Any, OrElse, PermitWithTrace, DenyWithTrace, BadKind, BadField}
 use Rattle.policy_model.specs.Answers.{checked}
-use Rattle.policy_model.specs.Heads.{policyNode}
-use Rattle.policy_model.proofs.Policies.{nodeOf, Asked, no-policy, too-deep, by-head, after-all, after-any, after-or-else, after-permit, after-deny, whole-node}
+use Rattle.policy_model.specs.Heads.{withinMost, policyNode}
+use Rattle.policy_model.proofs.Policies.{nodeBy, Asked, no-policy, too-deep, by-head, not-within, after-all, after-any, after-or-else, after-permit, after-deny, whole-node}
 use Rattle.policy_model.proofs.policy_step.Statement.{statement}
 use Rattle.policy_model.proofs.policy_step.Tie as tie
 use Rattle.policy_model.proofs.policy_step.Reads as reads
@@ -21,11 +22,12 @@ use Rattle.policy_model.proofs.deep_policy.Reads as deep-policy-reads
 use Rattle.policy_model.proofs.head_by_kind.Reads as head-by-kind-reads
 use Rattle.policy_model.proofs.policy_head.Reads as policy-head-reads
 use Rattle.policy_model.proofs.step_of.Reads as step-of-reads
+use Rattle.policy_model.proofs.within.Reads as within-reads
 
 returns : tie.Need-returns
 returns c =
     let from = c .before .before .args in
-    no-policy (now (from .words)) _ (from .depth) (from .residual) (c .if1 .taken)
+    no-policy (from .most) (now (from .words)) _ (from .depth) (from .residual) (c .if1 .taken)
 
 mul-head-by-kind : tie.Need-mul-head-by-kind
 mul-head-by-kind c = search needs
@@ -43,7 +45,7 @@ returns-2 : tie.Need-returns-2
 returns-2 c =
     let test = c .before .before .before in
     let from = test .before .before .before .args in
-    too-deep (now (from .words)) (from .at) (from .depth) (from .residual) _ _ (test .before .if1 .left) (test .if2 .taken) (c .before .head-by-kind .ensures) (c .deep-policy .ensures)
+    too-deep (from .most) (now (from .words)) (from .at) (from .depth) (from .residual) _ _ (test .before .if1 .left) (test .if2 .taken) (c .before .head-by-kind .ensures) (c .deep-policy .ensures)
 
 mul-policy-head : tie.Need-mul-policy-head
 mul-policy-head c = search needs
@@ -54,17 +56,25 @@ shared-slice-read-policy-head c = search needs
 policy-head-requires : tie.Need-policy-head-requires
 policy-head-requires c κs = search needs
 
+within-requires : tie.Need-within-requires
+within-requires c κs = search needs
+
+returns-3 : tie.Need-returns-3
+returns-3 c =
+    let head = c .before .before in
+    not-within _ _ _ _ _ _ (head .before .before .before .if1 .left) (head .before .before .if2 .left) (head .policy-head .ensures) (sym (not-true _ (c .if3 .taken)) ∙ c .before .within .ensures)
+
 enum-told : tie.Need-enum-told
 enum-told c = search needs
 
-add-t20 : tie.Need-add-t20
-add-t20 c = search needs
+add-t22 : tie.Need-add-t22
+add-t22 c = search needs
 
 enum-told-2 : tie.Need-enum-told-2
 enum-told-2 c = search needs
 
-add-t21 : tie.Need-add-t21
-add-t21 c = search needs
+add-t23 : tie.Need-add-t23
+add-t23 c = search needs
 
 enum-known-head : tie.Need-enum-known-head
 enum-known-head c = search needs
@@ -113,61 +123,64 @@ enum-told-6 c = search needs
 
 -- what it calls, and where the match on the head begins
 abbrev calls : lts.Claims
-calls = (head-by-kind-reads.Asked, head-by-kind-reads.Learnt, deep-policy-reads.Asked, deep-policy-reads.Learnt, policy-head-reads.Asked, policy-head-reads.Learnt, check-grant-reads.Asked, check-grant-reads.Learnt, step-of-reads.Asked, step-of-reads.Learnt, check-permit-with-trace-reads.Asked, check-permit-with-trace-reads.Learnt, check-deny-with-trace-reads.Asked, check-deny-with-trace-reads.Learnt)
+calls = (head-by-kind-reads.Asked, head-by-kind-reads.Learnt, deep-policy-reads.Asked, deep-policy-reads.Learnt, policy-head-reads.Asked, policy-head-reads.Learnt, within-reads.Asked, within-reads.Learnt, check-grant-reads.Asked, check-grant-reads.Learnt, step-of-reads.Asked, step-of-reads.Learnt, check-permit-with-trace-reads.Asked, check-permit-with-trace-reads.Learnt, check-deny-with-trace-reads.Asked, check-deny-with-trace-reads.Learnt)
 
 abbrev Matching : Type 0
-Matching = lts.After-policy-head calls reads.Pre reads.Post
+Matching = lts.Else3 calls reads.Pre reads.Post
 
 abbrev start : Matching → lts.Start calls reads.Pre reads.Post
-start c = c .before .before .before .before .before
+start c = c .before .before .before .before .before .before .before
 
-by-the-head : (c : Matching) (h : PolicyHead) → c .policy-head .result ≡ h →
-    checked words (start c .args .at) (nodeOf (start c .args .residual) (start c .args .depth - 1) h (drop (start c .args .at + 1) (now (start c .args .words))))
-    ≡ Asked (now (start c .args .words)) (start c .args .at) (start c .args .depth) (start c .args .residual)
-by-the-head c h e = by-head _ _ _ _ h (c .before .before .before .if1 .left) (c .before .before .if2 .left) (sym e ∙ c .policy-head .ensures)
-
-returns-3 : tie.Need-returns-3
-unfolding checked policyNode
-returns-3 c = (by-the-head (c .before .before) (Permit _) (c .enum-told .given .1), search needs, search needs)
+by-the-head : (c : Matching) (h : PolicyHead) → c .before .before .policy-head .result ≡ h →
+    checked words (start c .args .at) (nodeBy (start c .args .most) (start c .args .residual) (start c .args .depth - 1) h (drop (start c .args .at + 1) (now (start c .args .words))))
+    ≡ Asked (start c .args .most) (now (start c .args .words)) (start c .args .at) (start c .args .depth) (start c .args .residual)
+by-the-head c h e =
+    let head = c .before .before in
+    by-head _ _ _ _ _ h (head .before .before .before .if1 .left) (head .before .before .if2 .left) (sym e ∙ head .policy-head .ensures)
+    (sym (not-false _ (c .if3 .left)) ∙ c .before .within .ensures ∙ ap (withinMost (start c .args .most)) e)
 
 returns-4 : tie.Need-returns-4
 unfolding checked policyNode
-returns-4 c = (by-the-head (c .before .before) Deny (c .enum-told2 .given .1), search needs, search needs)
+returns-4 c = (by-the-head (c .before .before) (Permit _) (c .enum-told .given .1), search needs, search needs)
 
 returns-5 : tie.Need-returns-5
-unfolding policyNode
-returns-5 c =
-    let at-head = c .before .before .before .before .before in
-    whole-node _ _ _ _ _ _ (at-head .before .before .before .if1 .left) (c .before .check-grant .ensures _ _ ∙ by-the-head at-head (Grant _ _ _) (c .before .before .before .head .given .1)) (c .step-of .ensures)
+unfolding checked policyNode
+returns-5 c = (by-the-head (c .before .before) Deny (c .enum-told2 .given .1), search needs, search needs)
 
 returns-6 : tie.Need-returns-6
-returns-6 c = (after-all _ _ _ _ _ ∙ by-the-head (c .before .before .before) (All _) (c .before .head2 .given .1), search needs, search needs)
+unfolding policyNode
+returns-6 c =
+    let at-head = c .before .before .before .before .before in
+    whole-node _ _ _ _ _ _ _ (at-head .before .before .before .before .before .if1 .left) (c .before .check-grant .ensures _ _ ∙ by-the-head at-head (Grant _ _ _) (c .before .before .before .head .given .1)) (c .step-of .ensures)
 
 returns-7 : tie.Need-returns-7
-returns-7 c = (after-any _ _ _ _ _ ∙ by-the-head (c .before .before .before) (Any _) (c .before .head3 .given .1), search needs, search needs)
+returns-7 c = (after-all _ _ _ _ _ ∙ by-the-head (c .before .before .before) (All _) (c .before .head2 .given .1), search needs, search needs)
 
 returns-8 : tie.Need-returns-8
-returns-8 c = (after-or-else _ _ _ _ ∙ by-the-head (c .before .before) OrElse (c .enum-told3 .given .1), search needs, search needs)
+returns-8 c = (after-any _ _ _ _ _ ∙ by-the-head (c .before .before .before) (Any _) (c .before .head3 .given .1), search needs, search needs)
 
 returns-9 : tie.Need-returns-9
-returns-9 c =
-    let at-head = c .before .before .before .before .before in
-    whole-node _ _ _ _ _ _ (at-head .before .before .before .if1 .left) (c .before .check-permit-with-trace .ensures _ ∙ after-permit _ _ _ _ _ _ ∙ by-the-head at-head (PermitWithTrace _ _) (c .before .before .before .head4 .given .1)) (c .step-of2 .ensures)
+returns-9 c = (after-or-else _ _ _ _ ∙ by-the-head (c .before .before) OrElse (c .enum-told3 .given .1), search needs, search needs)
 
 returns-10 : tie.Need-returns-10
 returns-10 c =
-    let at-head = c .before .before .before .before in
-    whole-node _ _ _ _ _ _ (at-head .before .before .before .if1 .left) (c .before .check-deny-with-trace .ensures _ _ _ ∙ after-deny _ _ _ _ _ _ _ ∙ by-the-head at-head (DenyWithTrace _ _ _) (c .before .before .enum-told4 .given .1)) (c .step-of3 .ensures)
+    let at-head = c .before .before .before .before .before in
+    whole-node _ _ _ _ _ _ _ (at-head .before .before .before .before .before .if1 .left) (c .before .check-permit-with-trace .ensures _ ∙ after-permit _ _ _ _ _ _ ∙ by-the-head at-head (PermitWithTrace _ _) (c .before .before .before .head4 .given .1)) (c .step-of2 .ensures)
 
 returns-11 : tie.Need-returns-11
-unfolding checked policyNode
-returns-11 c = by-the-head (c .before .before) BadKind (c .enum-told5 .given .1)
+returns-11 c =
+    let at-head = c .before .before .before .before in
+    whole-node _ _ _ _ _ _ _ (at-head .before .before .before .before .before .if1 .left) (c .before .check-deny-with-trace .ensures _ _ _ ∙ after-deny _ _ _ _ _ _ _ ∙ by-the-head at-head (DenyWithTrace _ _ _) (c .before .before .enum-told4 .given .1)) (c .step-of3 .ensures)
 
 returns-12 : tie.Need-returns-12
 unfolding checked policyNode
-returns-12 c = by-the-head (c .before .before) BadField (c .enum-told6 .given .1)
+returns-12 c = by-the-head (c .before .before) BadKind (c .enum-told5 .given .1)
+
+returns-13 : tie.Need-returns-13
+unfolding checked policyNode
+returns-13 c = by-the-head (c .before .before) BadField (c .enum-told6 .given .1)
 
 pub policy-step-spec : {M : Type 1} → statement M
 policy-step-spec =
     tie.close
-    (tie.spec returns mul-head-by-kind shared-slice-read-head-by-kind head-by-kind-requires deep-policy-requires returns-2 mul-policy-head shared-slice-read-policy-head policy-head-requires enum-told add-t20 enum-told-2 add-t21 enum-known-head sub-check-grant check-grant-requires step-of-requires enum-known-head-2 enum-known-head-3 enum-told-3 enum-known-head-4 check-permit-with-trace-requires step-of-requires-2 enum-told-4 check-deny-with-trace-requires step-of-requires-3 enum-told-5 enum-told-6 returns-3 returns-4 returns-5 returns-6 returns-7 returns-8 returns-9 returns-10 returns-11 returns-12)
+    (tie.spec returns mul-head-by-kind shared-slice-read-head-by-kind head-by-kind-requires deep-policy-requires returns-2 mul-policy-head shared-slice-read-policy-head policy-head-requires within-requires returns-3 enum-told add-t22 enum-told-2 add-t23 enum-known-head sub-check-grant check-grant-requires step-of-requires enum-known-head-2 enum-known-head-3 enum-told-3 enum-known-head-4 check-permit-with-trace-requires step-of-requires-2 enum-told-4 check-deny-with-trace-requires step-of-requires-3 enum-told-5 enum-told-6 returns-4 returns-5 returns-6 returns-7 returns-8 returns-9 returns-10 returns-11 returns-12 returns-13)

@@ -1,7 +1,8 @@
 -- `vierskof::vierskof_complete_residual` meets its contract: that of the call. Assumes nothing.
 use mathlib.Core.Path.{refl}
+use mathlib.Core.Option.{none}
 use lib.ListN.{length}
-use Rattle.model.specs.Products.{completeResidual}
+use Rattle.model.specs.Products.{completeResidualBy}
 use Rattle.vierskof.proofs.Writing.{writes-under}
 use borrow.Author.Needs.{needs}
 use Rattle.vierskof.proofs.vierskof_complete_residual.Statement.{statement}
@@ -19,7 +20,7 @@ same-length c = search needs
 returns : tie.Need-returns
 returns c =
     let args = c .before .before .before .before .before .before .before .before .args in
-    writes-under (λ n. completeResidual n (args .residual .now) (args .facts .now) (length (args .out .now))) refl (c .before .before .before .complete-residual .ensures) (c .written .ensures)
+    writes-under (λ n. completeResidualBy none n (args .residual .now) (args .facts .now) (length (args .out .now))) refl (c .before .before .before .complete-residual .ensures) (c .written .ensures)
 
 pub vierskof-complete-residual-spec : {M : Type 1} → statement M
 vierskof-complete-residual-spec =

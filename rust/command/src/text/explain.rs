@@ -9,12 +9,17 @@ use super::show::Joined;
 use crate::document::{Document, Kind};
 
 pub(super) fn document(document: &Document<'_>, f: &mut Formatter<'_>) -> fmt::Result {
+    let outcome = if document.has_levels() {
+        level
+    } else {
+        products
+    };
     match document.kind() {
         Kind::Sheet(_) => writeln!(f, "# A sheet. It names {}.", set(document.facts())),
         Kind::Record(record) => {
             match record.decision() {
-                Some(Decision::Permit(permit)) => permitted(f, permit)?,
-                Some(Decision::Deny(deny)) => denied(f, deny)?,
+                Some(Decision::Permit(permit)) => permitted(f, permit, outcome)?,
+                Some(Decision::Deny(deny)) => denied(f, deny, outcome)?,
                 None => writeln!(f, "# Pending. Still needed: {}.", set(document.facts()))?,
             }
             if record.number() > 0 {
@@ -25,8 +30,11 @@ pub(super) fn document(document: &Document<'_>, f: &mut Formatter<'_>) -> fmt::R
     }
 }
 
-fn permitted(f: &mut Formatter<'_>, permit: PermitWithTrace<'_>) -> fmt::Result {
-    writeln!(f, "# Permit: {}.", products(permit.outcome()))?;
+/// What is said of an outcome.
+type Said = fn(Products) -> String;
+
+fn permitted(f: &mut Formatter<'_>, permit: PermitWithTrace<'_>, outcome: Said) -> fmt::Result {
+    writeln!(f, "# Permit: {}.", outcome(permit.outcome()))?;
     writeln!(f, "# Obligations: {}.", or_none(permit.obligations()))?;
     if permit.label().is_none() && permit.facts().len() == 0 {
         // A fold of permits has no clause of its own; nor has a plain permit, and the record doesn't say which it was.
@@ -37,10 +45,10 @@ fn permitted(f: &mut Formatter<'_>, permit: PermitWithTrace<'_>) -> fmt::Result 
     because(f, permit.label(), None, permit.facts())
 }
 
-fn denied(f: &mut Formatter<'_>, deny: DenyWithTrace<'_>) -> fmt::Result {
+fn denied(f: &mut Formatter<'_>, deny: DenyWithTrace<'_>, outcome: Said) -> fmt::Result {
     write!(f, "# Deny, {}", deny.shape())?;
-    if let Some(outcome) = deny.denied() {
-        write!(f, ". Not granted: {}", products(outcome))?;
+    if let Some(denied) = deny.denied() {
+        write!(f, ". Not granted: {}", outcome(denied))?;
     }
     writeln!(f, ".")?;
     because(f, deny.label(), deny.reason(), deny.facts())
@@ -67,6 +75,11 @@ fn consulted(f: &mut Formatter<'_>, record: Record<'_>) -> fmt::Result {
     let entries = record.consulted();
     let entries = entries.map(|read| format!("{} {}", read.fact, read.reading));
     writeln!(f, "# Facts consulted: {}.", or_none(entries))
+}
+
+/// A level by its number.
+fn level(outcome: Products) -> String {
+    format!("level {}", outcome.bits())
 }
 
 /// The products of a set by their numbers.

@@ -5,6 +5,7 @@ mod faults;
 mod forms;
 mod help;
 mod join;
+mod levels;
 mod readme;
 mod registers;
 mod run;

@@ -22,6 +22,17 @@ fn the_readme_shows_what_is_printed() {
     assert_eq!(shown, printed);
 }
 
+/// The partners' example: in stages and at once the same level.
+#[test]
+fn the_readme_decides_by_levels() {
+    let (_, example) = README.split_once("## By levels").expect("a section");
+    let (_, example) = example.split_once("```sh\n").expect("an example");
+    let (typed, said) = example.split_once("```").expect("its end");
+    let shown = help::shell(&typed.replace("./run ", "vierskof "), &folder("partners"));
+    assert_eq!(shown.matches("# Permit: level 3.\n").count(), 2, "{shown}");
+    assert!(said.contains("Both ways end in level 3"));
+}
+
 /// The curators' example, from windows to a decision.
 #[test]
 fn the_readme_sets_facts_by_age() {

@@ -175,7 +175,7 @@ fn case(rng: &mut Rng, call: Call, words: Words) -> Case {
 }
 
 /// A record that a chain of reductions and narrowings in the call's order wrote, or one written by hand.
-fn record(rng: &mut Rng, alphabet: &Alphabet, call: Call) -> Vec<u32> {
+pub(super) fn record(rng: &mut Rng, alphabet: &Alphabet, call: Call) -> Vec<u32> {
     let words = size(rng);
     match rng.below(100) {
         0..=29 => staged(rng, alphabet, call.order()),
@@ -204,7 +204,10 @@ fn staged(rng: &mut Rng, alphabet: &Alphabet, order: Order) -> Vec<u32> {
 }
 
 /// The words of a tree: most of them small, some at the limits of levels and obligations.
-fn grown<'a>(rng: &'a mut Rng, grower: impl FnOnce(&'a mut Rng) -> Grower<'a>) -> Vec<u32> {
+pub(super) fn grown<'a>(
+    rng: &'a mut Rng,
+    grower: impl FnOnce(&'a mut Rng) -> Grower<'a>,
+) -> Vec<u32> {
     let kind = rng.below(100);
     let words = size(rng);
     let nodes = rng.between(31, 33);
@@ -244,7 +247,7 @@ fn size(rng: &mut Rng) -> usize {
     }
 }
 
-fn table(rng: &mut Rng, alphabet: &Alphabet, call: Call) -> Vec<u8> {
+pub(super) fn table(rng: &mut Rng, alphabet: &Alphabet, call: Call) -> Vec<u8> {
     let mut table = tables::draw(rng, &alphabet.facts, call.allows_unknown());
     if rng.percent(5) {
         tables::spoil(rng, &mut table);
@@ -253,7 +256,7 @@ fn table(rng: &mut Rng, alphabet: &Alphabet, call: Call) -> Vec<u8> {
 }
 
 /// An output that the record just fits, just doesn't, or doesn't by far.
-fn tight(rng: &mut Rng, case: &Case) -> usize {
+pub(super) fn tight(rng: &mut Rng, case: &Case) -> usize {
     match case.answer() {
         Ok(Answer::Record(record)) if !repeats(case) => around(rng, record.len()),
         // Words with an obligation twice were refused when answers were first stored. One draw for them, as for all that is refused, leaves the cases

@@ -9,6 +9,7 @@ use super::tree::{
     Condition, Decided, Deny, Entry, Grant, Permit, Record, Residual, Seen, Sheet, Tree,
 };
 use super::{GRANT_OBLIGATIONS, LEVELS, OBLIGATIONS, RECORD_WORDS, SHEET_WORDS};
+use crate::levels::is_outcome;
 use crate::products::Products;
 use crate::refusal::Refusal;
 
@@ -134,7 +135,7 @@ impl Reader<'_> {
         match kind(word) {
             6 => {
                 zero(word, 4, 12)?;
-                Ok(Tree::Permit(outcome(word)))
+                outcome(word).map(Tree::Permit)
             }
             7 => {
                 zero(word, 4, 28)?;
@@ -197,9 +198,10 @@ impl Reader<'_> {
             return Err(Refusal::Field);
         }
         zero(word, 12, 4)?;
+        let outcome = outcome(word)?;
         let (label, reason) = names(self.word()?)?;
         Ok(Grant {
-            outcome: outcome(word),
+            outcome,
             shape,
             label,
             reason,
@@ -212,11 +214,12 @@ impl Reader<'_> {
         zero(word, 4, 1)?;
         let obligations = obligation_count(word);
         zero(word, 12, 4)?;
+        let outcome = outcome(word)?;
         let second = self.word()?;
         let label = name(halves(second)[0])?;
         zero(second, 16, 4)?;
         Ok(Permit {
-            outcome: outcome(word),
+            outcome,
             obligations: self.obligations(obligations)?,
             satisfied: self.pairs(count(second), listed)?,
             label,
@@ -226,7 +229,7 @@ impl Reader<'_> {
     fn deny(&mut self, word: u32) -> Result<Deny, Refusal> {
         let present = field(word, 5, 1) == 1;
         zero(word, 6, 10)?;
-        let denied = present.then(|| outcome(word));
+        let denied = present.then(|| outcome(word)).transpose()?;
         if !present {
             zero(word, 16, 16)?;
         }
@@ -286,9 +289,14 @@ const fn count(word: u32) -> usize {
     field(word, 20, 12) as usize
 }
 
-/// The products that end a word.
-fn outcome(word: u32) -> Products {
-    Products(halves(word)[1])
+/// The products that end a word; where an outcome table is given, the level.
+fn outcome(word: u32) -> Result<Products, Refusal> {
+    let number = halves(word)[1];
+    if is_outcome(number) {
+        Ok(Products(number))
+    } else {
+        Err(Refusal::Field)
+    }
 }
 
 /// The fact that ends a word or a listed field.

@@ -10,6 +10,7 @@ mod files;
 mod in_order;
 #[cfg(feature = "proved")]
 mod join;
+mod levels;
 mod limits;
 mod listing;
 mod numbers;

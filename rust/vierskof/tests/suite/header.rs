@@ -1,8 +1,8 @@
 //! The C header says what the crate says.
 
 use vierskof::{
-    RECORD_WORDS, REGISTER_WORDS, Refusal, SHEET_WORDS, TABLE_BYTES, TIGHT_BYTES, WINDOWS, room,
-    tight_room,
+    Levels, RECORD_WORDS, REGISTER_WORDS, Refusal, SHEET_WORDS, TABLE_BYTES, TIGHT_BYTES, WINDOWS,
+    room, tight_room,
 };
 
 const HEADER: &str = include_str!("../../../../include/vierskof.h");
@@ -43,6 +43,7 @@ fn limits_and_version_are_the_same() {
     assert_eq!(number("VIERSKOF_SET_NUMBERS"), 16);
     assert_eq!(number("VIERSKOF_REGISTER_WORDS"), REGISTER_WORDS);
     assert_eq!(number("VIERSKOF_NO_SHEET"), usize::from(u16::MAX) + 1);
+    assert_eq!(number("VIERSKOF_OUTCOME_LEVELS"), Levels::MOST);
     assert_eq!(number("VIERSKOF_WINDOWS"), WINDOWS);
     assert_eq!(number("VIERSKOF_TIGHT_BYTES"), TIGHT_BYTES);
     let parts = ["MAJOR", "MINOR", "PATCH"];
@@ -76,7 +77,7 @@ fn rooms_are_the_same() {
 #[test]
 fn each_output_is_restricted() {
     let calls: Vec<&str> = HEADER.split("\nuint64_t ").skip(1).collect();
-    assert_eq!(calls.len(), 18);
+    assert_eq!(calls.len(), 24);
     for call in calls {
         let (call, _) = call.split_once(");").expect("a prototype");
         let writes = call.contains(" out,") || call.contains(" set,");

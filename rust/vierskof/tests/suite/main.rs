@@ -5,6 +5,7 @@ mod example;
 mod facts;
 mod header;
 mod join;
+mod levels;
 mod linking;
 mod numbers;
 mod read;

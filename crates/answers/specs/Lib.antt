@@ -3,3 +3,5 @@ pub mod Narrowing
 pub mod InOrder
 pub mod Agree
 pub mod TightLimits
+pub mod LevelLimits
+pub mod WindowLimits

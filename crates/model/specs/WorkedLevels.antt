@@ -68,7 +68,7 @@ abbrev upper : List ℕ
 upper = 0 ∷ 1 ∷ 2 ∷ 3 ∷ 4 ∷ 1 ∷ 1 ∷ 4 ∷ 3 ∷ 4 ∷ 2 ∷ 4 ∷ 2 ∷ 3 ∷ 4 ∷ 3 ∷ 3 ∷ 3 ∷ 3 ∷ 4 ∷ 4 ∷ 4 ∷ 4 ∷ 4 ∷ 4 ∷ []
 
 -- Level 0 permitted, by a table that is accepted.
-abbrev accepted : Option OutcomeTable → LevelRow
+abbrev pub accepted : Option OutcomeTable → LevelRow
 accepted g = by g (row evaluates 3 [] (0x60000000 ∷ []) (writes (0xE0000000 ∷ 0xC0000000 ∷ 0x0 ∷ [])))
 
 -- Refused, whatever else is to be told: no words, and no room.
@@ -85,7 +85,6 @@ tables =
     ∷ accepted C3
     -- the lattice need not be distributive
     ∷ accepted M3
-    ∷ accepted (chain 16)
     -- a count of no levels, whatever the bytes, and of 17
     ∷ unaccepted (table 0 [])
     ∷ unaccepted (table 0 (0 ∷ 0 ∷ []))
@@ -127,7 +126,7 @@ pendingS = 0xF0000001 ∷ 0x40060000 ∷ 0xA0000003 ∷ 0xC0000002 ∷ 0x1 ∷ 0
 abbrev permits : ℕ → Expected
 permits o = writes (0xE0000000 ∷ o ∷ 0x0 ∷ [])
 
-abbrev decided : Option OutcomeTable → List ℕ → Expected → LevelRow
+abbrev pub decided : Option OutcomeTable → List ℕ → Expected → LevelRow
 decided g sheet e = by g (row evaluates 100 [] sheet e)
 
 abbrev pub levels : List LevelRow
@@ -151,7 +150,6 @@ levels =
     -- an outcome that is no level gives 8: of a Permit, of a Grant before its second word, of what is never read; after 7
     ∷ decided L2 (0x60000001 ∷ []) (permits 0xC0000001)
     ∷ decided L2 (0x60000002 ∷ []) (refuses 8)
-    ∷ decided (chain 16) (0x60000010 ∷ []) (refuses 8)
     ∷ decided L2 (0x80000002 ∷ []) (refuses 8)
     ∷ decided L2 (0x80000001 ∷ []) (refuses 6)
     ∷ decided L2 (replicate 32 0x90000001 ++ 0x60000002 ∷ []) (refuses 7)

@@ -12,7 +12,7 @@ use Rattle.model.specs.Writing.{presenceField}
 use Rattle.model.specs.Windows.{windowsOf, becomes, applyWindows}
 use Rattle.model.specs.Worked.{Expected, refuses, writes, isExpected}
 
-abbrev on : ℕ → ℕ → ℕ → Date
+abbrev pub on : ℕ → ℕ → ℕ → Date
 on y m d = record { year = y; month = m; day = d }
 
 -- ---- the calendar
@@ -58,16 +58,16 @@ aged = refl
 
 -- ---- the call
 -- A table of zeros but for its bytes 1 and 255.
-abbrev table : ℕ → ℕ → List ℕ
+abbrev pub table : ℕ → ℕ → List ℕ
 table a z = 0 ∷ a ∷ (replicate 253 0 ++ z ∷ [])
 
 pub data Row : Type 0 where
   row : List ℕ → Date → Date → List ℕ → ℕ → Expected → Row
 
-abbrev holds : Row → Bool
+abbrev pub holds : Row → Bool
 holds (row list reading today facts room e) = isExpected (applyWindows list reading today facts room) e
 
-abbrev allHold : List Row → Bool
+abbrev pub allHold : List Row → Bool
 allHold [] = true
 allHold (r ∷ rs) = holds r && allHold rs
 
@@ -76,29 +76,29 @@ abbrev stages : List ℕ
 stages = 0x80000006 ∷ 0x0000005A ∷ 0xC0000007 ∷ 0x00000009 ∷ []
 
 -- Windows of fact 6: open for 90 days, on days 5 to 30, and for ten years ..
-abbrev wide : List ℕ
+abbrev pub wide : List ℕ
 wide = 0x80000006 ∷ 0x0000005A ∷ []
 
-abbrev month : List ℕ
+abbrev pub month : List ℕ
 month = 0x80000006 ∷ 0x0005001E ∷ []
 
-abbrev tenYears : List ℕ
+abbrev pub tenYears : List ℕ
 tenYears = 0xC0000006 ∷ 0x00000009 ∷ []
 
 -- .. and closed on days 10 to 20, 91 to 100, 14, and 365 to 730.
-abbrev survey : List ℕ
+abbrev pub survey : List ℕ
 survey = 0x00000006 ∷ 0x000A0014 ∷ []
 
-abbrev afterwards : List ℕ
+abbrev pub afterwards : List ℕ
 afterwards = 0x00000006 ∷ 0x005B0064 ∷ []
 
-abbrev fortnight : List ℕ
+abbrev pub fortnight : List ℕ
 fortnight = 0x00000006 ∷ 0x000E000E ∷ []
 
-abbrev secondYear : List ℕ
+abbrev pub secondYear : List ℕ
 secondYear = 0x00000006 ∷ 0x016D02DA ∷ []
 
-abbrev today : Date
+abbrev pub today : Date
 today = on 2026 11 15
 
 abbrev noDate : Date
@@ -115,19 +115,12 @@ accepted =
     -- ten years are the completed years 0 to 9
     ∷ row stages (on 2016 11 16) today (table 0 0) 256 (writes (table 0x01 0))
     ∷ row stages (on 2016 11 15) today (table 0 0) 256 (writes (table 0 0))
-    -- closed before open, in either order, among several, and in two units
-    ∷ row (wide ++ survey) (on 2026 11 1) today (table 0 0) 256 (writes (table 0 0))
-    ∷ row (survey ++ wide) (on 2026 11 1) today (table 0 0) 256 (writes (table 0 0))
-    ∷ row (wide ++ afterwards) (on 2026 11 1) today (table 0 0) 256 (writes (table 0x04 0))
-    ∷ row (tenYears ++ secondYear) (on 2025 6 1) today (table 0 0) 256 (writes (table 0 0))
-    ∷ row (wide ++ month ++ fortnight) (on 2026 11 1) today (table 0 0) 256 (writes (table 0 0))
     -- a closed window over an Unknown field; a fact that is held by none; each window's age in its own unit
     ∷ row (0x00000005 ∷ 0x0000000A ∷ []) today today (table 0x25 0) 256 (writes (table 0x05 0))
     ∷ row (0x80000005 ∷ 0x0001000A ∷ []) today today (table 0x25 0) 256 (writes (table 0x05 0))
     ∷ row (0xC0000006 ∷ 0x00010001 ∷ 0x80000007 ∷ 0x02140214 ∷ []) (on 2025 6 1) today (table 0 0) 256 (writes (table 0x05 0))
-    -- 109,572 days lie in no window; 299 years do
+    -- 109,572 days lie in no window
     ∷ row (0x800003FF ∷ 0x0000FFFF ∷ []) (on 1900 1 1) (on 2199 12 31) (table 0x25 0x02) 256 (writes (table 0x25 0))
-    ∷ row (0xC00003FF ∷ 0x012B012B ∷ []) (on 1900 1 1) (on 2199 12 31) (table 0x25 0x02) 256 (writes (table 0x25 0x01))
     -- no window: the table as it stands
     ∷ row [] today today (table 0x25 0x02) 300 (writes (table 0x25 0x02))
     ∷ []
@@ -192,7 +185,3 @@ turnedBack =
 
 pub turned-back : allHold turnedBack ≡ true
 turned-back = refl
-
--- 32 windows are read.
-pub most : holds (row (replicate 64 0) today today (table 0 0) 256 (writes (table 0 0))) ≡ true
-most = refl

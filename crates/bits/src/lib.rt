@@ -1,13 +1,12 @@
 // The tight form's bits, most significant first: fields in a run of bits that stands in bytes, and the widths of a node's fields.
 ghost use mathlib.Core.Path.{_≡_};
 ghost use Prim.Native.Nat.{_+_, _*_, _^_, _≤_, _<_};
-ghost use lib.ListN.{length, take, drop, getD};
-ghost use Rattle.model.specs.Fields.{split, joined};
+ghost use lib.ListN.{length, drop, getD};
+ghost use Rattle.model.specs.Fields.{joined};
 ghost use Rattle.model.specs.Bits.{runOf};
-ghost use Rattle.packing.specs.Written.{Written};
 ghost use Rattle.bits.specs.Widths.{plainWidth, markWidth, deniedWidth};
 ghost use Rattle.bits.specs.WindowLaws.{window, Bytes4};
-ghost use Rattle.bits.specs.Splice.{low, Spliced};
+ghost use Rattle.bits.specs.Splice.{low, Stored, Spliced};
 
 // ---- widths: a kind; an obligation count, an obligation, a fact, a consulted entry, a count, an outcome; a label or reason with its present bit
 pub const KIND_BITS: u32 = 4;
@@ -130,29 +129,52 @@ pub fn bits_at(bytes: &[u8], at: usize, width: u32) -> u32
     ((window_at(bytes, at / 8) >> (32 - skipped - width)) % (1u64 << width)) as u32
 }
 
-// Writes the first `count` bytes of a number of four.
-fn put_bytes(window: u64, count: usize, out: &mut [u8]) -> usize
+// Stores a number's four bytes.
+fn put_four(window: u64, out: &mut [u8])
+    requires { ⌜ (window < 2 ^ 32) × (4 ≤ length (now out)) ⌝ }
+    ensures { λ r. ⌜ Stored 4 window (now (out .entry)) (now (out .exit)) ⌝ }
+{
+    out[0] = (window / 16777216) as u8;
+    out[1] = (window / 65536 % 256) as u8;
+    out[2] = (window / 256 % 256) as u8;
+    out[3] = (window % 256) as u8;
+}
+
+// Stores the first `count` of them.
+fn put_few(window: u64, count: usize, out: &mut [u8])
     requires { ⌜ (window < 2 ^ 32) × (count ≤ 4) × (count ≤ length (now out)) ⌝ }
-    ensures { λ r. ⌜ Written (take count (split 8 4 window)) (now (out .entry)) (now (out .exit)) r ⌝ }
+    ensures { λ r. ⌜ Stored count window (now (out .entry)) (now (out .exit)) ⌝ }
 {
     let mut i = 0;
     while i < count {
         out[i] = ((window >> (24 - 8 * i)) % 256) as u8;
         i += 1;
     }
-    i
 }
 
-// Puts the low `width` bits of a number at bit `at`, and 0 bits to the end of the last byte. Returns the bit after them.
+// The same, but all four where there is room, as there nearly always is: the end of a loop of 1 to 4 turns is mispredicted.
+fn put_bytes(window: u64, count: usize, out: &mut [u8])
+    requires { ⌜ (window < 2 ^ 32) × (count ≤ 4) × (count ≤ length (now out)) ⌝ }
+    ensures { λ r. ⌜ Stored count window (now (out .entry)) (now (out .exit)) ⌝ }
+{
+    if out.len() < 4 {
+        put_few(window, count, out);
+    } else {
+        put_four(window, out);
+    }
+}
+
+// Puts the low `width` bits of a number at bit `at`, and 0 bits to the end of their last byte. The bytes after it may change. Returns the bit after the field.
+// The next field waits for this one's last byte, so few steps lie between the byte that is read and the store: the value is moved into place beside them.
 pub fn put_bits(out: &mut [u8], at: usize, width: u32, value: u32) -> usize
     requires { ⌜ (width ≤ 25) × (at + width ≤ 8 * length (now out)) × (at < 2 ^ 62) ⌝ }
     ensures { λ r. ⌜ Spliced (now (out .entry)) (now (out .exit)) at (low width value) r ⌝ }
 {
     let skipped = (at % 8) as u32;
     let count = (skipped + width + 7) / 8;
-    let kept = byte_at(out, at / 8) >> (8 - skipped);
-    let field = (kept << width) + value as u64 % (1u64 << width);
-    let window = field << (32 - skipped - width);
+    let kept = (byte_at(out, at / 8) >> (8 - skipped)) << (8 - skipped);
+    let field = (value as u64 % (1u64 << width)) << (32 - width);
+    let window = (kept << 24) + (field >> skipped);
     put_bytes(window, count as usize, &mut out[at / 8..]);
     at + width as usize
 }

@@ -7,7 +7,8 @@ use Prim.Native.Nat.{ℕ, suc, _+_, _/_, _≤_, _<_}
 use native.Mathlib.Omega.{arith}
 use borrow.Author.Tests.{leb-true}
 use lib.Dec.{leb}
-use lib.ListN.{length, drop, getD}
+use lib.ListN.{length, take, drop, getD}
+use lib.Seq.{length-take-le}
 use Rattle.model.specs.Fields.{wordsFor}
 use Rattle.model.specs.Outcome.{productSets}
 use Rattle.model.specs.Policy.{Policy}
@@ -46,14 +47,16 @@ narrow-known (x ∷ l) f = (f 0, narrow-known l (λ i. f (suc i)))
 pub packed-no-room : (bs out : List ℕ) → length out < (length bs + 7) / 8 → Packed bs out out (answer.Refused 11)
 packed-no-room bs out h = record { packed = λ b. copy-no-room (bytesOf bs) out (omega (arith, length-packed 1 8 (wordsFor 8 (length bs)) bs)) }
 
-pub packed-done : (bs out after : List ℕ) (size r : ℕ) → Narrow 8 out → Narrow 8 after → size ≡ (length bs + 7) / 8 → size ≤ length out → Spliced out after 0 bs r → Packed bs out after (answer.Written size)
-packed-done bs out after size r h k e l s =
+-- The bytes that the bits need were lent, and stand before the others again.
+pub packed-done : (bs out part : List ℕ) (size r : ℕ) → Narrow 8 (part ++ drop size out) → size ≡ (length bs + 7) / 8 → size ≤ length out → Spliced (take size out) part 0 bs r → Packed bs out (part ++ drop size out) (answer.Written size)
+packed-done bs out part size r h e l s =
     let n = length-packed 1 8 (wordsFor 8 (length bs)) bs in
-    record {
-      packed = λ b.
-          copy-written (bytesOf bs) out after size (omega (arith, n, e, l))
-          (record { number = e ∙ sym n; output = all-spliced out after bs r h k b (omega arith) s ∙ ap (λ m. bytesOf bs ++ drop m out) (n ∙ sym e) });
-    }
+    let whole : part ≡ bytesOf bs = all-spliced (take size out) part bs r (narrow-front part (drop size out) h) (length-take-le size out l ∙ e) s in
+    record { packed = λ b. copy-written (bytesOf bs) out (part ++ drop size out) size (omega (arith, n, e, l)) (record { number = e ∙ sym n; output = ap (λ x. x ++ drop size out) whole }) }
+  where
+    narrow-front : (xs ys : List ℕ) → Narrow 8 (xs ++ ys) → Narrow 8 xs
+    narrow-front [] ys a = tt
+    narrow-front (x ∷ xs) ys a = (a .0, narrow-front xs ys (a .1))
 
 -- ---- sheets
 never : {G : Type 0} (n : ℕ) → none ≡ some n → G

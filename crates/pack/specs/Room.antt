@@ -1,18 +1,17 @@
 -- What a writer of bits needs: they fit the output from `at` on, no position is past what a number can say, and the other bits of the byte are 0.
 use Prim.Native.Nat.{ℕ, _+_, _*_, _^_, _≤_, _<_}
-use mathlib.Core.Path.{_≡_, refl, sym, _∙_, ap, ap₂, subst}
-use mathlib.Core.List.{List, [], _++_, append-nil}
+use mathlib.Core.Path.{_≡_, refl, sym, subst}
+use mathlib.Core.List.{List, [], _++_}
 use native.Mathlib.Omega.{arith}
-use lib.ListN.{length, length-append}
+use lib.ListN.{length, take, length-append}
 use Rattle.model.specs.Bits.{runOf}
-use Rattle.laws.specs.BitLaws.{length-run}
-use Rattle.bits.specs.Splice.{low, spliced, Spliced}
-use Rattle.bits.specs.SpliceLaws.{length-low, spliced-then}
+use Rattle.bits.specs.Splice.{low, whole, fill, Spliced}
+use Rattle.bits.specs.SpliceLaws.{length-low, spliced-clear}
 
 pub record Room (at : ℕ) (bs : List ℕ) (out : List ℕ) : Type 0 where
   pub fits : at + length bs ≤ 8 * length out
   pub few : at + length bs < 2 ^ 62
-  pub clear : spliced at [] (runOf out) ≡ runOf out
+  pub clear : take (whole at) (runOf out) ≡ take at (runOf out) ++ fill at
 
 -- Room for a field that comes first, and for what follows once it was put.
 pub room-low : (w v at : ℕ) (bs out : List ℕ) → w ≤ 25 → Room at (low w v ++ bs) out → (w ≤ 25) × (at + w ≤ 8 * length out) × (at < 2 ^ 62)
@@ -47,20 +46,15 @@ room-next {a} {b} {at} {r} {xs} s ys m =
     record {
       fits = omega arith;
       few = omega arith;
-      clear =
-          ap₂ (λ i l. spliced i [] l) n (s .run)
-          ∙ spliced-then at xs (runOf a) (omega (arith, length-run a)) []
-          ∙ ap (λ l. spliced at l (runOf a)) (append-nil xs)
-          ∙ sym (s .run);
+      clear = spliced-clear s (omega arith);
     }
 
 -- Nothing is put.
 pub none-spliced : {at : ℕ} {bs out : List ℕ} → Room at bs out → Spliced out out at [] at
-none-spliced r = record { next = omega arith; run = sym (r .clear); long = refl }
+none-spliced r = record { next = omega arith; run = r .clear; long = refl }
 
 -- From the first bit on.
 pub room-start : (bs out : List ℕ) → length bs ≤ 8 * length out → length bs < 2 ^ 62 → Room 0 bs out
-unfolding spliced
 room-start bs out h k = record { fits = omega arith; few = omega arith; clear = refl }
 
 pub room-here : {at : ℕ} {bs out : List ℕ} → Room at bs out → at ≤ 8 * length out

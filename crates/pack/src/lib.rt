@@ -280,7 +280,8 @@ fn put_nodes(words: &[u32], from: usize, out: &mut [u8], to: usize) -> usize
     next
 }
 
-// Packs the words of a sheet that was checked, if there is room. Their length is known before a byte changes.
+// Packs the words of a sheet that was checked, if there is room. Their length is known before a byte changes, and they are lent no more bytes than they
+// need, so that those after them stay as they were.
 fn put_sheet(words: &[u32], out: &mut [u8]) -> Answer
     requires { ⌜ length (now words) ≤ recordWords ⌝ }
     ensures { λ r. ⌜ Packed (flat (now (words .entry)) 0) (now (out .entry)) (now (out .exit)) r ⌝ }
@@ -289,7 +290,7 @@ fn put_sheet(words: &[u32], out: &mut [u8]) -> Answer
     if out.len() < size {
         return Answer::Refused(11);
     }
-    put_nodes(words, 0, out, 0);
+    put_nodes(words, 0, &mut out[..size], 0);
     Answer::Written(size)
 }
 
@@ -303,6 +304,17 @@ pub fn pack_sheet(words: &[u32], out: &mut [u8]) -> Answer
     }
 }
 
+// Puts a record: its lead, the consulted entries, the tree.
+fn put_fields(words: &[u32], consulted: u32, tree: usize, out: &mut [u8]) -> usize
+    requires { ⌜ (0 < length (now words)) × (length (now words) ≤ recordWords) × Room 0 (recordRun (now words) consulted tree) (now out) ⌝ }
+    ensures { λ r. ⌜ Spliced (now (out .entry)) (now (out .exit)) 0 (recordRun (now (words .entry)) consulted tree) r ⌝ }
+{
+    let a = bits::put_bits(out, 0, 16, words[0] / policy_model::HALF);
+    let b = bits::put_bits(out, a, 16, words[0]);
+    let c = put_entries(words, 1, consulted, bits::ENTRY_BITS, out, b);
+    put_nodes(words, tree, out, c)
+}
+
 // Packs the words of a record that was checked, with so many consulted entries and a tree that begins at `tree`.
 fn put_record(words: &[u32], consulted: u32, tree: usize, out: &mut [u8]) -> Answer
     requires { ⌜ (0 < length (now words)) × (length (now words) ≤ recordWords) × (consulted < 4096) × (tree ≤ length (now words)) ⌝ }
@@ -312,10 +324,7 @@ fn put_record(words: &[u32], consulted: u32, tree: usize, out: &mut [u8]) -> Ans
     if out.len() < size {
         return Answer::Refused(11);
     }
-    let a = bits::put_bits(out, 0, 16, words[0] / policy_model::HALF);
-    let b = bits::put_bits(out, a, 16, words[0]);
-    let c = put_entries(words, 1, consulted, bits::ENTRY_BITS, out, b);
-    put_nodes(words, tree, out, c);
+    put_fields(words, consulted, tree, &mut out[..size]);
     Answer::Written(size)
 }
 

@@ -1,18 +1,13 @@
 -- `bits::put_bits` meets its contract. Assumes nothing.
-use mathlib.Core.Path.{_≡_}
-use Prim.Native.Nat.{_+_, _-_, _*_, _/_, _%_, _^_, _≤_, _<_}
+use Prim.Native.Nat.{_-_, _/_}
 use native.Mathlib.Omega.{arith}
 use lib.Pow.{pow-pos}
 use lib.ListN.{length, drop, length-take, length-drop}
 use Rattle.bits.specs.WindowLaws.{power}
-use Rattle.bits.specs.SpliceLaws.{held-in-small, window-small, put-done}
+use Rattle.bits.specs.SpliceLaws.{window-small, put-done}
 use borrow.Author.Needs.{needs}
 use Rattle.bits.proofs.put_bits.Statement.{statement}
 use Rattle.bits.proofs.put_bits.Tie as tie
-use Rattle.bits.proofs.put_bits.Reads as reads
-use Rattle.bits.proofs.put_bits.Lts as lts
-use Rattle.bits.proofs.byte_at.Reads as byte-at-reads
-use Rattle.bits.proofs.put_bytes.Reads as put-bytes-reads
 
 cast-skipped : tie.Need-cast-skipped
 cast-skipped c = search needs
@@ -35,35 +30,44 @@ cast-kept c = search needs
 shr-kept : tie.Need-shr-kept
 shr-kept c = search needs
 
+sub-kept-2 : tie.Need-sub-kept-2
+sub-kept-2 c = search needs
+
+cast-kept-2 : tie.Need-cast-kept-2
+cast-kept-2 c = search needs
+
+shl-kept : tie.Need-shl-kept
+shl-kept c = search needs
+
 shl-field : tie.Need-shl-field
 shl-field c = search needs
-
-shl-field-2 : tie.Need-shl-field-2
-shl-field-2 c = search needs
 
 rem-field : tie.Need-rem-field
 rem-field c =
     let w = c .before .before .before .args .width in
     omega (arith, power w (omega (arith, c .before .before .before .pre .0)), pow-pos w)
 
-add-field : tie.Need-add-field
-add-field c =
-    let a = c .before .before .before .args in
-    let pre = c .before .before .before .pre in
-    let b = c .byte-at in
-    omega (arith, held-in-small (a .out .now) (a .at) (a .width) (a .value) (b .result) (b .ensures .0) (b .ensures .1) (pre .0) (pre .1))
+sub-field : tie.Need-sub-field
+sub-field c = search needs
 
-sub-window : tie.Need-sub-window
-sub-window c = search needs
+cast-field : tie.Need-cast-field
+cast-field c = search needs
 
-sub-window-2 : tie.Need-sub-window-2
-sub-window-2 c = search needs
+shl-field-2 : tie.Need-shl-field-2
+shl-field-2 c = search needs
 
 cast-window : tie.Need-cast-window
 cast-window c = search needs
 
-shl-window : tie.Need-shl-window
-shl-window c = search needs
+shr-window : tie.Need-shr-window
+shr-window c = search needs
+
+add-window : tie.Need-add-window
+add-window c =
+    let a = c .before .before .before .args in
+    let pre = c .before .before .before .pre in
+    let b = c .byte-at in
+    omega (arith, window-small (a .out .now) (a .at) (a .width) (a .value) (b .result) (b .ensures .0) (b .ensures .1) (pre .0) (pre .1))
 
 cast-put-bytes : tie.Need-cast-put-bytes
 cast-put-bytes c = search needs
@@ -97,7 +101,7 @@ returns c =
     let a = c .before .before .before .before .before .before .before .args in
     let pre = c .before .before .before .before .before .before .before .pre in
     let b = c .before .before .before .before .byte-at in
-    put-done (a .out .now) (a .at) (a .width) (a .value) (b .result) (b .ensures .0) (b .ensures .1) (pre .0) (pre .1) _ _ (c .before .before .put-bytes .ensures)
+    put-done (a .out .now) (a .at) (a .width) (a .value) (b .result) (b .ensures .0) (b .ensures .1) (pre .0) (pre .1) _ (c .before .before .put-bytes .ensures)
 
 pub put-bits-spec : {M : Type 1} → statement M
 put-bits-spec =
@@ -110,14 +114,17 @@ put-bits-spec =
     sub-kept
     cast-kept
     shr-kept
+    sub-kept-2
+    cast-kept-2
+    shl-kept
     shl-field
-    shl-field-2
     rem-field
-    add-field
-    sub-window
-    sub-window-2
+    sub-field
+    cast-field
+    shl-field-2
     cast-window
-    shl-window
+    shr-window
+    add-window
     cast-put-bytes
     sub-put-bytes
     part-put-bytes-start

@@ -1,14 +1,13 @@
--- `pack::put_record` meets its contract: the lead, the entries, the tree. Assumes nothing.
+-- `pack::put_record` meets its contract. Assumes nothing.
 use mathlib.Core.Path.{sym}
 use mathlib.Core.List.{_++_}
-use Prim.Native.Nat.{_/_}
+use Prim.Native.Nat.{_+_, _*_, _/_}
 use native.Mathlib.Omega.{arith}
-use lib.ListN.{drop, getD}
-use Rattle.bits.specs.Splice.{low}
-use Rattle.bits.specs.SpliceLaws.{then-spliced, same-spliced}
-use Rattle.pack.specs.Flat.{listRun, entryIn, flat, recordRun}
-use Rattle.pack.specs.FlatLaws.{record-parts, length-record}
-use Rattle.pack.specs.Room.{room-start, room-low, room-first, room-next, room-here, same-room}
+use lib.ListN.{drop}
+use lib.Seq.{length-take-le}
+use Rattle.pack.specs.Flat.{recordRun}
+use Rattle.pack.specs.FlatLaws.{length-record}
+use Rattle.pack.specs.Room.{room-start}
 use Rattle.pack.proofs.Whole.{narrow-known, packed-no-room, packed-done}
 use borrow.Author.Needs.{needs}
 use Rattle.pack.proofs.put_record.Statement.{statement}
@@ -34,114 +33,35 @@ add-size-3 c = search needs
 
 returns : tie.Need-returns
 returns c =
-    let start = c .before .before .before .before in
-    let ws = start .args .words .now in
-    let n = start .args .consulted in
-    let at = start .args .tree in
-    let w = getD ws 0 0 in
-    let t3 = flat (drop at ws) 0 in
-    let t2 = listRun (entryIn (drop 1 ws)) 12 n ++ t3 in
-    let t1 = low 16 w ++ t2 in
-    let long = length-record ws n at in
-    let m = c .before .measure .ensures in
-    packed-no-room _ _ (omega (arith, long, m .0, c .if1 .taken))
+    let a = c .before .before .before .before .args in
+    let long = length-record (a .words .now) (a .consulted) (a .tree) in
+    packed-no-room _ _ (omega (arith, long, c .before .measure .ensures .0, c .if1 .taken))
 
-shared-slice-read-put-bits : tie.Need-shared-slice-read-put-bits
-shared-slice-read-put-bits c = search needs
+slice-relend-prefix-put-fields : tie.Need-slice-relend-prefix-put-fields
+slice-relend-prefix-put-fields c = search needs
 
-put-bits-requires : tie.Need-put-bits-requires
-put-bits-requires c κs =
-    let start = c .before .before .before .before .before .before in
-    let ws = start .args .words .now in
-    let n = start .args .consulted in
-    let at = start .args .tree in
-    let w = getD ws 0 0 in
-    let t3 = flat (drop at ws) 0 in
-    let t2 = listRun (entryIn (drop 1 ws)) 12 n ++ t3 in
-    let t1 = low 16 w ++ t2 in
-    let long = length-record ws n at in
-    let m = c .before .before .before .measure .ensures in
-    let r0 = same-room (record-parts ws n at) (room-start (recordRun ws n at) (start .args .out .now) (omega (arith, long, m .0, c .before .before .if1 .left)) (omega (arith, long, m .0, m .1, start .pre .2))) in
-    room-low 16 (w / 65536) 0 t1 _ (omega arith) r0
+slice-aggregate-put-fields : tie.Need-slice-aggregate-put-fields
+slice-aggregate-put-fields c = sym (length-take-le _ (c .before .before .before .before .before .args .out .now) (omega (arith, c .before .if1 .left)))
 
-shared-slice-read-put-bits-2 : tie.Need-shared-slice-read-put-bits-2
-shared-slice-read-put-bits-2 c = search needs
-
-put-bits-requires-2 : tie.Need-put-bits-requires-2
-put-bits-requires-2 c κs =
-    let start = c .before .before .before .before .before .before .before .before .before .before .before in
-    let ws = start .args .words .now in
-    let n = start .args .consulted in
-    let at = start .args .tree in
-    let w = getD ws 0 0 in
-    let t3 = flat (drop at ws) 0 in
-    let t2 = listRun (entryIn (drop 1 ws)) 12 n ++ t3 in
-    let t1 = low 16 w ++ t2 in
-    let long = length-record ws n at in
-    let m = c .before .before .before .before .before .before .before .before .measure .ensures in
-    let r0 = same-room (record-parts ws n at) (room-start (recordRun ws n at) (start .args .out .now) (omega (arith, long, m .0, c .before .before .before .before .before .before .before .if1 .left)) (omega (arith, long, m .0, m .1, start .pre .2))) in
-    let r1 = room-next (c .before .before .before .before .put-bits .ensures) t1 r0 in
-    room-low 16 w _ t2 _ (omega arith) r1
-
-put-entries-requires : tie.Need-put-entries-requires
-put-entries-requires c κs =
-    let start = c .before .before .before .before .before .before .before .before .before .before .before .before .before .before .before in
-    let ws = start .args .words .now in
-    let n = start .args .consulted in
-    let at = start .args .tree in
-    let w = getD ws 0 0 in
-    let t3 = flat (drop at ws) 0 in
-    let t2 = listRun (entryIn (drop 1 ws)) 12 n ++ t3 in
-    let t1 = low 16 w ++ t2 in
-    let long = length-record ws n at in
-    let m = c .before .before .before .before .before .before .before .before .before .before .before .before .measure .ensures in
-    let r0 = same-room (record-parts ws n at) (room-start (recordRun ws n at) (start .args .out .now) (omega (arith, long, m .0, c .before .before .before .before .before .before .before .before .before .before .before .if1 .left)) (omega (arith, long, m .0, m .1, start .pre .2))) in
-    let r1 = room-next (c .before .before .before .before .before .before .before .before .put-bits .ensures) t1 r0 in
-    let r2 = room-next (c .before .before .before .put-bits2 .ensures) t2 r1 in
-    (omega arith, omega arith, room-first _ (listRun (entryIn (drop 1 ws)) 12 n) t3 _ r2)
-
-put-nodes-requires : tie.Need-put-nodes-requires
-put-nodes-requires c κs =
-    let start = c .before .before .before .before .before .before .before .before .before .before .before .before .before .before .before .before .before .before .before in
-    let ws = start .args .words .now in
-    let n = start .args .consulted in
-    let at = start .args .tree in
-    let w = getD ws 0 0 in
-    let t3 = flat (drop at ws) 0 in
-    let t2 = listRun (entryIn (drop 1 ws)) 12 n ++ t3 in
-    let t1 = low 16 w ++ t2 in
-    let long = length-record ws n at in
-    let m = c .before .before .before .before .before .before .before .before .before .before .before .before .before .before .before .before .measure .ensures in
-    let r0 = same-room (record-parts ws n at) (room-start (recordRun ws n at) (start .args .out .now) (omega (arith, long, m .0, c .before .before .before .before .before .before .before .before .before .before .before .before .before .before .before .if1 .left)) (omega (arith, long, m .0, m .1, start .pre .2))) in
-    let r1 = room-next (c .before .before .before .before .before .before .before .before .before .before .before .before .put-bits .ensures) t1 r0 in
-    let r2 = room-next (c .before .before .before .before .before .before .before .put-bits2 .ensures) t2 r1 in
-    let r3 = room-next (c .before .before .before .put-entries .ensures) t3 r2 in
-    (start .pre .1, r3)
+put-fields-requires : tie.Need-put-fields-requires
+put-fields-requires c κs =
+    let start = c .before .before .before .before .before in
+    let a = start .args in
+    let m = c .before .before .measure in
+    let bits = length-record (a .words .now) (a .consulted) (a .tree) in
+    let long = length-take-le ((32 + 12 * a .consulted + m .result + 7) / 8) (a .out .now) (omega (arith, c .before .if1 .left)) in
+    (start .pre .0, start .pre .1, room-start _ _ (omega (arith, m .ensures .0)) (omega (arith, m .ensures .0, m .ensures .1, start .pre .2)))
 
 same-length : tie.Need-same-length
 same-length c = search needs
 
 returns-2 : tie.Need-returns-2
 returns-2 c =
-    let start = c .before .before .before .before .before .before .before .before .before .before .before .before .before .before .before .before .before .before .before .before .before .before in
-    let ws = start .args .words .now in
-    let n = start .args .consulted in
-    let at = start .args .tree in
-    let w = getD ws 0 0 in
-    let t3 = flat (drop at ws) 0 in
-    let t2 = listRun (entryIn (drop 1 ws)) 12 n ++ t3 in
-    let t1 = low 16 w ++ t2 in
-    let long = length-record ws n at in
-    let m = c .before .before .before .before .before .before .before .before .before .before .before .before .before .before .before .before .before .before .before .measure .ensures in
-    let r0 = same-room (record-parts ws n at) (room-start (recordRun ws n at) (start .args .out .now) (omega (arith, long, m .0, c .before .before .before .before .before .before .before .before .before .before .before .before .before .before .before .before .before .before .if1 .left)) (omega (arith, long, m .0, m .1, start .pre .2))) in
-    let r1 = room-next (c .before .before .before .before .before .before .before .before .before .before .before .before .before .before .before .put-bits .ensures) t1 r0 in
-    let r2 = room-next (c .before .before .before .before .before .before .before .before .before .before .put-bits2 .ensures) t2 r1 in
-    let r3 = room-next (c .before .before .before .before .before .before .put-entries .ensures) t3 r2 in
-    let all = then-spliced (c .before .before .before .before .before .before .before .before .before .before .before .before .before .before .before .put-bits .ensures) (then-spliced (c .before .before .before .before .before .before .before .before .before .before .put-bits2 .ensures) (then-spliced (c .before .before .before .before .before .before .put-entries .ensures) (c .before .before .put-nodes .ensures) (room-here r2)) (room-here r1)) (room-here r0) in
-    let out = start .args .out .now in
-    let after = c .before .before .put-nodes .last .1 .1 .0 in
-    packed-done (recordRun ws n at) out after _ _ (narrow-known out (λ i. omega (arith, c .before .before .before .before .before .before .before .before .before .before .before .before .before .before .before .before .before .before .before .before .slice-known .given i))) (narrow-known after (λ i. omega (arith, c .slice-known5 .given i)))
-    (omega (arith, long, m .0)) (omega (arith, c .before .before .before .before .before .before .before .before .before .before .before .before .before .before .before .before .before .before .if1 .left)) (same-spliced (sym (record-parts ws n at)) all)
+    let a = c .before .before .before .before .before .before .before .before .args in
+    let size = (32 + 12 * a .consulted + c .before .before .before .before .before .measure .result + 7) / 8 in
+    let part = c .before .before .put-fields .last .1 .1 .1 .0 in
+    let long = length-record (a .words .now) (a .consulted) (a .tree) in
+    packed-done (recordRun (a .words .now) (a .consulted) (a .tree)) (a .out .now) part size _ (narrow-known (part ++ drop size (a .out .now)) (λ i. omega (arith, c .slice-known2 .given i))) (omega (arith, long, c .before .before .before .before .before .measure .ensures .0)) (omega (arith, c .before .before .before .before .if1 .left)) (c .before .before .put-fields .ensures)
 
 pub put-record-spec : {M : Type 1} → statement M
 put-record-spec =
@@ -154,11 +74,8 @@ put-record-spec =
     add-size-2
     add-size-3
     returns
-    shared-slice-read-put-bits
-    put-bits-requires
-    shared-slice-read-put-bits-2
-    put-bits-requires-2
-    put-entries-requires
-    put-nodes-requires
+    slice-relend-prefix-put-fields
+    slice-aggregate-put-fields
+    put-fields-requires
     same-length
     returns-2)

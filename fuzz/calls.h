@@ -27,8 +27,13 @@ enum call {
 };
 
 // An input of the fuzzer may be a join too, whose first table stands where a table does and its second where words do; windows, whose dates stand before
-// their words; words that are packed; or a tight form, whose bytes stand where words do.
-enum { JOIN_TABLES = CALLS, APPLY_WINDOWS, PACK_SHEET, PACK_RECORD, UNPACK_SHEET, UNPACK_RECORD, INPUTS };
+// their words; words that are packed; a tight form, whose bytes stand where words do; or a batch, whose requests stand where a table does, eight bytes
+// each (group, day, a code of the length, five bytes of the table), its register and sheets where words do, after a word that says how many are the register's,
+// and its allowance in the place of a sheet's number.
+enum { JOIN_TABLES = CALLS, APPLY_WINDOWS, PACK_SHEET, PACK_RECORD, UNPACK_SHEET, UNPACK_RECORD, EVALUATE_BATCH, INPUTS };
+
+// Bytes of a request in an input.
+enum { REQUEST_BYTES = 8 };
 
 #define SO(claim) ((claim) ? (void)0 : not_so(#claim, __FILE__, __LINE__))
 

@@ -1,8 +1,9 @@
 // The fuzzer's harness over the C interface. An input is a call, a room and a table's length, 16 bits each, a sheet's number, 32 bits, the table and the
-// words, a second table or a tight form, all most significant byte first; the numbers after the last call's are those of joins, windows, packing and unpacking,
-// and a bit of its own those of calls by an outcome table, which stands in front of the table. Every claim holds of every input; one that doesn't ends the run.
+// words, a second table or a tight form, all most significant byte first; the numbers after the last call's are those of joins, windows, packing, unpacking and
+// batches, and a bit of its own those of calls by an outcome table, which stands in front of the table. Every claim holds of every input; one that doesn't ends the run.
 #include <stdio.h>
 
+#include "batch.h"
 #include "calls.h"
 #include "tight.h"
 #include "windows.h"
@@ -560,18 +561,75 @@ static void hold_unpack(enum form form, const uint8_t *bytes, size_t count, size
     free(out);
 }
 
+// ---- batches
+
+// The comparison's desk, where it is linked.
+__attribute__((weak)) uint64_t judge_batch(const struct outcomes *by, const uint32_t *entries, size_t entry_words, const uint32_t *sheets, size_t sheet_words,
+                                           const uint32_t *requests, size_t request_words, uint32_t allowance, uint64_t *replies, size_t places, uint32_t *out,
+                                           size_t room);
+
+// The requests of an input, as 66 words each; bytes that are no whole one are words of a partial one.
+static void requests_in(const struct given *given, struct batch *batch) {
+    size_t count = given->bytes / REQUEST_BYTES, more = given->bytes % REQUEST_BYTES;
+    batch->request_words = VIERSKOF_REQUEST_WORDS * count + more;
+    batch->requests = block(batch->request_words * sizeof *batch->requests);
+    memset(batch->requests, 0, batch->request_words * sizeof *batch->requests);
+    for (size_t i = 0; i < count; i++) {
+        static const uint32_t lengths[] = {255, 256, 257, 0xFFFFFF};
+        const uint8_t *from = given->table + REQUEST_BYTES * i;
+        uint32_t *request = batch->requests + VIERSKOF_REQUEST_WORDS * i, length = from[2] < 252 ? from[2] : lengths[from[2] - 252];
+        request[0] = (uint32_t)from[0] << 24 | length;
+        request[1] = from[1];
+        request[2] = number_at(from + 3, 4);
+        request[3] = (uint32_t)from[7] << 24;
+    }
+}
+
+// The claims of every batch; and the desk has the same replies and records.
+static void hold_batch(const struct given *given) {
+    size_t told_words = given->count ? given->words[0] & 0x3FF : 0, left = given->count ? given->count - 1 : 0;
+    size_t entry_words = told_words < left ? told_words : left;
+    struct batch batch = {given->by, given->words + (given->count ? 1 : 0), entry_words, NULL, left - entry_words, NULL, 0, given->number & 0x1FFFF, 0, given->room};
+    batch.sheets = batch.entries + entry_words;
+    requests_in(given, &batch);
+    // One place too few, just enough, or some more.
+    size_t count = batch.request_words / VIERSKOF_REQUEST_WORDS, more = given->number >> 17 & 7;
+    batch.places = more == 7 && count ? count - 1 : count + more % 3;
+    uint64_t *replies;
+    uint32_t *out;
+    uint64_t told = batch_holds(&batch, as_it_is, as_it_is, &replies, &out);
+    if (judge_batch) {
+        uint64_t *due = before(batch.places * sizeof *due, as_it_is);
+        uint32_t *expected = before(batch.room * sizeof *expected, as_it_is);
+        HOLDS(judge_batch(batch.by, batch.entries, batch.entry_words, batch.sheets, batch.sheet_words, batch.requests, batch.request_words, batch.allowance, due,
+                          batch.places, expected, batch.room) == told);
+        HOLDS(same(due, replies, batch.places * sizeof *due));
+        HOLDS(same(expected, out, batch.room * sizeof *expected));
+        free(due);
+        free(expected);
+    }
+    free(replies);
+    free(out);
+    free(batch.requests);
+}
+
 int LLVMFuzzerTestOneInput(const uint8_t *data, size_t size) {
     if (size < LEAD) return 0;
     size_t bytes = table_bytes(data, size), words = LEAD + bytes;
     uint32_t number = number_at(data, 2), input = number % INPUTS;
     if (number & BY_LEVELS) {
         enum call which = writes(number % BY_LEVELS) ? number % BY_LEVELS : EVALUATE;
+        int batch = number % BY_LEVELS == EVALUATE_BATCH;
         struct given given = {which, NULL, (size - words) / 4, number_at(data + SHEET_AT, 4), NULL, bytes, number_at(data + 2, 2), NULL};
         given.table = copy(data + LEAD, bytes);
         given.words = words_at(data + words, given.count);
         struct outcomes by = outcomes_in(&given);
         given.by = &by;
-        hold(given);
+        if (batch) {
+            hold_batch(&given);
+        } else {
+            hold(given);
+        }
         free(by.table);
         free(given.table);
         free(given.words);
@@ -590,6 +648,8 @@ int LLVMFuzzerTestOneInput(const uint8_t *data, size_t size) {
     given.words = words_at(data + words, given.count);
     if (input == APPLY_WINDOWS) {
         windows_hold(given.words, given.count, given.table, given.bytes, given.room, as_it_is, as_it_is);
+    } else if (input == EVALUATE_BATCH) {
+        hold_batch(&given);
     } else if (input == PACK_SHEET || input == PACK_RECORD) {
         hold_pack(input == PACK_SHEET ? SHEET_FORM : RECORD_FORM, given.words, given.count, given.room);
     } else {

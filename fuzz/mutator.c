@@ -384,10 +384,79 @@ static void change_by_levels(struct input *input, size_t bytes, size_t words, si
     }
 }
 
+// A word of some sheet of a list, whose count then goes along.
+static void change_sheet(struct input *input, size_t list) {
+    size_t lead = 0, seen = 0;
+    for (size_t at = list; at + 4 <= input->size; at += 4 + 4 * number_at(input->data + at + 2, 2))
+        if (draw(input, (uint32_t)++seen) == 0) lead = at;
+    if (!lead) return;
+    size_t count = number_at(input->data + lead + 2, 2), left = (input->size - lead) / 4 - 1, size = input->size;
+    if (count > left) count = left;
+    if (count) change_word(input, lead + 4 + 4 * draw(input, (uint32_t)count), 1);
+    put(input->data + lead + 2, (uint32_t)(count + input->size / 4 - size / 4), 2);
+}
+
+// A batch, whose requests are so many bytes at `at`: another request, or a field of one, another allowance or room, an entry more, a sheet more, or a word of
+// one. Groups, days and numbers are few, so that most sheets are in force.
+static void change_batch(struct input *input, size_t at, size_t bytes, size_t words, size_t count) {
+    if (count == 0) {
+        insert(input, words, 0);
+        return;
+    }
+    uint32_t entries = number_at(input->data + words, 4) & 0x3FF;
+    size_t list = words + 4 + 4 * (entries < count ? entries : count - 1);
+    switch (draw(input, 14)) {
+    case 0:
+        if (gap(input, at + bytes, REQUEST_BYTES)) put(input->data + 4, number_at(input->data + 4, 2) + REQUEST_BYTES, 2);
+        break;
+    case 1:
+        if (bytes) {
+            cut(input, at + bytes - 1, 1);
+            put(input->data + 4, number_at(input->data + 4, 2) - 1, 2);
+        }
+        break;
+    case 2:
+    case 3:
+    case 4:
+        if (bytes >= REQUEST_BYTES) {
+            uint8_t *request = input->data + at + REQUEST_BYTES * draw(input, (uint32_t)bytes / REQUEST_BYTES);
+            switch (draw(input, 5)) {
+            case 0: request[0] = (uint8_t)draw(input, 4); break;
+            case 1: request[1] = (uint8_t)draw(input, 3); break;
+            case 2: request[2] = (uint8_t)(draw(input, 4) ? draw(input, 6) : 252 + draw(input, 4)); break;
+            default: {
+                uint8_t *byte = request + 3 + draw(input, 5);
+                uint32_t shift = 2 * draw(input, 4);
+                *byte = (uint8_t)((*byte & ~(3U << shift)) | draw(input, draw(input, 8) ? 2 : 4) << shift);
+            }
+            }
+        }
+        break;
+    case 5:
+    case 6: put(input->data + SHEET_AT, draw(input, 8) ? draw(input, draw(input, 2) ? 12 : 200) : draw(input, 8) << 17 | draw(input, 0x20000), 4); break;
+    case 7: put(input->data + 2, draw(input, draw(input, 2) ? 16 : 400), 2); break;
+    case 8:
+        insert(input, words + 4, draw(input, 3));
+        insert(input, words + 4, draw(input, 4) << 24 | (draw(input, 8) ? 0 : 1U << 23) | draw(input, 4));
+        put(input->data + words, entries + (draw(input, 16) ? 2 : 1), 4);
+        break;
+    case 9:
+        insert(input, list, policy(input));
+        insert(input, list, draw(input, 4) << 16 | (draw(input, 16) ? 1 : draw(input, 3)));
+        break;
+    default: change_sheet(input, list);
+    }
+}
+
 size_t LLVMFuzzerCustomMutator(uint8_t *data, size_t size, size_t max, unsigned seed) {
     struct input input = {data, size, max, seed};
     if (size < LEAD || draw(&input, 4) == 0) return LLVMFuzzerMutate(data, size, max);
     size_t bytes = table_bytes(data, size), words = LEAD + bytes, count = (size - words) / 4;
+    size_t outcomes = LEVELS_LEAD + (bytes < LEVELS_LEAD ? 0 : number_at(data + LEAD + 4, 2));
+    if (number_at(data, 2) == (BY_LEVELS | EVALUATE_BATCH) && outcomes <= bytes && draw(&input, 4)) {
+        change_batch(&input, LEAD + outcomes, bytes - outcomes, words, count);
+        return input.size;
+    }
     if (number_at(data, 2) & BY_LEVELS) {
         change_by_levels(&input, bytes, words, count);
         return input.size;
@@ -395,6 +464,10 @@ size_t LLVMFuzzerCustomMutator(uint8_t *data, size_t size, size_t max, unsigned 
     uint32_t number = number_at(data, 2) % INPUTS, change = draw(&input, 8);
     if (number == APPLY_WINDOWS && change) {
         change_windows(&input, words, bytes, count);
+        return input.size;
+    }
+    if (number == EVALUATE_BATCH && change) {
+        change_batch(&input, LEAD, bytes, words, count);
         return input.size;
     }
     if (number == SHEET_IN_FORCE && change) {

@@ -1,7 +1,8 @@
-// Replays files of stored answers on the C interface, packs and unpacks the words of some, and says how many calls were made. Under valgrind's memcheck the output of each call is
+// Replays files of stored answers on the C interface, packs and unpacks the words of some, decides some in batches, and says how many calls were made. Under valgrind's memcheck the output of each call is
 // undefined beforehand, so that a call that reads it, or leaves a word of its record unwritten, is seen.
 #include <valgrind/memcheck.h>
 
+#include "batch.h"
 #include "stored.h"
 #include "tight.h"
 #include "windows.h"
@@ -118,6 +119,44 @@ static void tight(const struct given *given, uint64_t *seed) {
     free(out);
 }
 
+// ---- batches
+
+// How many batches were run, and how many of their requests were decided and refused.
+static size_t batches, replies_met[2];
+
+// The sheet of a stored evaluation, with its number and before another one of that number, and its table in up to three requests, one perhaps of a group
+// without a sheet. Allowance and room are drawn around what three evaluations take.
+static void batch(const struct stored *stored, uint64_t *seed) {
+    const struct given *given = &stored->given;
+    uint32_t number = given->number & 0xFFFF, entry[] = {1U << 24 | number, 5};
+    size_t count = draw(seed, 4), taken = given->bytes < VIERSKOF_TABLE_BYTES ? given->bytes : VIERSKOF_TABLE_BYTES;
+    struct batch batch = {given->by, entry, 2, NULL, given->count + 3, NULL, VIERSKOF_REQUEST_WORDS * count, draw(seed, 3) ? draw(seed, 60) : VIERSKOF_ALLOWANCE, 0, 0};
+    batch.sheets = block(batch.sheet_words * sizeof *batch.sheets);
+    batch.sheets[0] = number << 16 | (uint32_t)given->count;
+    if (given->count) memcpy(batch.sheets + 1, given->words, given->count * sizeof *batch.sheets);
+    batch.sheets[given->count + 1] = number << 16 | 1;
+    batch.sheets[given->count + 2] = 0x70000000;
+    batch.requests = block(batch.request_words * sizeof *batch.requests);
+    memset(batch.requests, 0, batch.request_words * sizeof *batch.requests);
+    for (size_t i = 0; i < count; i++) {
+        uint32_t *request = batch.requests + VIERSKOF_REQUEST_WORDS * i;
+        request[0] = (draw(seed, 8) ? 1U : 2U) << 24 | (uint32_t)given->bytes;
+        request[1] = 4 + draw(seed, 8);
+        for (size_t k = 0; k < taken; k++) request[2 + k / 4] |= (uint32_t)given->table[k] << (24 - 8 * (k % 4));
+    }
+    batch.places = count + draw(seed, 2);
+    batch.room = draw(seed, 3 * (uint32_t)stored->answered + 3);
+    uint64_t *replies;
+    uint32_t *out;
+    if (vierskof_refusal(batch_holds(&batch, unset, left_unset, &replies, &out)) == 0)
+        for (size_t i = 0; i < count; i++) replies_met[vierskof_refusal(replies[i]) != 0] += replies[i] != 0;
+    batches++;
+    free(replies);
+    free(out);
+    free(batch.sheets);
+    free(batch.requests);
+}
+
 // Lists, dates and tables of which about half are accepted, and how many calls these are.
 static size_t windows(void) {
     uint64_t seed = 1;
@@ -157,11 +196,13 @@ int main(int files, char **names) {
                 return 1;
             }
             if (stored.given.call != SHEET_IN_FORCE && place % PACKED == 0) tight(&stored.given, &seed);
+            if (stored.given.call == EVALUATE && stored.given.count <= VIERSKOF_SHEET_WORDS + 1) batch(&stored, &seed);
             drop_stored(&stored);
         }
         free(file.bytes);
     }
     SO(files < 2 || (unpackings[0] > 100 && unpackings[1] > 100));
-    printf("%zu calls and %zu tight forms", calls, unpackings[0] + unpackings[1]);
+    SO(files < 2 || (replies_met[0] > 50 && replies_met[1] > 50));
+    printf("%zu calls, %zu tight forms and %zu batches", calls, unpackings[0] + unpackings[1], batches);
     return calls ? 0 : 2;
 }

@@ -80,8 +80,37 @@ static void write_levels(const char *folder) {
     }
 }
 
+// Batches: three requests by a grant, an Any and an All, with an allowance that the second exceeds; by sets of products, and by four levels.
+static void write_batches(const char *folder) {
+    static const uint8_t levels[] = {0, 0, 0, 4, 0, 32, 0, 0, 0, 0, 0, 1, 1, 1, 0, 1, 2, 2, 0, 1, 2, 3, 0, 1, 2, 3, 1, 1, 2, 3, 2, 2, 2, 3, 3, 3, 3, 3};
+    static const uint8_t requests[] = {1, 2, 2, 0x00, 0x10, 0, 0, 0, 2, 2, 1, 0x10, 0, 0, 0, 0, 3, 2, 0, 0, 0, 0, 0, 0};
+    static const uint32_t list[] = {6,          0x01000001, 0,          0x02000002, 0,          0x03000003, 0,          0x00010003, 0x88000003, 0,          0x20000005, 0x00020009,
+                                    0xA0000002, 0x80000001, 0,          0x50000002, 0x20000000, 0x20000001, 0x80000002, 0,          0x20000002, 0x00030004, 0x90000003, 0x60000001,
+                                    0x70000000, 0x60000002};
+    for (size_t i = 0; i < 2; i++) {
+        char name[4096];
+        size_t outcomes = i ? sizeof levels : 0, bytes = outcomes + sizeof requests;
+        uint8_t input[LEAD + sizeof levels + sizeof requests + sizeof list] = {0, (uint8_t)((i ? BY_LEVELS : 0) | EVALUATE_BATCH), 0, 16, 0, (uint8_t)bytes, 0, 0, 0, 5};
+        memcpy(input + LEAD, levels, outcomes);
+        memcpy(input + LEAD + outcomes, requests, sizeof requests);
+        uint8_t *at = input + LEAD + bytes;
+        for (size_t k = 0; k < sizeof list / sizeof *list; k++, at += 4) {
+            uint32_t word = list[k];
+            for (size_t byte = 4; byte-- > 0; word >>= 8) at[byte] = (uint8_t)word;
+        }
+        snprintf(name, sizeof name, "%s/batch-%zu", folder, i);
+        FILE *to = fopen(name, "wb");
+        size_t size = (size_t)(at - input);
+        if (!to || fwrite(input, 1, size, to) != size || fclose(to)) {
+            perror(name);
+            exit(2);
+        }
+    }
+}
+
 int main(int words, char **word) {
     if (words != 3) return 2;
+    write_batches(word[2]);
     write_windows(word[2]);
     write_tight(word[2]);
     write_levels(word[2]);

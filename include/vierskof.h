@@ -44,6 +44,9 @@ enum {
     VIERSKOF_SET_NUMBERS = 16,     /* a set of facts, fact 0 the top bit of the first number */
     VIERSKOF_REGISTER_WORDS = 512, /* the longest register of sheets, two words an entry */
     VIERSKOF_NO_SHEET = 65536,     /* in the place of a sheet's number: none */
+    VIERSKOF_REQUEST_WORDS = 66,   /* a request of a batch */
+    VIERSKOF_BATCH_REQUESTS = 64,  /* the most requests of a batch */
+    VIERSKOF_ALLOWANCE = 65535,    /* the greatest allowance of a batch */
     VIERSKOF_OUTCOME_LEVELS = 16,  /* the most levels of an outcome table */
     VIERSKOF_WINDOWS = 32,         /* the most windows of a list */
     VIERSKOF_TIGHT_BYTES = 65536   /* the most bytes that are unpacked */
@@ -59,25 +62,28 @@ enum {
    then 5 to 8 from the first word on, then 10, then 16, then 17, then 11. 9 is not used. A register has 15 alone. A join has an order of
    its own: 2 in either table, 3 in either, 14, then 11; for windows it is 12, 13, 3, 11. Packing has 1, then 5 to 8 from the
    first word on, then 10, then 11. Unpacking has 1; then field by field 19 if the bits end before it is complete, 5 or 8 for
-   its value and, right after a kind, 7; then 20; then 11. Later versions may have further numbers. */
+   its value and, right after a kind, 7; then 20; then 11. A batch has 21, 1, 15, 6, 11; a request of it is refused as the direct
+   call is, with 18 before 11. Later versions may have further numbers. */
 enum vierskof_cause {
     VIERSKOF_ACCEPTED = 0,
-    VIERSKOF_REFUSED_LENGTH = 1,            /* the sheet or record has no word or too many, or a tight form over 65,536 bytes */
+    VIERSKOF_REFUSED_LENGTH = 1,            /* the sheet or record has no word or too many, or a tight form over 65,536 bytes; a batch
+                                               is over 64 requests or no whole ones, or its allowance is over 65,535 */
     VIERSKOF_REFUSED_TABLE_LENGTH = 2,      /* the fact table has more than 256 bytes */
     VIERSKOF_REFUSED_TABLE_FIELD = 3,       /* a field of the table is 3, which is no presence */
     VIERSKOF_REFUSED_UNKNOWN_FACT = 4,      /* a fact is Unknown, where evaluating or completing needs all */
     VIERSKOF_REFUSED_KIND = 5,              /* a node's kind may not stand where it stands */
-    VIERSKOF_REFUSED_WORDS_END = 6,         /* the words end before the record or tree is complete */
+    VIERSKOF_REFUSED_WORDS_END = 6,         /* the words end before the record or tree, or a batch's list of sheets, is complete */
     VIERSKOF_REFUSED_LEVEL = 7,             /* a node is nested on a 33rd level; an outcome that is no level of a table is 8 */
     VIERSKOF_REFUSED_FIELD = 8,             /* a field holds a number that it may not hold */
     VIERSKOF_REFUSED_WORDS_AFTER_TREE = 10, /* there are words after the tree */
-    VIERSKOF_REFUSED_ROOM = 11,             /* the result has no room in the output, or exceeds a limit */
+    VIERSKOF_REFUSED_ROOM = 11,             /* the result has no room in the output, or exceeds a limit; or replies have too few places */
     VIERSKOF_REFUSED_DATE = 12,             /* a date doesn't exist or lies outside the years 1900 to 2199 */
     VIERSKOF_REFUSED_WINDOWS = 13,          /* the list of windows isn't as it has to be, or its table isn't 256 bytes */
     VIERSKOF_REFUSED_CLASH = 14,            /* a fact is Present in one of two joined tables and Absent in the other */
     VIERSKOF_REFUSED_REGISTER = 15,         /* the words are no register of sheets */
     VIERSKOF_REFUSED_SHEET_NUMBER = 16,     /* the record is of another sheet, or the number is one that no record carries */
     VIERSKOF_REFUSED_CONTRADICTION = 17,    /* a narrowing's table has as Present what the record consulted as Absent, or the reverse */
+    VIERSKOF_REFUSED_ALLOWANCE = 18,        /* a request's evaluation visits more nodes than the allowance has left */
     VIERSKOF_REFUSED_BITS_END = 19,         /* the bits of a tight form end before a field is complete */
     VIERSKOF_REFUSED_FILLER = 20,           /* a tight form's last byte isn't filled with 0 bits, or a byte follows, 0 too */
     VIERSKOF_REFUSED_OUTCOME_TABLE = 21     /* the outcome table is not accepted */
@@ -165,6 +171,42 @@ uint64_t vierskof_carries_obligation(const uint32_t *record, size_t words);
    sheet number, or VIERSKOF_NO_SHEET exactly if there is none. Refused by 15 alone, before any search: an odd count of words or
    over 512, a zero field that isn't 0, or one group and number twice. There is no output. */
 uint64_t vierskof_sheet_in_force(const uint32_t *entries, size_t words, uint32_t group, uint32_t day);
+
+/* Decides a batch of requests, each by the sheet in force and as vierskof_evaluate with that sheet's number does, within an
+   allowance of visited nodes, 0 to 65,535. Value: the words written in all. `entries` is a register, as above. `sheets` are handed
+   over one after the other: number (16), word count (16), and so many words; the first of a number counts, faulty or not, and
+   one that decides nothing is not judged. `requests` are 0 to 64, of 66 words each: group (8), length of the table in bytes (24);
+   day (32); then 64 words of a known table, the most significant byte first, of which bytes past the length are ignored.
+
+   A node counts each time that it is visited: a Grant 1 and its condition's nodes, Not 1 and its arm's, a list 1 and its
+   arms', the All of policies up to and including a deny, the Any of policies every arm, lists of conditions up to the arm that
+   decides, and OrElse's fallback only after a deny. There are never more than the sheet has words.
+
+   Reply i is 0 if no sheet is in force for request i or that sheet isn't in the list, before its table is read; or the number of
+   its refusal times 2^32; or nodes * 65,536 + words written. A request is refused as the direct call is, a length over 256 by 2;
+   then by 18 if it visits more nodes than remain; then by 11 if its record has no room in what is left of the output. Refused, it
+   takes nothing from the allowance and writes nothing, and the later requests are still tried. The records stand one after the
+   other from the start of `out`; later words, and later places of `replies`, are left as they were.
+
+   The batch itself is refused, nothing is decided, and `replies` and `out` are as they were: by 1 for over 64 requests, a partial
+   one or an allowance over 65,535, then by 15 for a faulty register, then by 6 if the list of sheets ends early, then by 11
+   for fewer places than requests. `replies` and `out` overlap no input and not each other. */
+uint64_t vierskof_evaluate_batch(const uint32_t *entries, size_t entry_words, const uint32_t *sheets, size_t sheet_words,
+                                 const uint32_t *requests, size_t request_words, uint32_t allowance,
+                                 uint64_t *VIERSKOF_RESTRICT replies, size_t places,
+                                 uint32_t *VIERSKOF_RESTRICT out, size_t room);
+
+/* The same by an outcome table, one for the whole batch: refused by 21 before all else if it is not accepted. */
+uint64_t vierskof_evaluate_batch_by_levels(uint32_t levels, const uint8_t *outcomes, size_t outcome_bytes,
+                                           const uint32_t *entries, size_t entry_words, const uint32_t *sheets,
+                                           size_t sheet_words, const uint32_t *requests, size_t request_words,
+                                           uint32_t allowance, uint64_t *VIERSKOF_RESTRICT replies, size_t places,
+                                           uint32_t *VIERSKOF_RESTRICT out, size_t room);
+
+/* Of a reply, which vierskof_refusal reads as well: the nodes that were visited, and the words of the record; 0 where it isn't
+   decided. */
+static inline uint32_t vierskof_reply_nodes(uint64_t reply) { return vierskof_value(reply) >> 16; }
+static inline uint32_t vierskof_reply_words(uint64_t reply) { return vierskof_value(reply) & 0xFFFF; }
 
 /* Joins two tables, which may leave facts open: Unknown yields to the other table's reading, equal readings stay, and Present
    against Absent is refused. Past its end a table reads Absent. Value: the bytes written, as many as the longer table has.

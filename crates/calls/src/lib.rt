@@ -63,7 +63,7 @@ fn check_record(words: &[u32], number: u32, outcome_levels: u16) -> RecordCheck
 }
 
 // Whether a sheet and its table are turned back: by the length, the table, the words, the number.
-fn judge_sheet(
+pub fn judge_sheet(
     sheet: &[u32],
     number: u32,
     facts: &[u8],
@@ -108,7 +108,7 @@ fn judge_record(
 
 // Decides a sheet that was judged: a tree at 0 with nothing consulted before it. The two tiers have two callers each, so that no call has the frames of
 // both: every page of a frame is touched when it is entered.
-fn decide(
+pub fn decide(
     sheet: &[u32],
     facts: &[u8],
     outcome_levels: u16,

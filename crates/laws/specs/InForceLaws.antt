@@ -173,7 +173,8 @@ module _ (group day : ℕ) where
       one-sheet fs (inForce group day es) (inForce group day fs) (more es fs (inForce group day es) (h .to) (λ e i q. self es e (h .from e i) q) (in-force es)) (in-force fs)
 
 -- ---- what the call's answer tells
-below : (ws : List ℕ) (e : Entry) → IsIn e (entriesOf ws) → e .number < 2 ^ sheetBits
+-- An entry's number is one that a record can carry.
+pub below : (ws : List ℕ) (e : Entry) → IsIn e (entriesOf ws) → e .number < 2 ^ sheetBits
 below [] e i = absurd i
 below (w ∷ []) e i = absurd i
 below (w ∷ d ∷ ws) e (inl k) = omega (arith, ap (λ x. x .number) k)

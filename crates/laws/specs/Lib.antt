@@ -42,3 +42,6 @@ pub mod TightRead
 pub mod TightRecords
 pub mod TightTrips
 pub mod TightNumbers
+pub mod VisitLaws
+pub mod Replies
+pub mod BatchLaws

@@ -1,12 +1,13 @@
 -- Every refusal has a number of document 01's table, "How a request is turned back": 1 to 11, but for 9, which no longer occurs; or 16, for a sheet's number,
--- and from a narrowing alone 17, for a contradicted entry; and where a table is given 21. So 0 can say that a call was accepted. Assumes nothing.
+-- from a narrowing alone 17, for a contradicted entry, and from a batch's request 18, for its nodes, but no 16; and where a table is given 21. So 0 can say that a call was accepted. Assumes nothing.
 use mathlib.Core.Path.{_≡_, refl}
 use mathlib.Core.Logic.{_⊎_, inl, inr}
 use mathlib.Core.Bool.{Bool, true, false, cond, _&&_}
 use mathlib.Core.Option.{Option, none, some}
 use mathlib.Core.List.{List, [], _∷_}
-use Prim.Native.Nat.{ℕ, zero, suc, _+_, _-_, _/_, _%_, _^_, _≤_}
+use Prim.Native.Nat.{ℕ, zero, suc, _+_, _-_, _/_, _%_, _^_, _≤_, _<_}
 use native.Mathlib.Omega.{arith}
+use borrow.Author.Tests.{lt-ltb}
 use lib.Dec.{eqb, ltb, leb}
 use lib.ListN.{length}
 use Rattle.model.specs.Fields.{bits, split, perWord}
@@ -18,10 +19,12 @@ use Rattle.model.specs.Policy.{Policy, deny, grant, all, any, orElse, permit, s
 use Rattle.model.specs.Partial.{ReducedPolicy, resolved, pending, Order}
 use Rattle.model.specs.Consulted.{Consulted, anyContradicted}
 use Rattle.model.specs.Record.{Record, evaluated, reduced, narrowed, completed}
-use Rattle.model.specs.Writing.{encodeR, countBits, markBits, obligationBits, entryBits, seenIn}
+use Rattle.model.specs.Writing.{encodeR, sheetBits, countBits, markBits, obligationBits, entryBits, seenIn}
 use Rattle.model.specs.Reading.{Parsed, refuse, got, next, unless, another, Fields, bad, ok, put, takeField, takeFields, readWords, readList, obligation, fewObligations, listed, consulted, kindOf, restOf, plain, counted, many, nodeC, readCondition, levels, sheetLength, recordLength, whole, mark, shapeOf, outcomeOf, deniedOf, grantMore, parseGrant, grantAt, more12, parse12, at12, more13, parse13, at13, asStored, inResidual, nodeP, lastKind, readPolicy, readSheet, node14, parse14, parse15, rest, leads, readLead, readRecord, obligationCount, presenceCount}
 use Rattle.model.specs.Calls.{Answer, refusal, wrote, unlessLong, unlessFault, onRead, unlessOther, hasNumber, isSheetNumber, under, fits, write, evaluate, partialEvaluate, narrowResidual, completeResidual, unlessContradicted}
 use Rattle.model.specs.Levels.{OutcomeTable, outcomesOf, acceptable, byTable}
+use Rattle.model.specs.Visits.{visits}
+use Rattle.model.specs.Batch.{unlessOver, evaluateWithin}
 
 -- A number of the table. There is no 9: obligations may repeat.
 abbrev pub Cause : ℕ → Type 0
@@ -423,6 +426,22 @@ module _ (L : Outcomes) (number : ℕ) where
       long-told OtherNumber (recordLength rec) _ (fault-told OtherNumber (tableFault knownFacts facts) _ (table-faulty knownFacts facts)
       (read-told OtherNumber (readRecord (L .value) rec) _ (record-numbered (L .value) rec)
       (λ r. other-told OtherNumber (hasNumber rec number) _ refl (write-told OtherNumber L number room (completed L (tableOf facts) r)))))
+
+-- A request of a batch may tell 18, for nodes beyond what remains; of a sheet's number that a record can carry it never tells 16.
+abbrev pub Unaffordable : ℕ → Type 0
+Unaffordable n = n ≡ 18
+
+over-told : (b : Bool) (a : Answer) → Told Unaffordable a → Told Unaffordable (unlessOver b a)
+over-told true a h = h
+over-told false a h = inr refl
+
+module _ (L : Outcomes) (left number : ℕ) (sheet facts : List ℕ) (room : ℕ) where
+  pub within-told : number < 2 ^ sheetBits → Told Unaffordable (evaluateWithin L left number sheet facts room)
+  within-told h =
+      long-told Unaffordable (sheetLength sheet) _ (fault-told Unaffordable (tableFault knownFacts facts) _ (table-faulty knownFacts facts)
+      (read-told Unaffordable (readSheet (L .value) sheet) _ (sheet-numbered (L .value) sheet)
+      (λ t. over-told (leb (visits L (tableOf facts) t) left) _
+      (rw (lt-ltb number (2 ^ sheetBits) h) (write-told Unaffordable L number room (evaluated L (tableOf facts) t))))))
 
 -- Given a table, a call may tell 21 too.
 abbrev pub OrTable : (ℕ → Type 0) → ℕ → Type 0

@@ -32,3 +32,6 @@ pub mod Bits
 pub mod Tight
 pub mod WorkedTight
 pub mod WorkedLevels
+pub mod Visits
+pub mod Batch
+pub mod WorkedBatch

@@ -1,2 +1,2 @@
 -- Laws that several proofs cite.
-mod Entries
+pub mod Entries

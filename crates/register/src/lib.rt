@@ -22,16 +22,16 @@ const ABOVE_WITHDRAWN: u32 = 16777216;
 pub const NO_SHEET: u32 = ABOVE_NUMBER;
 
 // An entry of the register.
-struct Entry {
-    group: u32,
-    withdrawn: bool,
-    zero: u32,
-    number: u32,
-    day: u32,
+pub struct Entry {
+    pub group: u32,
+    pub withdrawn: bool,
+    pub zero: u32,
+    pub number: u32,
+    pub day: u32,
 }
 
 // The entry in force so far, if there is one.
-enum Latest {
+pub enum Latest {
     Found(Entry),
     Nothing,
 }
@@ -145,7 +145,7 @@ fn later(best: Latest, entry: Entry) -> Latest
 }
 
 // The entry in force for the group on the day.
-fn in_force(entries: &[u32], group: u32, day: u32) -> Latest
+pub fn in_force(entries: &[u32], group: u32, day: u32) -> Latest
     requires { ⌜ length (now entries) ≤ registerWords ⌝ }
     ensures { λ r. ⌜ latestOf r ≡ inForce group day (entriesOf (now (entries .entry))) ⌝ }
 {

@@ -6,6 +6,7 @@ use Rattle.model.specs.Required.{Required, oneBit, Asked}
 use Rattle.model.specs.Calls.{Answer, numberOf, writtenOf, afterwards}
 use Rattle.model.specs.Register as register
 use Rattle.model.specs.Calendar.{Date}
+use Rattle.model.specs.Batch.{Batch, batchNumber, repliesAfter, outputAfter}
 use Rattle.required.specs.Answers.{setAfter}
 
 abbrev pub returned : ℕ → ℕ → ℕ
@@ -20,6 +21,12 @@ pub record Requires (m : Required) (before after : List ℕ) (r : ℕ) : Type 0 
 pub record Writes (a : Answer) (before after : List ℕ) (r : ℕ) : Type 0 where
   pub answer : r ≡ returned (numberOf a) (writtenOf a)
   pub output-is : after ≡ afterwards a before
+
+-- A batch: its number, and the places for the replies and the output afterwards.
+pub record Batches (b : Batch) (places placesAfter out outAfter : List ℕ) (r : ℕ) : Type 0 where
+  pub answer : r ≡ batchNumber b
+  pub replies-are : placesAfter ≡ repliesAfter b places
+  pub output-is : outAfter ≡ outputAfter b out
 
 -- A question: 1 for yes, 0 for no.
 abbrev pub said : Asked → ℕ

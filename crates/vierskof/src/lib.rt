@@ -1,6 +1,7 @@
 // The exported C interface. A slice passes as a pointer and an element count. A call returns one number: that of the refusal times 2^32, or 0
 // when it is accepted, and the call's value.
 use answer::Answer;
+use batch::Batch;
 use calendar::Date;
 use questions::Told;
 use register::InForce;
@@ -12,6 +13,7 @@ ghost use Rattle.model.specs.Join.{joinTables};
 ghost use Rattle.model.specs.Windows.{applyWindows};
 ghost use Rattle.model.specs.Outcome.{productSets};
 ghost use Rattle.model.specs.Tight.{packSheet, packRecord, unpackSheet, unpackRecord};
+ghost use Rattle.model.specs.Batch.{evaluateBatch};
 ghost use mathlib.Core.Path.{_≡_};
 ghost use mathlib.Core.Option.{none, some};
 ghost use Rattle.outcome.specs.Carried.{table};
@@ -20,7 +22,8 @@ ghost use Rattle.answer.specs.Answers.{numberOf as Answer·numberOf, writtenOf}
 ghost use Rattle.required.specs.Answers.{numberOf, countOf};
 ghost use Rattle.questions.specs.Answers.{asked};
 ghost use Rattle.register.specs.Answers.{inForceOf};
-ghost use Rattle.vierskof.specs.Answers.{Requires, Writes, returned};
+ghost use Rattle.batch.specs.Answers.{returned as Batch·returned};
+ghost use Rattle.vierskof.specs.Answers.{Requires, Writes, Batches, returned};
 ghost use Rattle.vierskof.specs.Answers.{said, named, dated};
 
 // The number of the refusal and the words or bytes written, as one number.
@@ -342,4 +345,55 @@ pub extern "C" fn vierskof_unpack_record(bytes: &[u8], out: &mut [u32]) -> u64
     ensures { λ r. ⌜ Writes (unpackRecord productSets (now (bytes .entry)) (length (now (out .entry)))) (now (out .entry)) (now (out .exit)) r ⌝ }
 {
     written(unpack::unpack_record(bytes, out))
+}
+
+// The number of a batch's refusal and the words written in all, as one number.
+fn batched(batch: Batch) -> u64
+    ensures { λ r. ⌜ r ≡ Batch·returned batch ⌝ }
+{
+    match batch {
+        Batch::Written(words) => words as u64,
+        Batch::Refused(number) => (number as u64) * 4294967296,
+    }
+}
+
+// Decides a batch of requests by the sheets in force, within an allowance of visited nodes: a reply for each request, and the records one after the other.
+#[no_mangle]
+pub extern "C" fn vierskof_evaluate_batch(
+    entries: &[u32],
+    sheets: &[u32],
+    requests: &[u32],
+    allowance: u32,
+    replies: &mut [u64],
+    out: &mut [u32],
+) -> u64
+    ensures { λ r. ⌜ Batches (evaluateBatch none (now (entries .entry)) (now (sheets .entry)) (now (requests .entry)) allowance (length (now (replies .entry))) (length (now (out .entry)))) (now (replies .entry)) (now (replies .exit)) (now (out .entry)) (now (out .exit)) r ⌝ }
+{
+    batched(batch::evaluate_batch(entries, sheets, requests, allowance, replies, out))
+}
+
+// The same by an outcome table, one for the whole batch.
+#[no_mangle]
+pub extern "C" fn vierskof_evaluate_batch_by_levels(
+    levels: u32,
+    outcomes: &[u8],
+    entries: &[u32],
+    sheets: &[u32],
+    requests: &[u32],
+    allowance: u32,
+    replies: &mut [u64],
+    out: &mut [u32],
+) -> u64
+    ensures { λ r. ⌜ Batches (evaluateBatch (some (table levels (now (outcomes .entry)))) (now (entries .entry)) (now (sheets .entry)) (now (requests .entry)) allowance (length (now (replies .entry))) (length (now (out .entry)))) (now (replies .entry)) (now (replies .exit)) (now (out .entry)) (now (out .exit)) r ⌝ }
+{
+    batched(batch::evaluate_batch_by_levels(
+        levels,
+        outcomes,
+        entries,
+        sheets,
+        requests,
+        allowance,
+        replies,
+        out,
+    ))
 }

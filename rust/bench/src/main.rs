@@ -7,6 +7,7 @@
 //! table of 256 bytes. Windows and the tight form, which the original lacks, stand beside the
 //! comparison's own calls.
 
+mod batches;
 mod calls;
 mod join;
 mod levels;
@@ -20,6 +21,7 @@ use compare::words::TABLE_BYTES;
 use sheets::Sheet;
 use tight::Scene;
 use timing::Timed;
+use vierskof::BATCH_REQUESTS;
 
 fn main() {
     println!("nanoseconds a call, medians; ratio: proved to the column before it\n");
@@ -36,6 +38,7 @@ fn main() {
     by_table();
     by_levels();
     registers();
+    by_batches();
     joins();
     by_windows();
     tight_forms();
@@ -144,6 +147,40 @@ fn registers() {
             proved / sorting
         );
     }
+}
+
+/// Requests decided in a batch, beside as many direct calls.
+fn by_batches() {
+    println!(
+        "\nnanoseconds for so many direct calls, and for a batch of as many requests, with one entry and one sheet; the bars for the ratio are 1.6 for 100 grants and 2 for all\n"
+    );
+    println!(
+        "{:>24} {:>9} {:>10} {:>10} {:>7}",
+        "sheet", "requests", "direct", "batch", "ratio"
+    );
+    for sheet in sheets::cases() {
+        let [direct, batch] = batches::beside_direct_calls(&sheet);
+        println!(
+            "{:>24} {:>9} {direct:>10.0} {batch:>10.0} {:>7.2}",
+            sheet.name,
+            batches::requests(&sheet),
+            batch / direct
+        );
+    }
+    let sheet = sheets::hundred_grants();
+    let [direct, batch] = batches::beside_a_desk(&sheet);
+    println!(
+        "\nnanoseconds for {BATCH_REQUESTS} calls of sheet_in_force and evaluate, and for a batch of as many requests, with as many entries and sheets\n"
+    );
+    println!(
+        "{:>24} {:>9} {:>10} {:>10} {:>7}",
+        "sheets", "requests", "direct", "batch", "ratio"
+    );
+    println!(
+        "{:>24} {BATCH_REQUESTS:>9} {direct:>10.0} {batch:>10.0} {:>7.2}",
+        sheet.name,
+        batch / direct
+    );
 }
 
 /// The original has no join: plain Rust loops over the same masks stand beside it.

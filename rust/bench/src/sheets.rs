@@ -47,7 +47,7 @@ pub fn cases() -> Vec<Sheet> {
             table: vec![0x00, 0x10],
             ..Sheet::new(&"D", vec![0x8800_0003, 0, 0x2000_0005])
         },
-        Sheet::new(&"100 grants", grants(100)),
+        hundred_grants(),
         Sheet::new(&"4,096 words", mixed(SHEET_WORDS)),
         Sheet::new(&"32 levels", levels(LEVELS)),
         Sheet::new(&"All of 4,095", permits(LIST)),
@@ -56,6 +56,11 @@ pub fn cases() -> Vec<Sheet> {
     ];
     cases.extend(tables());
     cases
+}
+
+/// The sheet that the bar for batches is set for.
+pub fn hundred_grants() -> Sheet {
+    Sheet::new(&"100 grants", grants(100))
 }
 
 /// Grants on fact 0, which is Present; the table has a byte, and the most bytes.

@@ -8,7 +8,7 @@ use vierskof::{Date, Fact, Presence};
 use crate::facts::{self, Bytes};
 use crate::form::Form;
 use crate::register::{self, Words};
-use crate::{guide, numbers, windows};
+use crate::{batch, guide, numbers, windows};
 
 /// Decides who may read which product, by a policy sheet and the facts about a request.
 #[derive(Debug, Parser)]
@@ -65,6 +65,29 @@ Example:
   echo 01000007 00000064 01000009 000000C8 |
     vierskof in-force --group 1 --day 1900-05-01")]
     InForce(Asked),
+    /// Decides a batch of requests by the sheets in force, within an allowance of visited nodes.
+    ///
+    /// Each request has a line, with the number of its sheet and the nodes that were visited, why it is refused, or none; and then, if it is decided, its record. What a request leaves of the allowance is for those after it. One that is refused takes nothing, and the later ones are still tried.
+    #[command(after_help = "\
+A request is a line with a group, a day and a known table: facts, or a table's
+bytes in hexadecimal. # begins a comment. A fact that is not named is absent.
+  group 1 day 2026-11-17 facts 5=present,7=present
+  group 2 day 46341 table 0010
+
+No number stands for a sheet's file that can't be read as words, such as a text
+with a fault. A request that this sheet decides is refused without one, before
+its table is read, and its line names the file and the fault:
+  request 1: sheet 8, refused without a number: eight.txt: line 1: found ..
+
+A batch is refused with 21 for an outcome table that is not accepted, with 1 for
+over 64 requests, then with 15 for a register that is none. If it isn't, the
+exit status is 0, whatever the replies are.
+
+Example:
+  echo 01000007 00000000 > register.txt
+  echo 'group 1 day 2026-11-17 facts 5=present' |
+    vierskof batch --register register.txt --sheet 7=licence.txt > replies.txt")]
+    Batch(Batched),
     /// Joins two fact tables of one request to one of what both know.
     #[command(after_help = "\
 Example:
@@ -183,6 +206,33 @@ pub struct Asked {
     /// The day: how many days after 1900-01-01, or YYYY-MM-DD.
     #[arg(long, value_parser = day)]
     pub day: u32,
+}
+
+/// A batch of requests.
+#[derive(Args, Debug)]
+pub struct Batched {
+    /// The file with the requests, one a line, such as `group 1 day 2026-11-17 facts 5=present`; - is standard input.
+    #[arg(default_value = "-")]
+    pub file: PathBuf,
+    /// The register's file, in hexadecimal or binary words, told from its bytes.
+    #[arg(long, value_name = "FILE")]
+    pub register: PathBuf,
+    /// A sheet and its number, such as 7=licence.txt; may come several times.
+    ///
+    /// In any form, told from the file's bytes. Of several with one number the first counts. A sheet that decides no request is not judged, nor is its text; the file has to be there.
+    #[arg(long = "sheet", value_name = "NUMBER=FILE", value_parser = batch::handed)]
+    pub sheets: Vec<(u16, PathBuf)>,
+    /// How many nodes may be visited in all, 0 to 65535.
+    #[arg(long, value_name = "NODES", default_value = "65535")]
+    pub allowance: u16,
+    /// A file with an outcome table, for sheets of levels and not of products; the same for the whole batch.
+    ///
+    /// As the other commands take it.
+    #[arg(long, value_name = "FILE")]
+    pub levels: Option<PathBuf>,
+    /// The form of the records that are written.
+    #[arg(long, value_name = "FORM", default_value = "text")]
+    pub to: batch::RecordForm,
 }
 
 /// Two fact tables.

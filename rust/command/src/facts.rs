@@ -52,15 +52,13 @@ fn fields(table: &[u8]) -> impl Iterator<Item = u8> {
     table.iter().flat_map(fields)
 }
 
-/// The table of the facts that are said; a fact that is not said reads as `rest`.
+/// The table of the facts that are said, or two that contradict each other; a fact that is not said reads as `rest`.
 pub fn table(said: &[(Fact, Presence)], rest: Presence) -> Result<FactTable, String> {
     let mut presences = BTreeMap::new();
     for (fact, presence) in said {
         let earlier = presences.insert(*fact, *presence);
         if let Some(earlier) = earlier.filter(|earlier| earlier != presence) {
-            return Err(format!(
-                "--facts says {fact}={earlier} and {fact}={presence}"
-            ));
+            return Err(format!("{fact}={earlier} and {fact}={presence}"));
         }
     }
     let mut table = match rest {

@@ -1,7 +1,7 @@
 //! Words as they were given: where they stand, and so where a refusal comes from.
 
 use std::fs::File;
-use std::io::Read;
+use std::io::{self, Read};
 use std::path::Path;
 
 use vierskof::read::{Record, Sheet};
@@ -46,29 +46,56 @@ pub struct Given {
 impl Given {
     /// The words in a file, or on standard input.
     pub fn read(input: &Input, stdin: impl Read) -> Result<Self, Failure> {
-        Self::taken(&input.file, stdin, |bytes, name| {
+        Self::taken(bytes_of(&input.file, stdin), |bytes, name| {
             Self::of(bytes, input.from, name)
         })
     }
 
-    /// The words of a register, which has no text form: what isn't binary is taken for hexadecimal.
+    /// The words of a register.
     pub fn register(asked: &Asked, stdin: impl Read) -> Result<Self, Failure> {
-        Self::taken(&asked.file, stdin, |bytes, name| {
-            let text = Form::of(bytes) != Form::Binary;
-            let from = asked.from.map(Form::from);
-            Self::of(bytes, from.or(text.then_some(Form::Hex)), name)
+        Self::taken(bytes_of(&asked.file, stdin), |bytes, name| {
+            Self::of_register(bytes, asked.from, name)
         })
     }
 
+    /// The words of the register in a file.
+    pub fn register_in(file: &Path) -> Result<Self, Failure> {
+        Self::taken(named(file), |bytes, name| {
+            Self::of_register(bytes, None, name)
+        })
+    }
+
+    /// The words of the sheet in a file; or the file's name and why what stands in it can't be read, which is no failure of a batch that it doesn't decide.
+    pub fn sheet_in(file: &Path) -> Result<Result<Self, String>, Failure> {
+        let name = file.display().to_string();
+        let named = |message| format!("{name}: {message}");
+        let bytes = File::open(file).and_then(bytes_in);
+        let bytes = bytes.map_err(|error| Failure::Usage(named(error.to_string())))?;
+        let read = short(bytes).and_then(|bytes| {
+            let given = Self::of(&bytes, None, &name)?;
+            given.text().cloned().map_or(Ok(given), Err)
+        });
+        Ok(read.map_err(named))
+    }
+
     fn taken(
-        file: &Path,
-        stdin: impl Read,
+        (name, bytes): (String, Result<Vec<u8>, String>),
         of: impl FnOnce(&[u8], &str) -> Result<Self, String>,
     ) -> Result<Self, Failure> {
-        let (name, bytes) = bytes_of(file, stdin);
         let named = |message| Failure::Usage(format!("{name}: {message}"));
         let bytes = bytes.map_err(named)?;
         of(&bytes, &name).map_err(named)
+    }
+
+    /// A register has no text form: what isn't binary is taken for hexadecimal.
+    fn of_register(
+        bytes: &[u8],
+        from: Option<register::Words>,
+        name: &str,
+    ) -> Result<Self, String> {
+        let text = Form::of(bytes) != Form::Binary;
+        let from = from.map(Form::from);
+        Self::of(bytes, from.or(text.then_some(Form::Hex)), name)
     }
 
     fn of(bytes: &[u8], from: Option<Form>, name: &str) -> Result<Self, String> {
@@ -88,12 +115,16 @@ impl Given {
 
     /// The failure that a refusal of the words is, with the place if there is one.
     pub fn refused(&self, refusal: Refusal, due: Due, levels: Option<&Levels>) -> Failure {
-        match &self.mistaken {
-            Some(mistaken) if judged(&self.words, Due::Either, None).is_err() => {
-                Failure::Usage(format!("{}: {mistaken}", self.name))
-            }
-            _ => Failure::Refused(refusal, self.place(refusal, due, levels)),
+        match self.text() {
+            Some(text) => Failure::Usage(format!("{}: {text}", self.name)),
+            None => Failure::Refused(refusal, self.place(refusal, due, levels)),
         }
+    }
+
+    /// Which text the bytes are that were taken for binary words, if they are no document's.
+    fn text(&self) -> Option<&String> {
+        let no_document = |_: &&String| judged(&self.words, Due::Either, None).is_err();
+        self.mistaken.as_ref().filter(no_document)
     }
 
     /// The failure that words are which are no register.
@@ -230,8 +261,13 @@ pub fn bytes_of(file: &Path, stdin: impl Read) -> (String, Result<Vec<u8>, Strin
     if file == Path::new("-") {
         ("standard input".to_owned(), read(stdin))
     } else {
-        (file.display().to_string(), open(file))
+        named(file)
     }
+}
+
+/// The same of a file that is no standard input.
+fn named(file: &Path) -> (String, Result<Vec<u8>, String>) {
+    (file.display().to_string(), open(file))
 }
 
 /// The bytes of a file.
@@ -240,11 +276,20 @@ pub fn open(file: &Path) -> Result<Vec<u8>, String> {
 }
 
 fn read(source: impl Read) -> Result<Vec<u8>, String> {
+    short(bytes_in(source).map_err(|error| error.to_string())?)
+}
+
+/// All bytes, or one more than are read.
+fn bytes_in(source: impl Read) -> io::Result<Vec<u8>> {
     let mut bytes = Vec::new();
-    let read = source.take(LONGEST + 1).read_to_end(&mut bytes);
-    match read {
-        Err(error) => Err(error.to_string()),
-        Ok(length) if length as u64 > LONGEST => Err("longer than 16 MiB".to_owned()),
-        Ok(_) => Ok(bytes),
+    source.take(LONGEST + 1).read_to_end(&mut bytes)?;
+    Ok(bytes)
+}
+
+/// The bytes, unless there are too many.
+fn short(bytes: Vec<u8>) -> Result<Vec<u8>, String> {
+    if bytes.len() as u64 > LONGEST {
+        return Err("longer than 16 MiB".to_owned());
     }
+    Ok(bytes)
 }

@@ -45,6 +45,12 @@ What a register is
   is. It has no text form: an entry is two words, group (8 bits), withdrawn
   (1), zero (7), sheet number (16), and then the day, counted from 1900-01-01.
 
+What a batch is
+  Up to 64 requests, each a line with a group, a day and facts. The command
+  batch decides each by the sheet that a register has in force for it, out of
+  the sheets that it is given with their numbers, within an allowance of nodes:
+  a node counts each time that it is visited, policy and condition alike.
+
 The text form
   One node a line; what belongs under a node is indented by two spaces; #
   begins a comment. A list has commas and no spaces. Four hexadecimal digits

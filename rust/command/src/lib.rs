@@ -8,6 +8,7 @@
 )]
 
 pub mod arguments;
+pub mod batch;
 pub mod document;
 pub mod facts;
 pub mod form;

@@ -33,6 +33,12 @@ pub fn reason(text: &str) -> Result<Reason, &'static str> {
     reason.ok_or("a reason from 0 to 32767")
 }
 
+/// A group.
+pub fn group(text: &str) -> Result<u8, &'static str> {
+    let group = number(text).and_then(|number| u8::try_from(number).ok());
+    group.ok_or("a group from 0 to 255")
+}
+
 /// The number of a sheet.
 pub fn sheet(text: &str) -> Result<u16, &'static str> {
     number(text).ok_or("a sheet's number from 0 to 65535")

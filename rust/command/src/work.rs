@@ -3,20 +3,22 @@
 use std::error::Error;
 use std::fmt::{self, Display, Formatter};
 use std::io::Read;
-use std::path::Path;
+use std::path::{Path, PathBuf};
 
 use vierskof::read::{Decision, Record};
 use vierskof::{Levels, Presence, RECORD_WORDS, Refusal, TABLE_BYTES, tight_room};
 
 use crate::arguments::{
-    Arguments, Asked, Call, Command, Facts, Input, Join, Packed, Reduction, Unpacked, Windowed,
+    Arguments, Asked, Batched, Call, Command, Facts, Input, Join, Packed, Reduction, Unpacked,
+    Windowed,
 };
+use crate::batch::{self, Desk};
 use crate::document::Document;
 use crate::facts;
 use crate::form::Form;
 use crate::given::{Due, Given, bytes_of, open};
-use crate::tight::{self, Tight};
 use crate::levels;
+use crate::tight::{self, Tight};
 use crate::windows::{self, List};
 
 /// Why there is no answer.
@@ -113,6 +115,7 @@ pub fn run(arguments: &Arguments, stdin: impl Read) -> Result<Done, Failure> {
         Command::Show(shown) => rewritten(&shown.input, stdin, shown.to),
         Command::Assemble(assembled) => rewritten(&assembled.input, stdin, assembled.to),
         Command::InForce(asked) => in_force(asked, stdin),
+        Command::Batch(batched) => batch(batched, stdin),
         Command::Join(tables) => join(tables),
         Command::Window(windowed) => window(windowed, stdin),
         Command::Pack(packed) => pack(packed, stdin),
@@ -183,6 +186,21 @@ fn in_force(asked: &Asked, stdin: impl Read) -> Result<Done, Failure> {
     let found = found.map_err(|refusal| given.no_register(refusal))?;
     let number = found.map_or_else(|| "none".to_owned(), |number| number.to_string());
     Ok(Done::plainly((number + "\n").into_bytes()))
+}
+
+fn batch(batched: &Batched, stdin: impl Read) -> Result<Done, Failure> {
+    let (name, bytes) = bytes_of(&batched.file, stdin);
+    let named = |message| Failure::Usage(format!("{name}: {message}"));
+    let text = windows::text(bytes.map_err(named)?).map_err(named)?;
+    let requests = batch::requests(&text).map_err(|fault| named(fault.to_string()))?;
+    let sheet = |(number, file): &(u16, PathBuf)| Ok((*number, Given::sheet_in(file)?));
+    let desk = Desk {
+        register: Given::register_in(&batched.register)?,
+        sheets: batched.sheets.iter().map(sheet).collect::<Result<_, _>>()?,
+        levels: batched.levels.as_deref().map(levels::read).transpose()?,
+        allowance: batched.allowance,
+    };
+    Ok(Done::plainly(desk.run(&requests, batched.to.into())?))
 }
 
 fn judged(given: &Given) -> Result<Document<'_>, Failure> {
@@ -286,6 +304,7 @@ fn table(facts: &Facts, rest: Presence) -> Result<Vec<u8>, Failure> {
     if let Some(typed) = &facts.table_hex {
         return Ok(typed.0.clone());
     }
-    let table = facts::table(&facts.facts, rest).map_err(Failure::Usage)?;
+    let table = facts::table(&facts.facts, rest);
+    let table = table.map_err(|both| Failure::Usage(format!("--facts says {both}")))?;
     Ok(table.as_bytes().to_vec())
 }

@@ -1,5 +1,6 @@
 //! Cases made from a seed: the same seed gives the same cases everywhere.
 
+pub mod batches;
 pub mod cases;
 pub mod chains;
 pub mod damage;

@@ -55,6 +55,13 @@ enum Command {
         #[command(flatten)]
         sample: Sample,
     },
+    /// Compares the proved call on drawn batches of requests with a plain desk over the original, and each decided reply with a direct call, and shows the first
+    /// batch that differs.
+    #[cfg(feature = "proved")]
+    Batches {
+        #[command(flatten)]
+        sample: Sample,
+    },
     /// Compares the proved call on drawn and damaged registers with sorting, and shows the first that differs.
     #[cfg(feature = "proved")]
     Registers {
@@ -218,6 +225,8 @@ fn main() -> io::Result<()> {
         #[cfg(feature = "proved")]
         Command::Proved { sample } => proved(&sample),
         #[cfg(feature = "proved")]
+        Command::Batches { sample } => batches(&sample),
+        #[cfg(feature = "proved")]
         Command::Registers { sample } => registers(&sample),
         #[cfg(feature = "proved")]
         Command::Tight { sample } => tight(&sample),
@@ -317,6 +326,25 @@ fn proved_levels(sample: &Sample) -> io::Result<()> {
     }
     println!(
         "{} calls by outcome tables and {chains} chains, seed {}: no difference; {tally}",
+        sample.count, sample.seed
+    );
+    Ok(())
+}
+
+#[cfg(feature = "proved")]
+fn batches(sample: &Sample) -> io::Result<()> {
+    use compare::generate::batches;
+    use compare::proved::batch::{agrees, directly};
+
+    let mut decided = 0;
+    for batch in batches::draw(sample.seed, sample.count) {
+        match directly(&batch) {
+            Some(count) if agrees(&batch) => decided += count,
+            _ => return Err(io::Error::other(format!("differs: {batch:X?}"))),
+        }
+    }
+    println!(
+        "{} batches, seed {}: no difference; {decided} requests decided, each as by a direct call",
         sample.count, sample.seed
     );
     Ok(())

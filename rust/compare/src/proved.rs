@@ -1,5 +1,6 @@
 //! The proved calls against the original, or against the comparison's own where it has no such call: answer, every word of the output before and after, sets and refusals.
 
+pub mod batch;
 mod c;
 pub mod levels;
 

@@ -36,6 +36,8 @@ pub enum Refusal {
     SheetNumber = 16,
     /// A narrowing's table has as Present what the record consulted as Absent, or the reverse.
     Contradiction = 17,
+    /// More nodes than a batch's allowance has left.
+    Allowance = 18,
     /// The bits of a tight form end before a field is complete.
     BitsEnd = 19,
     /// The last byte of a tight form isn't filled with 0 bits, or a byte follows.

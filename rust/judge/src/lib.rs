@@ -2,6 +2,7 @@
 
 use std::slice;
 
+use compare::batch::{Batch, Reply};
 use compare::case::{Answer, Call, Case};
 use compare::join::Join;
 use compare::levels::{Given, by_levels};
@@ -126,6 +127,52 @@ pub unsafe extern "C" fn judge_clause(
         None => evaluated(),
     };
     sitting.is_ok_and(|sitting| clause(record).is_some_and(|found| clause(&sitting) == Some(found)))
+}
+
+/// Answers as the call on a batch does, by an outcome table if there is one, and leaves in `replies` and `out` what it leaves.
+///
+/// # Safety
+///
+/// Behind each pointer there are as many elements as the number after it says, and nobody else writes `replies` and `out`.
+#[unsafe(no_mangle)]
+pub unsafe extern "C" fn judge_batch(
+    by: Option<&Outcomes>,
+    entries: *const u32,
+    entry_words: usize,
+    sheets: *const u32,
+    sheet_words: usize,
+    requests: *const u32,
+    request_words: usize,
+    allowance: u32,
+    replies: *mut u64,
+    places: usize,
+    out: *mut u32,
+    room: usize,
+) -> u64 {
+    // SAFETY: what the caller has to see to.
+    let (batch, replies, out) = unsafe {
+        let batch = Batch {
+            levels: by.map(|by| by.given()),
+            register: slice::from_raw_parts(entries, entry_words).to_vec(),
+            sheets: slice::from_raw_parts(sheets, sheet_words).to_vec(),
+            requests: slice::from_raw_parts(requests, request_words).to_vec(),
+            allowance,
+            places,
+            room,
+        };
+        let replies = slice::from_raw_parts_mut(replies, places);
+        (batch, replies, slice::from_raw_parts_mut(out, room))
+    };
+    let told = match batch.answer() {
+        Ok(told) => told,
+        Err(refusal) => return u64::from(refusal.number()) << 32,
+    };
+    for (place, reply) in replies.iter_mut().zip(&told) {
+        *place = reply.number();
+    }
+    let records: Vec<u32> = told.iter().flat_map(Reply::record).copied().collect();
+    out[..records.len()].copy_from_slice(&records);
+    records.len() as u64
 }
 
 fn clause(record: &[u32]) -> Option<Decided> {

@@ -263,3 +263,97 @@ pub fn apply_windows(
         )
     }
 }
+
+unsafe extern "C" {
+    fn vierskof_evaluate_batch(
+        entries: *const u32,
+        entry_words: usize,
+        sheets: *const u32,
+        sheet_words: usize,
+        requests: *const u32,
+        request_words: usize,
+        allowance: u32,
+        replies: *mut u64,
+        places: usize,
+        out: *mut u32,
+        room: usize,
+    ) -> u64;
+    fn vierskof_evaluate_batch_by_levels(
+        levels: u32,
+        outcomes: *const u8,
+        outcome_bytes: usize,
+        entries: *const u32,
+        entry_words: usize,
+        sheets: *const u32,
+        sheet_words: usize,
+        requests: *const u32,
+        request_words: usize,
+        allowance: u32,
+        replies: *mut u64,
+        places: usize,
+        out: *mut u32,
+        room: usize,
+    ) -> u64;
+}
+
+/// A batch: a register, sheets, requests, an allowance, places for the replies and an output. The value is the count of words written.
+pub fn evaluate_batch(
+    entries: &[u32],
+    sheets: &[u32],
+    requests: &[u32],
+    allowance: u16,
+    replies: &mut [u64],
+    out: &mut [u32],
+) -> u64 {
+    let (places, room) = (replies.len(), out.len());
+    // SAFETY: as for the calls that write.
+    unsafe {
+        vierskof_evaluate_batch(
+            entries.as_ptr(),
+            entries.len(),
+            sheets.as_ptr(),
+            sheets.len(),
+            requests.as_ptr(),
+            requests.len(),
+            u32::from(allowance),
+            replies.as_mut_ptr(),
+            places,
+            out.as_mut_ptr(),
+            room,
+        )
+    }
+}
+
+/// A batch by an outcome table: its levels and bytes, then as above.
+#[allow(clippy::too_many_arguments, reason = "those of the C interface")]
+pub fn evaluate_batch_by_levels(
+    levels: u32,
+    outcomes: &[u8],
+    entries: &[u32],
+    sheets: &[u32],
+    requests: &[u32],
+    allowance: u16,
+    replies: &mut [u64],
+    out: &mut [u32],
+) -> u64 {
+    let (places, room) = (replies.len(), out.len());
+    // SAFETY: as for the calls that write.
+    unsafe {
+        vierskof_evaluate_batch_by_levels(
+            levels,
+            outcomes.as_ptr(),
+            outcomes.len(),
+            entries.as_ptr(),
+            entries.len(),
+            sheets.as_ptr(),
+            sheets.len(),
+            requests.as_ptr(),
+            requests.len(),
+            u32::from(allowance),
+            replies.as_mut_ptr(),
+            places,
+            out.as_mut_ptr(),
+            room,
+        )
+    }
+}

@@ -118,7 +118,7 @@ impl Levels {
     }
 
     /// Count and bytes, as the C interface takes them.
-    fn parts(&self) -> (u32, &[u8]) {
+    pub(crate) fn parts(&self) -> (u32, &[u8]) {
         (u32::from(self.count), self.as_bytes())
     }
 }

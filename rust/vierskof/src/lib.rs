@@ -9,9 +9,10 @@
 //! words, fact tables are bytes, and each call writes its record into an output that its caller
 //! lends. [`build`] makes a sheet's words, [`read`] gives words back as typed values, and
 //! [`FactTable`] holds what is known. [`in_force`] tells which sheet of a register rules for a group
-//! on a day, [`join_tables`] makes one table of two, [`apply_windows`] sets facts by the age of a
-//! reading, and [`pack_sheet`] and [`pack_record`] make a tight form for a narrow link. Networks that grade access by levels, and not by products, give the calls their
-//! [`Levels`].
+//! on a day, [`evaluate_batch`] decides many requests by the sheets in force, [`join_tables`] makes one
+//! table of two, [`apply_windows`] sets facts by the age of a reading, and [`pack_sheet`] and
+//! [`pack_record`] make a tight form for a narrow link. Networks that grade access by levels, and not
+//! by products, give the calls their [`Levels`].
 //!
 //! No call blocks, allocates, keeps state or panics, and none needs more than 256 KiB of stack: on a
 //! thread with less, a deep or long sheet may overflow it. Calls on separate outputs may run at the
@@ -181,10 +182,11 @@
 //! # What may grow
 //!
 //! [`Refusal`], [`read::Reading`], [`build::Unwritable`] and the values that [`build`] takes are open
-//! lists, since later rules add to them. [`Presence`], [`Shape`] and the nodes that [`read`] gives are
-//! closed: a program that tells them apart should not compile when there is one more.
+//! lists, since later rules add to them. [`Presence`], [`Shape`], [`Reply`] and the nodes that [`read`]
+//! gives are closed: a program that tells them apart should not compile when there is one more.
 #![no_std]
 
+mod batch;
 mod c;
 mod calls;
 mod facts;
@@ -199,6 +201,7 @@ mod windows;
 pub mod build;
 pub mod read;
 
+pub use batch::{Replies, Reply, Request, SheetList, evaluate_batch, evaluate_batch_by_levels};
 pub use calls::{
     apply_windows, carries_obligation, complete_residual, evaluate, is_deny_constant,
     is_permit_constant, join_tables, narrow_residual, narrow_residual_in_order, pack_record,
@@ -234,6 +237,10 @@ pub const GRANT_OBLIGATIONS: usize = 64;
 pub const TRACE_OBLIGATIONS: usize = 127;
 /// Words of the longest register, two an entry.
 pub const REGISTER_WORDS: usize = 512;
+/// Words of a request of a batch.
+pub const REQUEST_WORDS: usize = 66;
+/// The most requests of a batch.
+pub const BATCH_REQUESTS: usize = 64;
 /// The most windows of one list.
 pub const WINDOWS: usize = 32;
 /// The most bytes that are unpacked.

@@ -13,7 +13,9 @@ use crate::OutOfRange;
 /// the record, then the room. A register has one cause alone. A join looks at both
 /// lengths, both tables' fields, whether they clash, then the room. For windows it is the dates,
 /// the list, the table, the room. Unpacking looks at the length of the bytes, then at each field,
-/// whether it is complete and then what it holds, then at the filler, then at the room.
+/// whether it is complete and then what it holds, then at the filler, then at the room. A batch looks at
+/// its outcome table, the count of its requests, the register, the list of sheets, the places for
+/// replies; a request of it is refused as by the direct call, with the allowance before the room.
 ///
 /// ```
 /// use vierskof::Refusal;
@@ -28,7 +30,8 @@ use crate::OutOfRange;
 #[non_exhaustive]
 #[repr(u32)]
 pub enum Refusal {
-    /// A sheet is 1 to 4,096 words long, a record 1 to 16,384, and a tight form at most 65,536 bytes.
+    /// A sheet is 1 to 4,096 words long, a record 1 to 16,384, and a tight form at most 65,536 bytes. A batch is 0 to 64 whole requests, with an allowance of
+    /// at most 65,535, which its type holds to here.
     Length = 1,
     /// A table is at most 256 bytes long.
     TableLength = 2,
@@ -38,7 +41,7 @@ pub enum Refusal {
     UnknownFact = 4,
     /// A node has a kind that may not stand there.
     Kind = 5,
-    /// The words end before the record or tree is complete.
+    /// The words end before the record or tree is complete, or the list of a batch's sheets before its last one is.
     WordsEnd = 6,
     /// A node stands on a 33rd level.
     Level = 7,
@@ -46,7 +49,8 @@ pub enum Refusal {
     Field = 8,
     /// There are words after the tree.
     WordsAfterTree = 10,
-    /// The result is longer than the output; or it is a sheet over 4,096 words, or a record over 16,384, or with a list of over 4,095 facts or 127 obligations.
+    /// The result is longer than the output; or it is a sheet over 4,096 words, or a record over 16,384, or with a list of over 4,095 facts or 127 obligations;
+    /// or a batch has fewer places for replies than requests.
     Room = 11,
     /// A date doesn't exist, or isn't of the years 1900 to 2199.
     Date = 12,
@@ -61,6 +65,8 @@ pub enum Refusal {
     SheetNumber = 16,
     /// A narrowing's table has a fact as Present that the record consulted as Absent, or the reverse.
     Contradiction = 17,
+    /// A request's evaluation visits more nodes than a batch's allowance has left.
+    Allowance = 18,
     /// The bits of a tight form end before a field is complete.
     BitsEnd = 19,
     /// The last byte of a tight form isn't filled with 0 bits, or a byte follows, be it 0.
@@ -89,6 +95,7 @@ impl Refusal {
         Self::Register,
         Self::SheetNumber,
         Self::Contradiction,
+        Self::Allowance,
         Self::BitsEnd,
         Self::Filler,
         Self::OutcomeTable,
@@ -102,7 +109,7 @@ impl Refusal {
 
     const fn sentence(self) -> &'static str {
         match self {
-            Self::Length => "the sheet or record is empty or too long",
+            Self::Length => "the length of the sheet, record, tight form or batch is not accepted",
             Self::TableLength => "the fact table is longer than 256 bytes",
             Self::TableField => "a field of the fact table is 3, which is no presence",
             Self::UnknownFact => "a fact is Unknown in a table that has to be known",
@@ -120,6 +127,7 @@ impl Refusal {
             Self::Register => "the words are no register of sheets",
             Self::SheetNumber => "the record is not of the sheet that is expected",
             Self::Contradiction => "the table contradicts a reading that the record has",
+            Self::Allowance => "the evaluation visits more nodes than the allowance has left",
             Self::BitsEnd => "the bits end before a field is complete",
             Self::Filler => "the last byte is not filled with 0 bits, or a byte follows",
             Self::OutcomeTable => "the outcome table is not accepted",

@@ -10,9 +10,9 @@ use command::guide::ROAD;
 use super::{answer, folder};
 
 /// The subcommands, in an order in which each example finds the files that an earlier one wrote.
-const SUBCOMMANDS: [&str; 12] = [
-    "evaluate", "reduce", "narrow", "complete", "required", "show", "assemble", "in-force", "join",
-    "window", "pack", "unpack",
+const SUBCOMMANDS: [&str; 13] = [
+    "evaluate", "reduce", "narrow", "complete", "required", "show", "assemble", "in-force",
+    "batch", "join", "window", "pack", "unpack",
 ];
 
 /// Runs commands as they would be pasted into a shell, with this build's command on the path.
@@ -89,6 +89,7 @@ fn help_tells_of_each_subcommand_and_status() {
         "What a sheet is",
         "What a record is",
         "What a register is",
+        "What a batch is",
         "The tight form",
     ] {
         assert!(help.contains(said), "{said}");

@@ -1,6 +1,7 @@
 //! Tests of the text form, and of the command as it is run.
 
 mod answers;
+mod batch;
 mod faults;
 mod forms;
 mod help;

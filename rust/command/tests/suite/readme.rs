@@ -33,6 +33,35 @@ fn the_readme_decides_by_levels() {
     assert!(said.contains("Both ways end in level 3"));
 }
 
+/// The release desk's example.
+#[test]
+fn the_readme_runs_a_batch() {
+    let (_, example) = README
+        .split_once("## Many requests at once")
+        .expect("a section");
+    let (_, example) = example.split_once("```sh\n").expect("an example");
+    let (typed, said) = example.split_once("```").expect("its end");
+    let shown = help::shell(&typed.replace("./run ", "vierskof "), &folder("desk"));
+    let lines: Vec<&str> = shown.lines().collect();
+    let starts = [
+        "request 1: sheet 7, 2 nodes",
+        "E0007001 40050000 C0000003 ",
+        "request 2: sheet 9, refused 18: ",
+        "request 3: sheet 7, 2 nodes",
+        "E0007001 C0050000 D",
+        "request 4: none, no sheet is in force",
+    ];
+    assert_eq!(lines.len(), starts.len(), "{shown}");
+    assert!(
+        lines
+            .iter()
+            .zip(starts)
+            .all(|(line, start)| line.starts_with(start)),
+        "{shown}"
+    );
+    assert!(said.contains("The first and the third request take two nodes each."));
+}
+
 /// The curators' example, from windows to a decision.
 #[test]
 fn the_readme_sets_facts_by_age() {

@@ -90,7 +90,7 @@ fn a_refusal_names_its_place() {
     assert_eq!(refused(&long), format!("{room} (over 4096 words)\n"));
     assert_eq!(
         refused(&"00".repeat(65_537)),
-        "refused 1: the sheet or record is empty or too long (65537 bytes, where at most 65536 are due)\n"
+        "refused 1: the length of the sheet, record, tight form or batch is not accepted (65537 bytes, where at most 65536 are due)\n"
     );
     assert_eq!(
         failure(1, "pack", "70000000 70000000"),
@@ -98,7 +98,7 @@ fn a_refusal_names_its_place() {
     );
     assert_eq!(
         failure(1, "pack", ""),
-        "refused 1: the sheet or record is empty or too long (there is no word)\n"
+        "refused 1: the length of the sheet, record, tight form or batch is not accepted (there is no word)\n"
     );
 }
 

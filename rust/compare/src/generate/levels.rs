@@ -179,7 +179,7 @@ pub fn damaged(rng: &mut Rng, table: &Given) -> Given {
 }
 
 /// An alphabet of a few levels; with one that is none, if so.
-fn alphabet(rng: &mut Rng, count: u32, beyond: bool) -> Alphabet {
+pub(super) fn alphabet_of(rng: &mut Rng, count: u32, beyond: bool) -> Alphabet {
     let drawn = Alphabet::draw(rng);
     let levels = u16::try_from(count).expect("few levels");
     let mut outcomes: Vec<_> = (0..rng.between(2, 5)).map(|_| rng.small(levels)).collect();
@@ -207,7 +207,7 @@ fn one(rng: &mut Rng) -> (Given, Case) {
     let levels = lattice(rng);
     let call = rng.pick(&CALLS);
     let beyond = rng.percent(3);
-    let alphabet = alphabet(rng, levels.count, beyond);
+    let alphabet = alphabet_of(rng, levels.count, beyond);
     let case = by_levels(&levels, || case(rng, &alphabet, call)).expect("an accepted table");
     if rng.percent(4) {
         (damaged(rng, &levels), case)
@@ -298,7 +298,7 @@ fn folds(rng: &mut Rng, alphabet: &Alphabet, below: usize) -> Residual {
 /// An accepted table, and a chain by it: its sheet has levels alone.
 pub fn chain_by(rng: &mut Rng) -> (Given, Chain) {
     let levels = lattice(rng);
-    let alphabet = alphabet(rng, levels.count, false);
+    let alphabet = alphabet_of(rng, levels.count, false);
     let sheet = sheet_of_chain(rng, &alphabet);
     let chain = Chain::over(rng, sheet).under(rng.pick(&numbers::SHEETS));
     (levels, chain)

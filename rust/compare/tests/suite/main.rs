@@ -1,5 +1,7 @@
 //! Tests of the calls, the format, the listing and the generated files.
 
+#[cfg(feature = "proved")]
+mod batches;
 mod codec;
 #[cfg(feature = "proved")]
 mod command;

@@ -1,8 +1,8 @@
 //! The C header says what the crate says.
 
 use vierskof::{
-    Levels, RECORD_WORDS, REGISTER_WORDS, Refusal, SHEET_WORDS, TABLE_BYTES, TIGHT_BYTES, WINDOWS,
-    room, tight_room,
+    BATCH_REQUESTS, Levels, RECORD_WORDS, REGISTER_WORDS, REQUEST_WORDS, Refusal, SHEET_WORDS,
+    TABLE_BYTES, TIGHT_BYTES, WINDOWS, room, tight_room,
 };
 
 const HEADER: &str = include_str!("../../../../include/vierskof.h");
@@ -43,6 +43,9 @@ fn limits_and_version_are_the_same() {
     assert_eq!(number("VIERSKOF_SET_NUMBERS"), 16);
     assert_eq!(number("VIERSKOF_REGISTER_WORDS"), REGISTER_WORDS);
     assert_eq!(number("VIERSKOF_NO_SHEET"), usize::from(u16::MAX) + 1);
+    assert_eq!(number("VIERSKOF_REQUEST_WORDS"), REQUEST_WORDS);
+    assert_eq!(number("VIERSKOF_BATCH_REQUESTS"), BATCH_REQUESTS);
+    assert_eq!(number("VIERSKOF_ALLOWANCE"), usize::from(u16::MAX));
     assert_eq!(number("VIERSKOF_OUTCOME_LEVELS"), Levels::MOST);
     assert_eq!(number("VIERSKOF_WINDOWS"), WINDOWS);
     assert_eq!(number("VIERSKOF_TIGHT_BYTES"), TIGHT_BYTES);
@@ -77,10 +80,11 @@ fn rooms_are_the_same() {
 #[test]
 fn each_output_is_restricted() {
     let calls: Vec<&str> = HEADER.split("\nuint64_t ").skip(1).collect();
-    assert_eq!(calls.len(), 24);
+    assert_eq!(calls.len(), 26);
     for call in calls {
         let (call, _) = call.split_once(");").expect("a prototype");
-        let writes = call.contains(" out,") || call.contains(" set,");
-        assert_eq!(writes, call.contains("*VIERSKOF_RESTRICT "), "{call}");
+        let outputs = [" out,", " set,", " replies,"].map(|output| call.matches(output).count());
+        let restricted = call.matches("*VIERSKOF_RESTRICT ").count();
+        assert_eq!(outputs.iter().sum::<usize>(), restricted, "{call}");
     }
 }

@@ -252,7 +252,7 @@ fn no_register_is_15() {
 #[test]
 fn numbers_and_refusals_belong_together() {
     let numbers = [
-        1, 2, 3, 4, 5, 6, 7, 8, 10, 11, 12, 13, 14, 15, 16, 17, 19, 20, 21,
+        1, 2, 3, 4, 5, 6, 7, 8, 10, 11, 12, 13, 14, 15, 16, 17, 18, 19, 20, 21,
     ];
     assert_eq!(numbers.len(), Refusal::ALL.len());
     for (number, &refusal) in numbers.into_iter().zip(Refusal::ALL) {
@@ -260,7 +260,7 @@ fn numbers_and_refusals_belong_together() {
         assert_eq!(u32::from(refusal), number);
         assert_eq!(Refusal::try_from(number), Ok(refusal));
     }
-    for number in [0, 9, 18, 22, u32::MAX] {
+    for number in [0, 9, 22, u32::MAX] {
         assert!(Refusal::try_from(number).is_err());
     }
     let sentences: BTreeSet<String> = Refusal::ALL.iter().map(ToString::to_string).collect();

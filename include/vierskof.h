@@ -1,5 +1,5 @@
 /*
- * The calls of libvierskof.a, which `rt staticlib vierskof` makes. For C99 and C++11. What sheets, records and tables look
+ * The calls of libvierskof.a, which `rt lib` makes in crates/vierskof. For C99 and C++11. What sheets, records and tables look
  * like is in docs/RULES.md: a table has two bits for each fact, fact 0 the top two of byte 0; 0 Absent, 1 Present, 2 Unknown.
  * A fact past its end is Absent; where it is consulted, the record's entry has presence 3, silent, and not 0.
  *

@@ -13,7 +13,7 @@ use Rattle.model.specs.Consulted.{Consulted}
 use Rattle.model.specs.Record.{Record}
 use Rattle.model.specs.Writing.{entry_field}
 use Rattle.model.specs.Products.{Outcome}
-use Rattle.laws.specs.Lengths.{length_encode_d, length_encode_r}
+use Rattle.laws.proofs.Lengths.{length_encode_d, length_encode_r}
 use Rattle.packing.specs.Written as packing
 use Rattle.packing.specs.WrittenLaws.{written_lent, written_same}
 use Rattle.record.specs.Nodes.{front_words}
@@ -23,7 +23,7 @@ use Rattle.decision.specs.Meaning.{decision_of}
 use Rattle.decision.specs.Answers.{Held}
 use Rattle.clause.specs.Clauses.{decision_size, countable}
 use Rattle.clause.specs.Answers.{Gathered, ClauseFacts, DecisionWritten}
-use Rattle.clause.specs.AnswerLaws.{gathered, decision_size_lem, decision_short, node_small, few_facts}
+use Rattle.clause.proofs.AnswerLaws.{gathered, decision_size_lem, decision_short, node_small, few_facts}
 use Rattle.answer.specs.declared.Answer.TheVariants.{Written, Refused}
 use Rattle.answer.specs.Answers.{Put}
 use Rattle.answer.proofs.Writing.{words_of, no_room, long_list, written_record}

@@ -12,7 +12,7 @@ use Rattle.model.specs.Record.{Record, tree}
 use Rattle.model.specs.Writing.{short}
 use Rattle.model.specs.Reading.{record_length}
 use Rattle.model.specs.Products.{Outcome, encode_r, fits, write}
-use Rattle.laws.specs.Lengths.{length_encode_r}
+use Rattle.laws.proofs.Lengths.{length_encode_r}
 use Rattle.packing.specs.Written as packing
 use Rattle.answer.specs.declared.Answer.TheVariants.{Written, Refused}
 use Rattle.answer.specs.Answers.{Answered, copied}

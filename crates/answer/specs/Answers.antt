@@ -10,8 +10,8 @@ use Rattle.model.specs.Writing.{entry_bits, entry_field}
 use Rattle.model.specs.Calls as model
 use Rattle.model.specs.Products.{Outcome, read_policy, write}
 use Rattle.model.specs.Reading.{levels}
-use Rattle.laws.specs.FieldLaws.{Holds}
-use Rattle.laws.specs.ReadForm.{Named}
+use Rattle.laws.proofs.FieldLaws.{Holds}
+use Rattle.laws.proofs.ReadForm.{Named}
 use Rattle.decision.specs.declared.Decision.{Decision}
 use Rattle.decision.specs.Meaning.{decision_of, Sound}
 use Rattle.answer.specs.declared.Answer.{Answer}

@@ -1,4 +1,6 @@
 // What a call answers: a record of words that was written, or a numbered refusal that leaves the output as it was.
+#![tactic(auto)]
+
 ghost use Rattle.std.specs.Prelude.{◌^◌, ◌≤◌, ◌<◌, length};
 ghost use Rattle.model.specs.Facts.{fact_count, table_of};
 ghost use Rattle.decision.specs.Room.{RoomToUnite, Few};

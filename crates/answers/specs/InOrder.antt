@@ -1,6 +1,6 @@
 -- Made by: cargo run --release --offline -p compare -- rows --seed 1 --count 900 --part in_order
-use Rattle.std.specs.Prelude.{List, [], ◌∷◌, ℕ}
-use Rattle.model.specs.Worked.{Row, evaluates, completes, reduces, narrows, reduces_in_order, narrows_in_order, row_under, refuses, writes}
+use Rattle.std.specs.Prelude.{List, [], ◌∷◌}
+use Rattle.model.specs.Worked.{Row, reduces_in_order, narrows_in_order, row_under, refuses, writes}
 
 abbrev pub rows : List Row
 rows =

@@ -18,9 +18,9 @@ use Rattle.model.specs.Levels.{OutcomeTable, outcomes_of, outcome_count}
 use Rattle.model.specs.Products.{Outcome}
 use Rattle.model.specs.Visits.{visits}
 use Rattle.model.specs.Batch.{reply_of, unless_over, visited, evaluate_within, decide_by}
-use Rattle.laws.specs.Deeper.{follows_got}
-use Rattle.laws.specs.Wider.{sheet_among}
-use Rattle.laws.specs.BatchLaws.{within}
+use Rattle.laws.proofs.Deeper.{follows_got}
+use Rattle.laws.proofs.Wider.{sheet_among}
+use Rattle.laws.proofs.BatchLaws.{within}
 use Rattle.policy_model.specs.Answers.{refusal}
 use Rattle.policy_model.proofs.Records.{was_read}
 use Rattle.evaluate.proofs.Nodes.{held_at}

@@ -13,7 +13,7 @@ use Rattle.model.specs.Levels.{outcomes_of, accepts}
 use Rattle.model.specs.Register.{entries_of, is_register}
 use Rattle.model.specs.Batch as model
 use Rattle.model.specs.Batch.{Handed, handed_over, requests_of, request_count, turned_back, answers, is_batch, unless_part, unless_faulty, on_handed, unless_few, replies, batch}
-use Rattle.laws.specs.LevelLaws.{good}
+use Rattle.laws.proofs.LevelLaws.{good}
 use Rattle.outcome.specs.Carried.{table, carried}
 use Rattle.outcome.specs.CarriedLaws.{carried_none, carried_some}
 use Rattle.batch.specs.declared.Batch.{Batch}
@@ -32,9 +32,9 @@ module _ (o : Option (List Handed)) (k : List Handed → model.Batch) where
 by_tests : (o : Option (List Handed)) (k : List Handed → model.Batch) (part fine few p f w : Bool) → part ≡ p → fine ≡ f → few ≡ w → Tested o k part fine few ≡ Tested o k p f w
 by_tests o k part fine few p f w a b c = ap (λ x. Tested o k x fine few) a ∙ ap (λ x. Tested o k p x few) b ∙ ap (λ x. Tested o k p f x) c
 
-module _ {places placesAfter out outAfter : List ℕ} {r : Batch} where
-  whole : (o : Option (List Handed)) (k : List Handed → model.Batch) → is_whole o ≡ true → ((hs : List Handed) → o ≡ some hs → Runs (k hs) places placesAfter out outAfter r) →
-      Runs (on_handed o k) places placesAfter out outAfter r
+module _ {places places_after out out_after : List ℕ} {r : Batch} where
+  whole : (o : Option (List Handed)) (k : List Handed → model.Batch) → is_whole o ≡ true → ((hs : List Handed) → o ≡ some hs → Runs (k hs) places places_after out out_after r) →
+      Runs (on_handed o k) places places_after out out_after r
   whole none k e h = let z : ◌≡◌ {A = ℕ} 0 1 = cc in absurd (omega arith)
   whole (some hs) k e h = h hs refl
 
@@ -76,27 +76,27 @@ module _ (L : Outcomes) (entries sheets requests : List ℕ) (allowance : ℕ) (
             subst (λ b. Runs b places places out out (Refused 11)) (sym (by true true false p f (lt-leb (request_count requests) (length places) h)))
             (whole (handed_over sheets) (λ hs. unless_few false (Answers hs)) s (λ hs e. turned 11))
 
-        pub ran : request_count requests ≤ length places → {placesAfter outAfter : List ℕ} {r : Batch} →
-            ((hs : List Handed) → handed_over sheets ≡ some hs → Runs (Answers hs) places placesAfter out outAfter r) → Runs Call places placesAfter out outAfter r
-        ran h {placesAfter} {outAfter} {r} k =
-            subst (λ b. Runs b places placesAfter out outAfter r) (sym (by true true true p f (le-leb (request_count requests) (length places) h)))
+        pub ran : request_count requests ≤ length places → {places_after out_after : List ℕ} {r : Batch} →
+            ((hs : List Handed) → handed_over sheets ≡ some hs → Runs (Answers hs) places places_after out out_after r) → Runs Call places places_after out out_after r
+        ran h {places_after} {out_after} {r} k =
+            subst (λ b. Runs b places places_after out out_after r) (sym (by true true true p f (le-leb (request_count requests) (length places) h)))
             (whole (handed_over sheets) (λ hs. unless_few true (Answers hs)) s k)
 
 -- ---- by an outcome table or without, as the calls are (crate calls, proofs/Levels)
 abbrev ByTable : Bool → (Outcomes → model.Batch) → Outcomes → model.Batch
 ByTable accepted call L = cond accepted (call L) (turned_back 21)
 
-module _ (call : Outcomes → model.Batch) {places placesAfter out outAfter : List ℕ} {r : Batch} where
-  pub without_table : (bs : List ℕ) → Runs (call (outcomes_of (carried 0 bs))) places placesAfter out outAfter r → Runs (call (outcomes_of none)) places placesAfter out outAfter r
-  without_table bs h = subst (λ g. Runs (call (outcomes_of g)) places placesAfter out outAfter r) (carried_none 0 bs refl) h
+module _ (call : Outcomes → model.Batch) {places places_after out out_after : List ℕ} {r : Batch} where
+  pub without_table : (bs : List ℕ) → Runs (call (outcomes_of (carried 0 bs))) places places_after out out_after r → Runs (call (outcomes_of none)) places places_after out out_after r
+  without_table bs h = subst (λ g. Runs (call (outcomes_of g)) places places_after out out_after r) (carried_none 0 bs refl) h
 
   -- The code hands on its own count of levels, m.
-  pub with_table : (m : ℕ) (bs : List ℕ) → Runs (call (outcomes_of (carried m bs))) places placesAfter out outAfter r → (n : ℕ) → m ≡ n → accepts (table n bs) ≡ true →
-      Runs (ByTable (accepts (table n bs)) call (outcomes_of (some (table n bs)))) places placesAfter out outAfter r
+  pub with_table : (m : ℕ) (bs : List ℕ) → Runs (call (outcomes_of (carried m bs))) places places_after out out_after r → (n : ℕ) → m ≡ n → accepts (table n bs) ≡ true →
+      Runs (ByTable (accepts (table n bs)) call (outcomes_of (some (table n bs)))) places places_after out out_after r
   with_table m bs h n same e =
       let g : carried m bs ≡ some (table n bs) = ap (λ k. carried k bs) same ∙ carried_some n bs (λ z. omega (arith, (good (table n bs) e).some_levels)) in
-      subst (λ b. Runs (ByTable b call (outcomes_of (some (table n bs)))) places placesAfter out outAfter r) (sym e)
-      (subst (λ g. Runs (call (outcomes_of g)) places placesAfter out outAfter r) g h)
+      subst (λ b. Runs (ByTable b call (outcomes_of (some (table n bs)))) places places_after out out_after r) (sym e)
+      (subst (λ g. Runs (call (outcomes_of g)) places places_after out out_after r) g h)
 
 pub table_refused : (call : Outcomes → model.Batch) (n : ℕ) (bs : List ℕ) → accepts (table n bs) ≡ false → {places out : List ℕ} →
     Runs (ByTable (accepts (table n bs)) call (outcomes_of (some (table n bs)))) places places out out (Refused 21)

@@ -12,7 +12,7 @@ use Rattle.model.specs.Reading.{record_words}
 use Rattle.model.specs.Register.{Entry, in_force}
 use Rattle.model.specs.Batch as model
 use Rattle.model.specs.Batch.{Handed, handed_over, Request, request_words, request_of, requests_of, request_count, nodes_of, record_of, reply_number, records_of, numbers_of, answers, output_after, replies_after, of_entry, reply, replies}
-use Rattle.laws.specs.BatchLaws.{decided_within, decided_fits, decided_few}
+use Rattle.laws.proofs.BatchLaws.{decided_within, decided_fits, decided_few}
 use Rattle.batch.specs.declared.Reply.{Reply}
 use Rattle.batch.specs.declared.Batch.TheVariants as batch
 use Rattle.batch.specs.Answers.{is_whole, reply_meant, number_of, nodes_in, words_in, Replies, Runs}

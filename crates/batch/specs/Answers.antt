@@ -72,7 +72,7 @@ returned (batch.Written n) = n
 returned (batch.Refused n) = n * 2 ^ 32
 
 -- The batch is the model's: its answer, the places for the replies and the output afterwards.
-pub record Runs (b : model.Batch) (places placesAfter out outAfter : List ℕ) (r : Batch) : Type 0 where
+pub record Runs (b : model.Batch) (places places_after out out_after : List ℕ) (r : Batch) : Type 0 where
   pub batch_is : r ≡ batch_meant b
-  pub replies_are : placesAfter ≡ replies_after b places
-  pub output_is : outAfter ≡ output_after b out
+  pub replies_are : places_after ≡ replies_after b places
+  pub output_is : out_after ≡ output_after b out

@@ -1,6 +1,8 @@
 // The release desk's batch: each request is decided by the sheet in force, out of those handed over, within an allowance of visited nodes, and the records
 // follow one another in one output. Request 10.
-ghost use Rattle.std.specs.Prelude.{◌≡◌, true, List, ◌++◌, ◌+◌, ◌*◌, ◌^◌, ◌≤◌, ◌<◌, take, drop, length as List·length};
+#![tactic(auto)]
+
+ghost use Rattle.std.specs.Prelude.{◌≡◌, true, List, ◌++◌, ◌+◌, ◌*◌, ◌^◌, ◌≤◌, ◌<◌, take, drop, length as list_length};
 ghost use Rattle.std.proofs.Math.Option.{none, some};
 ghost use Rattle.model.specs.Fields.{split};
 ghost use Rattle.model.specs.Writing.{sheet_bits};
@@ -8,7 +10,7 @@ ghost use Rattle.model.specs.Reading.{record_words};
 ghost use Rattle.model.specs.Register.{register_words, entries_of};
 ghost use Rattle.model.specs.Levels.{outcomes_of};
 ghost use Rattle.model.specs.Batch.{table_words, request_words, table_in, request_of, requests_of, request_count, Handed, handed_over, is_batch, decide_by, reply, answers, batch, evaluate_batch};
-ghost use Rattle.model.specs.Batch.{replies as Batch·replies};
+ghost use Rattle.model.specs.Batch.{replies as batch_replies};
 ghost use Rattle.outcome.specs.Carried.{table, carried};
 ghost use Rattle.batch.specs.Answers.{handed, is_whole, Finds, number_of, nodes_in, words_in, Replies, Runs};
 
@@ -40,7 +42,7 @@ pub enum Batch {
 }
 
 // What a request comes to: none, the number of its refusal, or the words written and the nodes visited.
-#[derive(Drop)]
+#[derive(Clone, Copy)]
 enum Reply {
     NoSheet,
     Refused(u32),
@@ -105,7 +107,7 @@ fn find_sheet(sheets: &[u32], number: u32) -> Found
 
 // The four bytes of a word at `at`.
 fn put_word(bytes: &mut [u8; 256], at: usize, word: u32)
-    requires { (at + 4 ≤ 256) × (List·length bytes.old ≡ 256) }
+    requires { (at + 4 ≤ 256) × (list_length bytes.old ≡ 256) }
     ensures { bytes.new ≡ take at bytes.old ++ (split 8 4 word ++ drop (at + 4) bytes.old) }
 {
     bytes[at] = (word / 16777216) as u8;
@@ -116,8 +118,8 @@ fn put_word(bytes: &mut [u8; 256], at: usize, word: u32)
 
 // The table of the request whose table's words start at `at`: the words that hold its `length` bytes.
 fn load_table(requests: &[u32], at: usize, length: usize, bytes: &mut [u8; 256])
-    requires { (length ≤ 256) × (at + table_words ≤ List·length requests.now) × (List·length bytes.old ≡ 256) }
-    ensures { (take length bytes.new ≡ table_in length (take table_words (drop at requests.now))) × (List·length bytes.new ≡ 256) }
+    requires { (length ≤ 256) × (at + table_words ≤ list_length requests.now) × (list_length bytes.old ≡ 256) }
+    ensures { (take length bytes.new ≡ table_in length (take table_words (drop at requests.now))) × (list_length bytes.new ≡ 256) }
 {
     let mut i = 0;
     while 4 * i < length {
@@ -137,7 +139,7 @@ fn decide_by(
     out: &mut [u32],
 ) -> Reply
     requires { number < 2 ^ sheet_bits }
-    ensures { Replies (decide_by (outcomes_of (carried outcome_levels outcomes.now)) (some (handed number sheet.now)) facts.now left (List·length out.old)) out.old out.new result }
+    ensures { Replies (decide_by (outcomes_of (carried outcome_levels outcomes.now)) (some (handed number sheet.now)) facts.now left (list_length out.old)) out.old out.new result }
 {
     match calls::judge_sheet(sheet, number, facts, true, outcome_levels) {
         SheetCheck::Refused(cause) => Reply::Refused(cause),
@@ -165,8 +167,8 @@ fn decide_request(
     left: u32,
     out: &mut [u32],
 ) -> Reply
-    requires { (number < 2 ^ sheet_bits) × (at + request_words ≤ List·length requests.now) }
-    ensures { Replies (decide_by (outcomes_of (carried outcome_levels outcomes.now)) (some (handed number sheet.now)) (request_of (drop at requests.now)).facts left (List·length out.old)) out.old out.new result }
+    requires { (number < 2 ^ sheet_bits) × (at + request_words ≤ list_length requests.now) }
+    ensures { Replies (decide_by (outcomes_of (carried outcome_levels outcomes.now)) (some (handed number sheet.now)) (request_of (drop at requests.now)).facts left (list_length out.old)) out.old out.new result }
 {
     let length = (requests[at] % LENGTHS) as usize;
     if length > TABLE_BYTES {
@@ -202,8 +204,8 @@ fn reply_to(
     left: u32,
     out: &mut [u32],
 ) -> Reply
-    requires { (List·length entries.now ≤ register_words) × (at + request_words ≤ List·length requests.now) }
-    ensures { (hs : List Handed) → handed_over sheets.now ≡ some hs → Replies (reply (outcomes_of (carried outcome_levels outcomes.now)) (entries_of entries.now) hs left (List·length out.old) (request_of (drop at requests.now))) out.old out.new result }
+    requires { (list_length entries.now ≤ register_words) × (at + request_words ≤ list_length requests.now) }
+    ensures { (hs : List Handed) → handed_over sheets.now ≡ some hs → Replies (reply (outcomes_of (carried outcome_levels outcomes.now)) (entries_of entries.now) hs left (list_length out.old) (request_of (drop at requests.now))) out.old out.new result }
 {
     match register::in_force(entries, requests[at] / LENGTHS, requests[at + 1]) {
         Latest::Nothing => Reply::NoSheet,
@@ -272,8 +274,8 @@ fn run(
     replies: &mut [u64],
     out: &mut [u32],
 ) -> usize
-    requires { (List·length entries.now ≤ register_words) × (is_whole (handed_over sheets.now) ≡ true) × (request_count requests.now ≤ List·length replies.old) }
-    ensures { (hs : List Handed) → handed_over sheets.now ≡ some hs → Runs (answers (Batch·replies (outcomes_of (carried outcome_levels outcomes.now)) (entries_of entries.now) hs allowance (List·length out.old) (requests_of (request_count requests.now) requests.now))) replies.old replies.new out.old out.new (Batch.Written result) }
+    requires { (list_length entries.now ≤ register_words) × (is_whole (handed_over sheets.now) ≡ true) × (request_count requests.now ≤ list_length replies.old) }
+    ensures { (hs : List Handed) → handed_over sheets.now ≡ some hs → Runs (answers (batch_replies (outcomes_of (carried outcome_levels outcomes.now)) (entries_of entries.now) hs allowance (list_length out.old) (requests_of (request_count requests.now) requests.now))) replies.old replies.new out.old out.new (Batch.Written result) }
 {
     let count = requests.len() / REQUEST_WORDS;
     let mut left = allowance;
@@ -310,7 +312,7 @@ fn evaluate_batch_by(
     replies: &mut [u64],
     out: &mut [u32],
 ) -> Batch
-    ensures { Runs (batch (outcomes_of (carried outcome_levels outcomes.now)) entries.now sheets.now requests.now allowance (List·length replies.old) (List·length out.old)) replies.old replies.new out.old out.new result }
+    ensures { Runs (batch (outcomes_of (carried outcome_levels outcomes.now)) entries.now sheets.now requests.now allowance (list_length replies.old) (list_length out.old)) replies.old replies.new out.old out.new result }
 {
     if !is_batch(requests, allowance) {
         return Batch::Refused(1);
@@ -345,7 +347,7 @@ pub fn evaluate_batch(
     replies: &mut [u64],
     out: &mut [u32],
 ) -> Batch
-    ensures { Runs (evaluate_batch none entries.now sheets.now requests.now allowance (List·length replies.old) (List·length out.old)) replies.old replies.new out.old out.new result }
+    ensures { Runs (evaluate_batch none entries.now sheets.now requests.now allowance (list_length replies.old) (list_length out.old)) replies.old replies.new out.old out.new result }
 {
     let none = [0u8; 1];
     evaluate_batch_by(0, &none, entries, sheets, requests, allowance, replies, out)
@@ -362,7 +364,7 @@ pub fn evaluate_batch_by_levels(
     replies: &mut [u64],
     out: &mut [u32],
 ) -> Batch
-    ensures { Runs (evaluate_batch (some (table levels outcomes.now)) entries.now sheets.now requests.now allowance (List·length replies.old) (List·length out.old)) replies.old replies.new out.old out.new result }
+    ensures { Runs (evaluate_batch (some (table levels outcomes.now)) entries.now sheets.now requests.now allowance (list_length replies.old) (list_length out.old)) replies.old replies.new out.old out.new result }
 {
     if outcome_table::accepts(levels, outcomes) {
         return evaluate_batch_by(

@@ -1,12 +1,12 @@
 -- Runs of bits in parts: of numbers, and of bytes.
-use Rattle.std.specs.Prelude.{◌≡◌, refl, List, [], ◌∷◌, ◌++◌, ℕ, zero, suc, ◌+◌, ◌-◌, ◌*◌, ◌/◌, ◌%◌, ◌^◌, ◌≤◌, ◌<◌, length, take, drop, get_or, replicate}
-use Rattle.std.proofs.Common.{sym, ◌∙◌, ap, ap₂, subst, append_assoc, append-nil, arith, pow_pos, pow-add, shr-shr, length-append, length-drop}
+use Rattle.std.specs.Prelude.{◌≡◌, refl, List, [], ◌∷◌, ◌++◌, ℕ, zero, suc, ◌+◌, ◌*◌, ◌/◌, ◌%◌, ◌^◌, ◌<◌, take, drop, replicate}
+use Rattle.std.proofs.Common.{sym, ◌∙◌, ap, ap₂, subst, append_assoc, arith, pow_pos, shr-shr}
 use native.Mathlib.Nat.{mod-lt, mod-eq_of_lt}
 use Rattle.std.proofs.Math.Pow.{field, mod-mod-pow}
 use lib.Seq.{drop_at, drop-drop, drop-nil, take_at, take-nil}
-use Rattle.model.specs.Fields.{split, joined}
+use Rattle.model.specs.Fields.{split}
 use Rattle.model.specs.Bits.{bits_of, run_of}
-use Rattle.laws.specs.BitLaws.{length_bits_lem, length_run}
+use Rattle.laws.proofs.BitLaws.{length_bits_lem}
 
 one : (n : ℕ) → 1 * n ≡ n
 one n = omega arith

@@ -9,8 +9,8 @@ use Rattle.std.proofs.Math.Seq.{take-append-add}
 use Rattle.model.specs.Fields.{split, words_for}
 use Rattle.model.specs.Bits.{bits_of, run_of, bytes_of}
 use Rattle.laws.specs.FieldAt.{Narrow}
-use Rattle.laws.specs.FieldAtLaws.{split_place}
-use Rattle.laws.specs.BitLaws.{length_bits_lem, length_run, same_bytes}
+use Rattle.laws.proofs.ShiftLaws.{split_place}
+use Rattle.laws.proofs.BitLaws.{length_bits_lem, length_run, same_bytes}
 use Rattle.packing.specs.Written.{Written}
 use Rattle.packing.specs.WrittenLaws.{written_front, written_long}
 use Rattle.bits.specs.RunLaws.{bits_parted, bits_none, run_append, run_drop, run_take, run_split}

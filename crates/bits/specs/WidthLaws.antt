@@ -1,5 +1,5 @@
 -- The widths, case by case.
-use Rattle.std.specs.Prelude.{◌≡◌, refl, Bool, cond, true, false, ℕ, zero, suc, ◌+◌, ◌≤◌, ◌<◌, eqb, ltb}
+use Rattle.std.specs.Prelude.{◌≡◌, refl, Bool, cond, true, false, ℕ, zero, suc, ◌≤◌, ◌<◌, eqb, ltb}
 use Rattle.std.proofs.Common.{sym, ap, arith, lt-ltb, le-ltb, eq-eqb, ne_eqb}
 use Rattle.model.specs.Fields.{bits}
 use Rattle.bits.specs.Widths.{plain_width, mark_width, denied_width}

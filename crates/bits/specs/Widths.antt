@@ -1,5 +1,5 @@
 -- The widths of fields that depend on what the node says. Request 11.
-use Rattle.std.specs.Prelude.{cond, List, [], ◌∷◌, ℕ, ◌+◌, ◌^◌, eqb, ltb, get_or}
+use Rattle.std.specs.Prelude.{cond, [], ◌∷◌, ℕ, ◌+◌, ◌^◌, eqb, ltb, get_or}
 use Rattle.model.specs.Fields.{bits}
 use Rattle.model.specs.Facts.{fact_bits}
 use Rattle.model.specs.Outcome.{outcome_bits}

@@ -1,12 +1,11 @@
 -- A field of a run of bits, seen through four bytes, with 0 bits past the end.
-use Rattle.std.specs.Prelude.{◌≡◌, refl, List, [], ◌∷◌, ◌++◌, ℕ, zero, suc, ◌+◌, ◌-◌, ◌*◌, ◌/◌, ◌%◌, ◌^◌, ◌≤◌, ◌<◌, length, drop, get_or, replicate}
-use Rattle.std.proofs.Common.{sym, ◌∙◌, ap, ap₂, subst, append_assoc, append-nil, mod-lt, mod-eq_of_lt, arith, pow_pos, shr_lt, shl_exact, length-append, length-drop, drop_at, drop-drop, get_or-drop}
-use Rattle.std.proofs.Math.Nat.{mod-one}
+use Rattle.std.specs.Prelude.{◌≡◌, refl, List, [], ◌∷◌, ◌++◌, ℕ, zero, suc, ◌+◌, ◌-◌, ◌*◌, ◌/◌, ◌%◌, ◌^◌, ◌≤◌, ◌<◌, drop, get_or, replicate}
+use Rattle.std.proofs.Common.{sym, ◌∙◌, ap, subst, append_assoc, append-nil, mod-lt, arith, pow_pos, shr_lt, shl_exact, drop_at, drop-drop}
 use Rattle.std.proofs.Math.Pow.{field}
 use Rattle.std.proofs.Math.Seq.{drop-nil}
 use Rattle.model.specs.Fields.{split, joined}
 use Rattle.model.specs.Bits.{bits_of, run_of}
-use Rattle.laws.specs.BitLaws.{joined_front, joined_bits, length_bits_lem, length_run}
+use Rattle.laws.proofs.BitLaws.{joined_front, joined_bits, length_bits_lem}
 use Rattle.bits.specs.RunLaws.{bits_parted, bits_none, run_drop, run_split, run_append}
 
 -- Four bytes as one number, 0 past the end; and that they are bytes.

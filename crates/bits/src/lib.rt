@@ -1,4 +1,6 @@
 // The tight form's bits, most significant first: fields in a run of bits that stands in bytes, and the widths of a node's fields.
+#![tactic(auto)]
+
 ghost use Rattle.std.specs.Prelude.{◌≡◌, ◌+◌, ◌*◌, ◌^◌, ◌≤◌, ◌<◌, length, drop, get_or};
 ghost use Rattle.model.specs.Fields.{joined};
 ghost use Rattle.model.specs.Bits.{run_of};

@@ -9,7 +9,7 @@ use lib.Dec.{eqb, ltb}
 use lib.ListN.{get_or, take}
 use Rattle.model.specs.Required.{total}
 use Rattle.model.specs.Calendar.{Date, leap, months, month_days, first_year, last_year, exists, years_days, day_number, before, leap_day, anniversary_in}
-use Rattle.laws.specs.CalendarLaws.{real, small}
+use Rattle.laws.proofs.CalendarLaws.{real, small}
 
 abbrev pub days_of : List ℕ
 days_of = 0 ∷ 31 ∷ 28 ∷ 31 ∷ 30 ∷ 31 ∷ 30 ∷ 31 ∷ 31 ∷ 30 ∷ 31 ∷ 30 ∷ 31 ∷ []

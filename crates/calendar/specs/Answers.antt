@@ -1,5 +1,5 @@
 -- What a date and an age of the code stand for.
-use Rattle.std.specs.Prelude.{ℕ, ℤ, pos, negsuc}
+use Rattle.std.specs.Prelude.{ℤ, pos, negsuc}
 use Rattle.model.specs.Calendar as model
 use Rattle.calendar.specs.declared.Date.{Date}
 use Rattle.calendar.specs.declared.Age.{Age}

@@ -1,11 +1,13 @@
 // Gregorian dates from 1900 to 2199: whether a date exists, the number of its day, and ages in days and in completed years.
+#![tactic(auto)]
+
 ghost use Rattle.std.specs.Prelude.{◌≡◌, true, not, ◌≤◌};
 ghost use Rattle.std.proofs.Math.IntN.{sub_ℕ};
-ghost use Rattle.model.specs.Calendar.{leap, month_days, exists as Calendar·exists, unknown_date, years_days, day_number, before, anniversary_in, age_in_days, age_in_years};
+ghost use Rattle.model.specs.Calendar.{leap, month_days, exists as date_exists, unknown_date, years_days, day_number, before, anniversary_in, age_in_days, age_in_years};
 ghost use Rattle.model.specs.Windows.{bad_date};
 ghost use Rattle.calendar.specs.Answers.{date_of, shown};
 
-#[derive(Drop)]
+#[derive(Clone, Copy)]
 pub struct Date {
     pub year: u32,
     pub month: u32,
@@ -57,7 +59,7 @@ fn month_days(year: u32, month: u32) -> u32
 }
 
 pub fn exists(date: Date) -> bool
-    ensures { result ≡ Calendar·exists (date_of date) }
+    ensures { result ≡ date_exists (date_of date) }
 {
     if date.year < FIRST_YEAR {
         return false;
@@ -111,7 +113,7 @@ fn years_days(years: u32) -> u32
 
 // Days since 1900-01-01.
 fn day_number(date: Date) -> u32
-    requires { Calendar·exists (date_of date) ≡ true }
+    requires { date_exists (date_of date) ≡ true }
     ensures { result ≡ day_number (date_of date) }
 {
     let month = date.month as usize;
@@ -170,7 +172,7 @@ fn age_between(from: u32, to: u32) -> Age
 }
 
 pub fn age_in_days(reading: Date, today: Date) -> Age
-    requires { (Calendar·exists (date_of reading) ≡ true) × (Calendar·exists (date_of today) ≡ true) }
+    requires { (date_exists (date_of reading) ≡ true) × (date_exists (date_of today) ≡ true) }
     ensures { result ≡ shown (age_in_days (date_of reading) (date_of today)) }
 {
     age_between(day_number(reading), day_number(today))
@@ -178,7 +180,7 @@ pub fn age_in_days(reading: Date, today: Date) -> Age
 
 // The greatest number of years whose anniversary isn't after today.
 pub fn age_in_years(reading: Date, today: Date) -> Age
-    requires { Calendar·exists (date_of today) ≡ true }
+    requires { date_exists (date_of today) ≡ true }
     ensures { result ≡ shown (age_in_years (date_of reading) (date_of today)) }
 {
     if is_before(today, anniversary_in(reading, today.year)) {

@@ -8,7 +8,7 @@ use native.Mathlib.Omega.{arith}
 use Rattle.model.specs.Outcome.{Outcomes}
 use Rattle.model.specs.Levels.{outcomes_of, accepts, by_table}
 use Rattle.model.specs.Calls as model
-use Rattle.laws.specs.LevelLaws.{good, by_accepted, by_refused}
+use Rattle.laws.proofs.LevelLaws.{good, by_accepted, by_refused}
 use Rattle.outcome.specs.Carried.{table, carried}
 use Rattle.outcome.specs.CarriedLaws.{carried_none, carried_some}
 use Rattle.answer.specs.declared.Answer.{Answer}

@@ -24,12 +24,12 @@ use Rattle.model.specs.Levels.{OutcomeTable, outcome_count}
 use Rattle.model.specs.Products.{Outcome, encode, encode_r, lead_kind, read_policy, read_record, fits, write, policy_at}
 use Rattle.laws.specs.Size.{pairs}
 use Rattle.laws.specs.Form.{Countable, FormD}
-use Rattle.laws.specs.Lengths.{length_numbered}
+use Rattle.laws.proofs.Lengths.{length_numbered}
 use Rattle.laws.specs.Products.{InRange, written_products}
-use Rattle.laws.specs.ReadForm.{ok_record}
-use Rattle.laws.specs.Canon.{same_record}
-use Rattle.laws.specs.Deeper.{follows_got}
-use Rattle.laws.specs.Wider.{record_among}
+use Rattle.laws.proofs.ReadForm.{ok_record}
+use Rattle.laws.proofs.Canon.{same_record}
+use Rattle.laws.proofs.Deeper.{follows_got}
+use Rattle.laws.proofs.Wider.{record_among}
 use Rattle.policy_model.specs.Answers.{Lead, lead_of, record_lead}
 use Rattle.policy_model.specs.declared.RecordCheck.TheVariants.{Resolved, Pending}
 use Rattle.policy_model.proofs.Records.{record_parts, lead_is_lem}

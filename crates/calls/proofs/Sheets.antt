@@ -17,8 +17,8 @@ use Rattle.model.specs.Calls as model
 use Rattle.model.specs.Calls.{is_sheet_number}
 use Rattle.model.specs.Levels.{OutcomeTable, outcome_count}
 use Rattle.model.specs.Products.{Outcome, write}
-use Rattle.laws.specs.Deeper.{follows_got}
-use Rattle.laws.specs.Wider.{sheet_among}
+use Rattle.laws.proofs.Deeper.{follows_got}
+use Rattle.laws.proofs.Wider.{sheet_among}
 use Rattle.policy_model.specs.Answers.{refusal}
 use Rattle.policy_model.proofs.Records.{sheet_tree, was_read}
 use Rattle.evaluate.proofs.Nodes.{held_at}

@@ -1,4 +1,6 @@
 // The calls that write a record, after gatekeep's evaluate and partial: words and bytes in, a record of words out, or a numbered refusal that leaves the output as it was.
+#![tactic(auto)]
+
 ghost use Rattle.std.specs.Prelude.{◌≡◌, List, ℕ, ◌≤◌, length};
 ghost use Rattle.std.proofs.Math.Option.{none, some};
 ghost use Rattle.outcome.specs.Carried.{table, carried};
@@ -7,7 +9,7 @@ ghost use Rattle.model.specs.Partial.{permits_first, sheet_order};
 ghost use Rattle.model.specs.Reading.{record_words};
 ghost use Rattle.model.specs.Calls.{has_number, is_sheet_number};
 ghost use Rattle.model.specs.Products.{evaluate_by, partial_evaluate_by, narrow_residual_by, complete_residual_by};
-ghost use Rattle.model.specs.Products.{evaluate as Calls·evaluate, partial_evaluate, narrow_residual, complete_residual};
+ghost use Rattle.model.specs.Products.{evaluate as calls_evaluate, partial_evaluate, narrow_residual, complete_residual};
 ghost use Rattle.facts.specs.Answers.{fault_of};
 ghost use Rattle.policy_model.specs.Answers.{refusal, sheet_refusal, lead_of, record_lead};
 ghost use Rattle.answer.specs.Answers.{Answered, Makes};
@@ -241,7 +243,7 @@ pub fn evaluate_by_levels(
     facts: &[u8],
     out: &mut [u32],
 ) -> Answer
-    ensures { Answered (Calls·evaluate (some (table levels outcomes.now)) number sheet.now facts.now (length out.old)) out.old out.new result }
+    ensures { Answered (calls_evaluate (some (table levels outcomes.now)) number sheet.now facts.now (length out.old)) out.old out.new result }
 {
     if outcome_table::accepts(levels, outcomes) {
         return evaluate_by(levels as u16, outcomes, sheet, number, facts, out);

@@ -10,9 +10,9 @@ use Rattle.model.specs.Fields.{words_for, pack}
 use Rattle.model.specs.Writing.{entry_bits, most_listed}
 use Rattle.model.specs.Reading.{read_list, listed}
 use Rattle.laws.specs.FieldAt.{field_at}
-use Rattle.laws.specs.FieldAtLaws.{fact_field}
-use Rattle.laws.specs.FieldLaws.{weaker, both_hold, same_list_lem}
-use Rattle.laws.specs.ReadForm.{same_listed, ok_facts}
+use Rattle.laws.proofs.FieldAtLaws.{fact_field}
+use Rattle.laws.proofs.FieldLaws.{weaker, both_hold, same_list_lem}
+use Rattle.laws.proofs.ReadForm.{same_listed, ok_facts}
 use Rattle.clause.specs.Answers.{FactsListed}
 
 -- The first i fields stand at the front.

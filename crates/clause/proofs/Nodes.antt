@@ -19,9 +19,9 @@ use Rattle.model.specs.Policy.{Policy, grant, pnil, pcons}
 use Rattle.model.specs.Writing.{obligation_bits, entry_bits, most_listed}
 use Rattle.model.specs.Reading.{Parsed, refuse, got, read_list, obligation, listed, mark, many, shape_of, read_condition}
 use Rattle.model.specs.Products.{Outcome, read_policy}
-use Rattle.laws.specs.FieldLaws.{Holds, fine, nothing, if_holds, weaker, then_holds, same_list_lem}
-use Rattle.laws.specs.Lengths.{length_pack}
-use Rattle.laws.specs.ReadForm.{same_obligation}
+use Rattle.laws.proofs.FieldLaws.{Holds, fine, nothing, if_holds, weaker, then_holds, same_list_lem}
+use Rattle.laws.proofs.Lengths.{length_pack}
+use Rattle.laws.proofs.ReadForm.{same_obligation}
 use Rattle.policy_model.specs.contracts.PolicyHead.{the_type}
 use Rattle.policy_model.specs.declared.PolicyHead.{PolicyHead}
 use Rattle.policy_model.specs.declared.PolicyHead.TheVariants.{Permit, Deny, Grant, All, Any, OrElse, PermitWithTrace, DenyWithTrace, BadKind, BadField}

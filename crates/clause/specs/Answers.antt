@@ -5,7 +5,7 @@ use Rattle.model.specs.Decision.{Decision as Decided}
 use Rattle.model.specs.Writing.{entry_bits, most_listed}
 use Rattle.model.specs.Reading.{read_list, listed}
 use Rattle.model.specs.Products.{Outcome}
-use Rattle.laws.specs.FieldLaws.{Holds}
+use Rattle.laws.proofs.FieldLaws.{Holds}
 use Rattle.decision.specs.declared.Decision.{Decision}
 use Rattle.decision.specs.Nodes.{clause_at}
 use Rattle.decision.specs.Meaning.{obligations_in, decision_of, Names}

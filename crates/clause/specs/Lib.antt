@@ -1,4 +1,3 @@
 pub mod Room
 pub mod Clauses
 pub mod Answers
-pub mod AnswerLaws

@@ -1,11 +1,13 @@
 // From a decision, which names nodes of the lent words by position, to the words of its own node, a PermitWithTrace or a DenyWithTrace:
 // its clause and its facts, how many words it takes, and the words.
+#![tactic(auto)]
+
 ghost use Rattle.std.specs.Prelude.{◌≡◌, true, List, ℕ, ◌+◌, ◌*◌, ◌^◌, ◌≤◌, ◌<◌, min, length};
 ghost use Rattle.model.specs.Facts.{table_of};
 ghost use Rattle.model.specs.Writing.{most_listed};
 ghost use Rattle.clause.specs.Room.{RoomToName};
 ghost use Rattle.clause.specs.Clauses.{clause_by, denial_of, decision_size};
-ghost use Rattle.clause.specs.Clauses.{countable as Clauses·countable};
+ghost use Rattle.clause.specs.Clauses.{countable as countable_of};
 ghost use Rattle.clause.specs.Answers.{FactsListed, ClauseFacts, ClauseIs, DecisionWritten};
 
 use decision::Decision;
@@ -137,7 +139,7 @@ fn clause_at(words: &[u32], at: usize) -> Clause
 
 // Whether a decision's node can say so many obligations and so many facts.
 pub fn countable(permit: bool, held: usize, count: usize) -> bool
-    ensures { result ≡ Clauses·countable permit held count }
+    ensures { result ≡ countable_of permit held count }
 {
     if count > policy_model::MOST_LISTED {
         return false;
@@ -171,7 +173,7 @@ pub fn write_decision(
     count: usize,
     out: &mut [u32],
 ) -> usize
-    requires { (Clauses·countable decision.permit held count ≡ true) × (held ≤ length obligations.now) × (count ≤ length named.now) × (decision_size decision.permit held count ≤ length out.old) }
+    requires { (countable_of decision.permit held count ≡ true) × (held ≤ length obligations.now) × (count ≤ length named.now) × (decision_size decision.permit held count ≤ length out.old) }
     ensures { DecisionWritten words.now decision obligations.now held named.now count out.old out.new result }
 {
     let clause = clause_at(words, decision.clause);

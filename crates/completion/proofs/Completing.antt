@@ -13,12 +13,12 @@ use Rattle.model.specs.Policy.{Policy}
 use Rattle.model.specs.Partial.{resolved}
 use Rattle.model.specs.Consulted.{Consulted, once}
 use Rattle.model.specs.Products.{Outcome, read, read_policy, write}
-use Rattle.laws.specs.FieldLaws.{Holds, weaker, both_hold}
+use Rattle.laws.proofs.FieldLaws.{Holds, weaker, both_hold}
 use Rattle.laws.specs.Size.{words}
 use Rattle.laws.specs.Form.{FormOf, Countable, Free}
 use Rattle.laws.specs.Products.{InRange, written_products}
-use Rattle.laws.specs.ReadForm.{ok_t}
-use Rattle.staging.specs.Entries.{read_fits}
+use Rattle.laws.proofs.ReadForm.{ok_t}
+use Rattle.staging.proofs.Entries.{read_fits}
 use Rattle.condition.specs.Listing.{Lent, Listed}
 use Rattle.evaluate.specs.declared.PolicyEval.{PolicyEval}
 use Rattle.evaluate.specs.Evaluating.{EvaluatesP}

@@ -11,8 +11,8 @@ use Rattle.model.specs.Facts.{Presence}
 use Rattle.model.specs.Consulted.{Entry, Consulted, consult, once_from}
 use Rattle.model.specs.Writing.{entry_bits, seen_in, entry_field}
 use Rattle.laws.specs.FieldAt.{field_at}
-use Rattle.laws.specs.FieldAtLaws.{no_entry, EntryIn, entry_at, entries_there}
-use Rattle.laws.specs.ReadForm.{Named}
+use Rattle.laws.proofs.FieldAtLaws.{no_entry, EntryIn, entry_at, entries_there}
+use Rattle.laws.proofs.ReadForm.{Named}
 use Rattle.condition.specs.Listing.{Lent, Consults, Recorded}
 use Rattle.condition.proofs.Listing.{consults_none, consults_then, consults_as}
 use Rattle.completion.specs.Answers.{LoadsConsulted}

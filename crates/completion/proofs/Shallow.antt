@@ -13,12 +13,12 @@ use Rattle.model.specs.Decision.{Decision, permits, denies}
 use Rattle.model.specs.Policy.{Policy, permit, deny, grant, all, any, or_else, stored, Policies, pnil, pcons}
 use Rattle.model.specs.Reading.{Parsed, refuse, got}
 use Rattle.model.specs.Products.{Outcome, encode, read_policy}
-use Rattle.laws.specs.FieldLaws.{Holds, nothing, fine}
+use Rattle.laws.proofs.FieldLaws.{Holds, nothing, fine}
 use Rattle.laws.specs.Size.{words_c, words_cs, words_d, words, wordss, SheetIf}
 use Rattle.laws.specs.Form.{Countable, FormOf, Few, depth_c, depth_cs, depth, depths}
-use Rattle.laws.specs.ReadForm.{ok_t}
-use Rattle.laws.specs.ReadBack.{back_t}
-use Rattle.laws.specs.Canon.{same_t}
+use Rattle.laws.proofs.ReadForm.{ok_t}
+use Rattle.laws.proofs.ReadBack.{back_t}
+use Rattle.laws.proofs.Canon.{same_t}
 use Rattle.laws.specs.Products.{InRange, written_products}
 
 mutual

@@ -10,7 +10,7 @@ use Rattle.model.specs.Record.{Record}
 use Rattle.model.specs.Writing.{entry_bits, entry_field}
 use Rattle.model.specs.Levels.{OutcomeTable}
 use Rattle.model.specs.Products.{Outcome, eval_policy, read}
-use Rattle.laws.specs.ReadForm.{Named}
+use Rattle.laws.proofs.ReadForm.{Named}
 use Rattle.condition.specs.Listing.{Lent, Consults}
 
 -- Where `count` entries stand after the first word, they were listed, once each, the first one kept.

@@ -1,5 +1,7 @@
 // Deciding a tree with a known table, after the facts that were consulted before, after gatekeep's evaluate.rs and partial.rs (`complete_residual`):
 // of a Pending record its entries; of a sheet none.
+#![tactic(auto)]
+
 ghost use Rattle.std.specs.Prelude.{◌+◌, ◌≤◌, min, length};
 ghost use Rattle.outcome.specs.Carried.{carried};
 ghost use Rattle.model.specs.Facts.{table_of};

@@ -14,10 +14,10 @@ use Rattle.model.specs.Condition.{Condition, always, never, all_c, any_c, cnil, 
 use Rattle.model.specs.Condition as model
 use Rattle.model.specs.Consulted.{Consulted, read_c}
 use Rattle.model.specs.Reading.{refuse, got, kind_of, rest_of, read_condition}
-use Rattle.laws.specs.FieldLaws.{Holds, fine, nothing, weaker}
+use Rattle.laws.proofs.FieldLaws.{Holds, fine, nothing, weaker}
 use Rattle.laws.specs.Size.{words_c}
-use Rattle.laws.specs.Lengths.{length_encode_c}
-use Rattle.laws.specs.Canon.{same_c}
+use Rattle.laws.proofs.Lengths.{length_encode_c}
+use Rattle.laws.proofs.Canon.{same_c}
 use Rattle.model.specs.Writing.{encode_c}
 use Rattle.facts.specs.Answers.{is_present}
 use Rattle.policy_model.specs.declared.ConditionHead.{ConditionHead}

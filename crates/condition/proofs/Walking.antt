@@ -14,7 +14,7 @@ use Rattle.model.specs.Condition.{Condition, not_c, all_c, any_c, Conditions, cn
 use Rattle.model.specs.Condition as model
 use Rattle.model.specs.Consulted.{Consulted, after_true, after_false, read_c, read_all_c, read_any_c}
 use Rattle.model.specs.Reading.{got, next, many, read_condition}
-use Rattle.laws.specs.FieldLaws.{Holds, fine, weaker, then_holds, both_hold}
+use Rattle.laws.proofs.FieldLaws.{Holds, fine, weaker, then_holds, both_hold}
 use Rattle.laws.specs.Size.{words_c, words_cs}
 use Rattle.policy_model.specs.declared.ConditionHead.{ConditionHead}
 use Rattle.policy_model.specs.declared.ConditionHead.TheVariants.{Always, Never, Has, Not, All, Any, BadKind, BadField}

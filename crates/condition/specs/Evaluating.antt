@@ -5,7 +5,7 @@ use Rattle.model.specs.Condition.{has, eval_condition}
 use Rattle.model.specs.Condition as model
 use Rattle.model.specs.Consulted.{Consulted, read_c}
 use Rattle.model.specs.Reading.{read_condition}
-use Rattle.laws.specs.FieldLaws.{Holds}
+use Rattle.laws.proofs.FieldLaws.{Holds}
 use Rattle.laws.specs.Size.{words_c}
 use Rattle.condition.specs.declared.ConditionEval.{ConditionEval}
 use Rattle.condition.specs.Listing.{Lent, Consults}

@@ -5,7 +5,7 @@ use Rattle.model.specs.Facts.{Table}
 use Rattle.model.specs.Condition.{Conditions, cnil, ccons, eval_condition, eval_condition_all, eval_condition_any}
 use Rattle.model.specs.Consulted.{Consulted, read_c, read_all_c, read_any_c}
 use Rattle.model.specs.Reading.{many, read_condition}
-use Rattle.laws.specs.FieldLaws.{Holds}
+use Rattle.laws.proofs.FieldLaws.{Holds}
 use Rattle.laws.specs.Size.{words_c, words_cs}
 use Rattle.policy_model.specs.declared.ConditionHead.{ConditionHead}
 use Rattle.policy_model.specs.declared.ConditionHead.TheVariants as condition

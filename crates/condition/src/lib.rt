@@ -1,5 +1,7 @@
 // Conditions, after gatekeep's evaluate.rs: whether a condition is satisfied, with the facts that were consulted listed on the way.
 // The list is lent: `entries`, of which the first `count` are in use, and `seen`, the set of the facts that are listed.
+#![tactic(auto)]
+
 ghost use Rattle.std.specs.Prelude.{◌≡◌, ◌^◌, ◌<◌, ◌≤◌};
 ghost use Rattle.model.specs.Facts.{fact_count, table_of};
 ghost use Rattle.model.specs.Writing.{count_bits};

@@ -1,4 +1,6 @@
 // The consulted list, after gatekeep's `Consulted`: its entries, and how many are in use. The entries are lent, as 2 KiB by value would be copied for each fact that is read.
+#![tactic(auto)]
+
 ghost use Rattle.std.specs.Prelude.{◌≡◌, ◌<◌, length as long};
 ghost use Rattle.consulted.specs.Lists.{entries_with, length_with, list_with};
 
@@ -11,7 +13,7 @@ pub struct Consulted<'a> {
 // Puts the entry at the end, unless its fact is listed `already`, and returns how many are in use then.
 pub fn recorded(entries: &mut [u16], length: usize, already: bool, entry: u16) -> usize
     requires { length < long entries.old }
-    ensures { (result ≡ length_with length already) × (entries.new ≡ entries_with entries.old length already entry) }
+    ensures listed { (result ≡ length_with length already) × (entries.new ≡ entries_with entries.old length already entry) }
 {
     if already {
         return length;

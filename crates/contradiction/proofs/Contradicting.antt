@@ -1,8 +1,8 @@
 -- The entries of a record, looked at one after the other. Assumes nothing.
 use mathlib.Core.Path.{◌≡◌, refl, sym, ◌∙◌, ap, ap₂}
-use mathlib.Core.Bool.{Bool, true, false, ◌||◌}
-use mathlib.Core.List.{List, [], ◌∷◌, ◌++◌, map}
-use Prim.Native.Nat.{ℕ, suc, ◌+◌, ◌/◌, ◌%◌, ◌≤◌, ◌<◌}
+use mathlib.Core.Bool.{true, false, ◌||◌}
+use mathlib.Core.List.{List, ◌∷◌, ◌++◌, map}
+use Prim.Native.Nat.{ℕ, ◌+◌, ◌/◌, ◌%◌, ◌≤◌, ◌<◌}
 use native.Mathlib.Numerals.{add-one}
 use native.Mathlib.Omega.{arith}
 use lib.ListN.{length, drop, get_or}
@@ -12,8 +12,8 @@ use Rattle.model.specs.Facts.{Presence, Table}
 use Rattle.model.specs.Consulted.{Consulted, contradicts, any_contradicted}
 use Rattle.model.specs.Writing.{entry_bits, seen_in, entry_field}
 use Rattle.laws.specs.FieldAt.{field_at}
-use Rattle.laws.specs.FieldAtLaws.{no_entry, entry_at, entries_there}
-use Rattle.laws.specs.ReadForm.{Named}
+use Rattle.laws.proofs.FieldAtLaws.{no_entry, entry_at, entries_there}
+use Rattle.laws.proofs.ReadForm.{Named}
 use Rattle.contradiction.specs.Contradicted.{Contradicted}
 
 module _ (P : Table) (words : List ℕ) (count : ℕ) where

@@ -4,7 +4,7 @@ use Rattle.model.specs.Fields.{pack}
 use Rattle.model.specs.Facts.{Table}
 use Rattle.model.specs.Consulted.{Consulted, any_contradicted}
 use Rattle.model.specs.Writing.{entry_bits, entry_field}
-use Rattle.laws.specs.ReadForm.{Named}
+use Rattle.laws.proofs.ReadForm.{Named}
 
 -- Where `count` entries stand after the first word, whether the table contradicts one of them.
 pub record Contradicted (P : Table) (words : List ℕ) (count : ℕ) (r : Bool) : Type 0 where

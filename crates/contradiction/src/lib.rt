@@ -1,4 +1,6 @@
 // A later reading against what a record consulted.
+#![tactic(auto)]
+
 ghost use Rattle.model.specs.Facts.{table_of};
 ghost use Rattle.contradiction.specs.Contradicted.{Contradicted};
 

@@ -1,17 +1,17 @@
 -- Obligations that are written to the front of a slice, and bytes that are brought down. Assumes nothing.
 use mathlib.Core.Path.{◌≡◌, refl, sym, ◌∙◌, ap}
 use mathlib.Core.List.{List, [], ◌∷◌, ◌++◌, append_assoc, append-nil}
-use Prim.Native.Nat.{◌*◌, ℕ, zero, suc, ◌+◌, ◌≤◌, ◌<◌}
+use Prim.Native.Nat.{◌*◌, ℕ, suc, ◌+◌, ◌≤◌, ◌<◌}
 use native.Mathlib.Numerals.{add-one}
 use native.Mathlib.Omega.{arith}
 use lib.ListN.{length, take, drop, set, get_or, length-drop, length-set}
-use lib.Seq.{length-take-le, get_or-drop, take-suc, take-suc-set, drop-set-lt}
+use lib.Seq.{get_or-drop, take-suc, take-suc-set, drop-set-lt}
 use Rattle.model.specs.Writing.{obligation_bits}
 use Rattle.laws.specs.FieldAt.{field_at, firsts}
 use Rattle.decision.specs.Room.{obligation_room}
 use Rattle.decision.specs.declared.Decision.{Decision}
-use Rattle.decision.specs.Nodes.{obligation_fields, obligations_at}
-use Rattle.decision.specs.Meaning.{obligations_in, Names}
+use Rattle.decision.specs.Nodes.{obligation_fields}
+use Rattle.decision.specs.Meaning.{obligations_in}
 use Rattle.decision.specs.Answers.{Listed, Loaded, Held, Kept}
 
 -- ---- fields that are written one after the other

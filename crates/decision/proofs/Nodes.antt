@@ -20,9 +20,9 @@ use Rattle.model.specs.Reading.{Parsed, refuse, got, next, another, counted, rea
 use Rattle.model.specs.Products.{Outcome, read_policy}
 use Rattle.laws.specs.Lists.{Below}
 use Rattle.laws.specs.FieldAt.{firsts}
-use Rattle.laws.specs.FieldAtLaws.{fields_held, narrow_below}
-use Rattle.laws.specs.FieldLaws.{Holds, fine, nothing, if_holds, weaker, then_holds, both_hold, same_list_lem}
-use Rattle.laws.specs.ReadForm.{same_obligation, ok_obligations}
+use Rattle.laws.proofs.FieldAtLaws.{fields_held, narrow_below}
+use Rattle.laws.proofs.FieldLaws.{Holds, fine, nothing, if_holds, weaker, then_holds, both_hold, same_list_lem}
+use Rattle.laws.proofs.ReadForm.{same_obligation, ok_obligations}
 use Rattle.policy_model.specs.declared.PolicyHead.{PolicyHead}
 use Rattle.policy_model.specs.declared.PolicyHead.TheVariants.{Permit, Deny, Grant, All, Any, OrElse, PermitWithTrace, DenyWithTrace, BadKind, BadField}
 use Rattle.policy_model.specs.Heads.{permit_head, grant_head, permit_trace_head, deny_trace_head, policy_heads, policy_head, bit_of, denied_by, grant_node, permit_trace_node, deny_trace_node, policy_node}

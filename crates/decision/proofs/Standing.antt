@@ -1,10 +1,10 @@
 -- What the decisions that the constructors make stand for. Assumes nothing.
-use mathlib.Core.Path.{◌≡◌, refl, sym, ◌∙◌, ap, ap₂, subst}
+use mathlib.Core.Path.{◌≡◌, refl, sym, ◌∙◌, ap, ap₂}
 use mathlib.Core.Bool.{Bool, true, false, cond}
 use mathlib.Core.Option.{some}
 use mathlib.Core.List.{List, [], ◌++◌, append-nil}
 use Prim.Native.Nat.{ℕ, ◌≤◌}
-use lib.ListN.{length, take, drop}
+use lib.ListN.{length, drop}
 use Rattle.model.specs.Facts.{Table}
 use Rattle.model.specs.Outcome.{product_sets}
 use Rattle.model.specs.Condition.{Condition, satisfied, unsatisfied, eval_condition}
@@ -13,7 +13,7 @@ use Rattle.model.specs.Policy.{Grant, Policy, grant, stored}
 use Rattle.model.specs.Evaluate.{eval_grant}
 use Rattle.model.specs.Reading.{got, levels}
 use Rattle.model.specs.Products.{Outcome, read_policy}
-use Rattle.laws.specs.Deeper.{deeper, follows_got}
+use Rattle.laws.proofs.Deeper.{deeper, follows_got}
 use Rattle.decision.specs.declared.Decision.{Decision}
 use Rattle.decision.specs.Nodes.{named, node_at, clause_read, obligations_read, clause_at, obligations_at}
 use Rattle.decision.specs.Meaning.{denied_at, permitted_at, obligations_in, permit_of, decision_of, Names, past, Sound}

@@ -1,17 +1,17 @@
 -- Obligations that are appended to the front of a buffer, one by one, unless they are held. Assumes nothing.
-use mathlib.Core.Path.{◌≡◌, refl, sym, ◌∙◌, ap, ap₂, subst}
+use mathlib.Core.Path.{◌≡◌, refl, sym, ◌∙◌, ap, subst}
 use mathlib.Core.Bool.{Bool, true, false, cond, ◌||◌}
-use mathlib.Core.List.{List, [], ◌∷◌, ◌++◌, append_assoc, append-nil}
-use Prim.Native.Nat.{ℕ, zero, suc, ◌+◌, ◌-◌, ◌≤◌, ◌<◌, ◌^◌}
+use mathlib.Core.List.{List, [], ◌∷◌, ◌++◌, append_assoc}
+use Prim.Native.Nat.{ℕ, ◌+◌, ◌-◌, ◌≤◌, ◌<◌, ◌^◌}
 use native.Mathlib.Numerals.{add-one}
 use native.Mathlib.Omega.{arith}
 use borrow.Author.Tests.{eq-eqb, ne_eqb}
 use lib.Dec.{eqb}
 use lib.ListN.{length, take, drop, set, get_or, length-append, length-drop}
-use lib.Seq.{length-take-le, get_or-take, get_or-drop, take-suc, take_all, take-suc-set, drop-set-lt}
+use lib.Seq.{length-take-le, get_or-drop, take-suc, take-suc-set, drop-set-lt}
 use lib.Bits.{bit_or}
 use Rattle.model.specs.Decision.{held, union_obligations}
-use Rattle.model.specs.Decision.{insert as insertOne}
+use Rattle.model.specs.Decision.{insert as insert_one}
 use Rattle.model.specs.Reading.{obligation_count}
 use Rattle.laws.specs.Lists.{Below, distinct_end, every_end, every_append, or_false_r, pigeon}
 use Rattle.decision.specs.Room.{obligation_room}
@@ -36,7 +36,7 @@ held_append o (p ∷ os) ps = ap (λ b. eqb o p || b) (held_append o os ps) ∙ 
 
 union_append : (os ps qs : List ℕ) → union_obligations os (ps ++ qs) ≡ union_obligations (union_obligations os ps) qs
 union_append os [] qs = refl
-union_append os (p ∷ ps) qs = union_append (insertOne os p) ps qs
+union_append os (p ∷ ps) qs = union_append (insert_one os p) ps qs
 
 -- ---- one by one
 pub grown_none : (buf : List ℕ) (u : Union) → u.count ≤ obligation_room → Grown [] buf buf u u

@@ -1,5 +1,7 @@
 // Decisions as small values, and the folds of permits over them, after gatekeep's evaluate.rs (`Permit::meet`, `Permit::join`, `union_obligations`).
 // A walk keeps no lists: a decision names nodes of the lent words by position, and only obligations that a join appended stand in a lent buffer.
+#![tactic(auto)]
+
 ghost use Rattle.std.specs.Prelude.{◌≡◌, true, ◌∷◌, [], ◌≤◌, ◌<◌, ◌^◌, length, take, drop};
 ghost use Rattle.std.specs.Int.Bits.{bit_or};
 ghost use Rattle.model.specs.Writing.{obligation_bits, most_held};
@@ -17,7 +19,7 @@ use outcome::Products;
 use policy_model::PolicyHead;
 
 // What was decided. A position is that of a grant or of a stored decision, or the number of words for none.
-#[derive(Drop)]
+#[derive(Clone, Copy)]
 pub struct Decision {
     pub permit: bool,
     // of a permit; no product on deny

@@ -7,8 +7,8 @@ use native.Mathlib.Omega.{arith}
 use lib.ListN.{length, take, drop, get_or, set, length-set}
 use Rattle.model.specs.Facts.{Presence, absent, present, unknown, silent, Table, fact_count}
 use Rattle.model.specs.Condition.{Condition, always, never, not_c, all_c, any_c, Conditions, cnil, ccons, eval_has, flip, eval_condition, eval_condition_all}
-use Rattle.model.specs.Reading.{Parsed, got, next, many, read_condition}
-use Rattle.laws.specs.FieldLaws.{Holds, fine, nothing, then_holds, both_hold}
+use Rattle.model.specs.Reading.{Parsed, got, many, read_condition}
+use Rattle.laws.proofs.FieldLaws.{Holds, fine, nothing, then_holds, both_hold}
 use Rattle.laws.specs.Size.{words_c}
 use Rattle.facts.specs.Answers.{is_present}
 use Rattle.policy_model.specs.declared.ConditionHead.{ConditionHead}

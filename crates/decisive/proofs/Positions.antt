@@ -12,7 +12,7 @@ use lib.Seq.{drop-drop}
 use Rattle.model.specs.Facts.{fact_count}
 use Rattle.model.specs.Condition.{Condition, Conditions, cnil, ccons}
 use Rattle.model.specs.Reading.{Parsed, refuse, got, next, many, kind_of, rest_of, read_condition}
-use Rattle.laws.specs.FieldLaws.{Holds, fine, nothing, then_holds}
+use Rattle.laws.proofs.FieldLaws.{Holds, fine, nothing, then_holds}
 use Rattle.laws.specs.Size.{words_c}
 use Rattle.policy_model.specs.declared.ConditionHead.{ConditionHead}
 use Rattle.policy_model.specs.declared.ConditionHead.TheVariants.{Always, Never, Has, Not, All, Any, BadKind, BadField}

@@ -3,7 +3,7 @@ use Rattle.std.specs.Prelude.{◌≡◌, Bool, true, false, List, ℕ, ◌+◌, 
 use Rattle.model.specs.Facts.{Table, fact_count}
 use Rattle.model.specs.Condition.{Condition, Conditions, ConditionEval, satisfied, unsatisfied, both, either, eval_condition, eval_condition_all, eval_condition_any}
 use Rattle.model.specs.Reading.{Parsed}
-use Rattle.laws.specs.FieldLaws.{Holds}
+use Rattle.laws.proofs.FieldLaws.{Holds}
 use Rattle.laws.specs.Lists.{Below}
 use Rattle.laws.specs.Size.{words_c, words_cs}
 use Rattle.facts.specs.Answers.{is_present}

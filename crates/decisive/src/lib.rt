@@ -1,4 +1,6 @@
 // The decisive facts of a condition, after gatekeep's evaluate.rs: the facts that its evaluation names, into a slice that the caller lends.
+#![tactic(auto)]
+
 ghost use Rattle.std.specs.Prelude.{◌≡◌, not, ◌+◌, ◌≤◌, ◌<◌, length, take, drop};
 ghost use Rattle.model.specs.Facts.{fact_count, table_of};
 ghost use Rattle.model.specs.Condition.{cnil, ccons};
@@ -64,7 +66,7 @@ fn slide(out: &mut [u16], from: usize, count: usize)
 
 // The decisive facts of the condition at `at`, with `depth` levels left: they stand first in `out`, and what stands after them is spent.
 // A condition names no more facts than it has words, so room for the words that are left is enough.
-#[cycle(decisive_arm_decisive_arms_decisive_facts)]
+#[cycle(naming)]
 fn decisive_facts(words: &[u32], at: usize, depth: usize, facts: &[u8], out: &mut [u16]) -> Named
     requires { length words.now ≤ at + length out.old }
     ensures { Decisive (table_of facts.now) at (read_condition depth (drop at words.now)) out.new result }
@@ -96,7 +98,7 @@ fn decisive_facts(words: &[u32], at: usize, depth: usize, facts: &[u8], out: &mu
 }
 
 // The same of an arm, or of a grant's condition. Most are a Has, which is seen here, so that whoever asks has it with no call of the cycle.
-#[cycle(decisive_arm_decisive_arms_decisive_facts)]
+#[cycle(naming)]
 pub fn decisive_arm(words: &[u32], at: usize, depth: usize, facts: &[u8], out: &mut [u16]) -> Named
     requires { length words.now ≤ at + length out.old }
     ensures { Decisive (table_of facts.now) at (read_condition depth (drop at words.now)) out.new result }
@@ -113,7 +115,7 @@ pub fn decisive_arm(words: &[u32], at: usize, depth: usize, facts: &[u8], out: &
 
 // The list rule for `arms` conditions from `at`. The facts of an arm stand after those of the arms before it. The first arm that has the value `stop`
 // decides: its facts alone are kept, and later arms aren't read. All stops at false, Any at true.
-#[cycle(decisive_arm_decisive_arms_decisive_facts)]
+#[cycle(naming)]
 fn decisive_arms(
     words: &[u32],
     at: usize,

@@ -1,7 +1,1 @@
 pub mod Dependence
-pub mod NamingLaws
-pub mod SetLaws
-pub mod Readings
-pub mod Completion
-pub mod Runs
-pub mod Witness

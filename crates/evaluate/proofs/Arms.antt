@@ -17,7 +17,7 @@ use Rattle.model.specs.Evaluate.{first_of}
 use Rattle.model.specs.Consulted.{Consulted, after_permit, after_deny}
 use Rattle.model.specs.Reading.{Parsed, refuse, got, next, many}
 use Rattle.model.specs.Products.{Outcome, eval_policy, eval_policies, read, read_all, read_any, read_policy}
-use Rattle.laws.specs.FieldLaws.{Holds, fine, nothing, weaker, then_holds, both_hold}
+use Rattle.laws.proofs.FieldLaws.{Holds, fine, nothing, weaker, then_holds, both_hold}
 use Rattle.laws.specs.Size.{words, wordss}
 use Rattle.policy_model.specs.declared.PolicyHead.TheVariants.{All, Any, OrElse}
 use Rattle.policy_model.specs.Heads.{policy_node}

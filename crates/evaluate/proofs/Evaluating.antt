@@ -18,7 +18,7 @@ use Rattle.model.specs.Decision.{permits, denies}
 use Rattle.model.specs.Evaluate.{eval_grant}
 use Rattle.model.specs.Reading.{refuse, got, read_condition}
 use Rattle.model.specs.Products.{Outcome, read, eval_policy, read_policy, policy_at}
-use Rattle.laws.specs.FieldLaws.{Holds, fine, nothing, weaker}
+use Rattle.laws.proofs.FieldLaws.{Holds, fine, nothing, weaker}
 use Rattle.laws.specs.Size.{words_c, words}
 use Rattle.policy_model.specs.declared.PolicyHead.{PolicyHead}
 use Rattle.policy_model.specs.declared.PolicyHead.TheVariants.{Permit, Deny, Grant, PermitWithTrace, DenyWithTrace, BadKind, BadField}

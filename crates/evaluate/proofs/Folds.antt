@@ -31,9 +31,9 @@ module _ (W before after : List ℕ) (sofar incoming r : Decision) where
     folded = λ _ _ T. kept_decision W before after incoming r k T ∙ sym (f T);
   }
 
-  folds_permits : (fold : Decided Outcome → Decided Outcome → Decided Outcome) (foldP : Permit Outcome → Permit Outcome → Permit Outcome) → ((p q : Permit Outcome) → fold (permits p) (permits q) ≡ permits (foldP p q)) →
-      sofar.permit ≡ true → incoming.permit ≡ true → Folded foldP W before after sofar incoming r → Folds fold W sofar before incoming (drop obligation_room before) r after
-  folds_permits fold foldP is p q f = record {
+  folds_permits : (fold : Decided Outcome → Decided Outcome → Decided Outcome) (fold_p : Permit Outcome → Permit Outcome → Permit Outcome) → ((p q : Permit Outcome) → fold (permits p) (permits q) ≡ permits (fold_p p q)) →
+      sofar.permit ≡ true → incoming.permit ≡ true → Folded fold_p W before after sofar incoming r → Folds fold W sofar before incoming (drop obligation_room before) r after
+  folds_permits fold fold_p is p q f = record {
     few = f.few;
     sound = f.sound;
     folded = λ s i T.

@@ -15,9 +15,9 @@ use Rattle.model.specs.Policy.{Policy, Grant, grant, stored}
 use Rattle.model.specs.Writing.{obligation_bits, entry_bits}
 use Rattle.model.specs.Reading.{Parsed, refuse, got, next, another, counted, read_list, obligation, listed, mark, shape_of, read_condition}
 use Rattle.model.specs.Products.{Outcome, read_policy, policy_at}
-use Rattle.laws.specs.FieldLaws.{Holds, fine, nothing, if_holds, weaker, then_holds, both_hold}
-use Rattle.laws.specs.Deeper.{deeper, follows_got}
-use Rattle.laws.specs.ReadForm.{ok_obligations, ok_facts}
+use Rattle.laws.proofs.FieldLaws.{Holds, fine, nothing, if_holds, weaker, then_holds, both_hold}
+use Rattle.laws.proofs.Deeper.{deeper, follows_got}
+use Rattle.laws.proofs.ReadForm.{ok_obligations, ok_facts}
 use Rattle.policy_model.specs.declared.PolicyHead.{PolicyHead}
 use Rattle.policy_model.specs.Heads.{policy_head, bit_of, denied_by, grant_node, permit_trace_node, deny_trace_node}
 use Rattle.policy_model.specs.HeadLaws.{policy_node_lem}

@@ -6,7 +6,7 @@ use Rattle.model.specs.Levels.{OutcomeTable}
 use Rattle.model.specs.Decision.{Decision as Decided}
 use Rattle.model.specs.Consulted.{Consulted}
 use Rattle.model.specs.Products.{Outcome, eval_policy, read, read_policy, policy_at}
-use Rattle.laws.specs.FieldLaws.{Holds}
+use Rattle.laws.proofs.FieldLaws.{Holds}
 use Rattle.laws.specs.Size.{words}
 use Rattle.policy_model.specs.declared.PolicyHead.{PolicyHead}
 use Rattle.policy_model.specs.Heads.{policy_head}

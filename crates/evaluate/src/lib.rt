@@ -2,6 +2,8 @@
 // Lent down the walk: the consulted list (`entries`, of which the first `count` are in use, and `seen`, the set of the facts in them), and `buf`,
 // room for the obligations of each level that is left and of one more, where a list rule keeps united obligations at the front and lends the tail to its arms.
 // A sheet is read as a residual is: where nodes 12 and 13 don't stand, it makes no difference that they may.
+#![tactic(auto)]
+
 ghost use Rattle.std.specs.Prelude.{◌≡◌, Bool, List, ℕ, ◌+◌, ◌≤◌, ◌<◌, length, drop};
 ghost use Rattle.std.proofs.Math.Option.{Option};
 ghost use Rattle.model.specs.Facts.{Table, table_of};
@@ -186,7 +188,7 @@ fn stored_deny(words: &[u32], at: usize, count: usize) -> PolicyEval
 }
 
 // The policy at `at`, of at most `depth` levels.
-#[cycle(eval_all_eval_any_eval_arm_eval_or_else_eval_policy)]
+#[cycle(evaluation)]
 pub fn eval_policy(
     words: &[u32],
     at: usize,
@@ -278,7 +280,7 @@ pub fn eval_policy(
 }
 
 // The same of an arm of a list rule. A Permit, the commonest arm of a wide list, is answered here, with no further call.
-#[cycle(eval_all_eval_any_eval_arm_eval_or_else_eval_policy)]
+#[cycle(evaluation)]
 fn eval_arm(
     words: &[u32],
     at: usize,
@@ -317,7 +319,7 @@ fn eval_arm(
 }
 
 // The All at `at`, whose `arms` have at most `depth` levels: meets the permits, or denies with the first denying arm. Arms after that one aren't read.
-#[cycle(eval_all_eval_any_eval_arm_eval_or_else_eval_policy)]
+#[cycle(evaluation)]
 fn eval_all(
     words: &[u32],
     at: usize,
@@ -380,7 +382,7 @@ fn eval_all(
 }
 
 // The Any at `at`, whose `arms` have at most `depth` levels: joins the permits, or denies with the first deny. Every arm is read.
-#[cycle(eval_all_eval_any_eval_arm_eval_or_else_eval_policy)]
+#[cycle(evaluation)]
 fn eval_any(
     words: &[u32],
     at: usize,
@@ -437,7 +439,7 @@ fn eval_any(
 }
 
 // The OrElse at `at`, whose two policies have at most `depth` levels: the fallback is read only where the primary denies.
-#[cycle(eval_all_eval_any_eval_arm_eval_or_else_eval_policy)]
+#[cycle(evaluation)]
 fn eval_or_else(
     words: &[u32],
     at: usize,

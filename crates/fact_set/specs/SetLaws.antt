@@ -13,8 +13,8 @@ use Rattle.model.specs.Fields.{joined, packed}
 use Rattle.model.specs.Facts.{fact_count}
 use Rattle.model.specs.Required.{one_bit, flags, fact_set}
 use Rattle.laws.specs.FieldAt.{Narrow}
-use Rattle.laws.specs.FieldLaws.{joined_small}
-use Rattle.laws.specs.FieldAtLaws.{packed_shift}
+use Rattle.laws.proofs.WordLaws.{joined_small}
+use Rattle.laws.proofs.FieldAtLaws.{packed_shift}
 use Rattle.fact_set.specs.Sets.{Grown, Contained, numbers}
 
 -- ---- one-bit fields

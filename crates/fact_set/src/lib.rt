@@ -1,4 +1,6 @@
 // A set of facts: sixteen numbers, one bit for each fact, fact 0 the top bit of the first.
+#![tactic(auto)]
+
 ghost use Rattle.std.specs.Prelude.{◌/◌, ◌<◌, eqb, length};
 ghost use Rattle.fact_set.specs.Sets.{Grown, Contained};
 

@@ -13,7 +13,7 @@ use lib.Seq.{drop-cons}
 use borrow.Author.Tests.{ne_eqb}
 use Rattle.model.specs.Fields.{split}
 use Rattle.model.specs.Facts.{TableKind, partial_facts, known_facts, table_fields, field_fault, or_fault, first_fault}
-use Rattle.laws.specs.UnpackedLaws.{length_fields}
+use Rattle.laws.proofs.UnpackedLaws.{length_fields}
 use Rattle.facts.specs.Answers.{no_fault}
 
 -- ---- of two faults the first

@@ -6,8 +6,8 @@ use native.Mathlib.Omega.{arith}
 use lib.ListN.{length, get_or, get_or-eq_default}
 use Rattle.model.specs.Fields.{split}
 use Rattle.model.specs.Facts.{silent, presence, table_fields, observed, table_of}
-use Rattle.laws.specs.FieldAtLaws.{split_shift, split_none}
-use Rattle.laws.specs.UnpackedLaws.{length_fields}
+use Rattle.laws.proofs.ShiftLaws.{split_shift, split_none}
+use Rattle.laws.proofs.UnpackedLaws.{length_fields}
 use Rattle.facts.specs.Answers.{is_present, is_settled}
 
 field_at_lem : (bs : List ℕ) (f : ℕ) → get_or (table_fields bs) f 0 ≡ get_or (split 2 4 (get_or bs (f / 4) 0)) (f % 4) 0

@@ -1,4 +1,6 @@
 // Fact tables, after gatekeep's facts.rs: what a table says of a fact, how that stands in a consulted entry, and the fault for which a table is turned back.
+#![tactic(auto)]
+
 ghost use Rattle.std.specs.Prelude.{◌≡◌, ◌/◌, ◌≤◌, ◌<◌, eqb, length, get_or};
 ghost use Rattle.model.specs.Fields.{split};
 ghost use Rattle.model.specs.Facts.{fact_count, table_fields, table_of, field_fault, first_fault, table_bytes, table_fault};
@@ -35,7 +37,7 @@ pub enum TableFault {
 pub const TABLE_BYTES: usize = 256;
 
 // A known table holds no Unknown.
-#[derive(Drop)]
+#[derive(Clone, Copy)]
 enum TableKind {
     Partial,
     Known,

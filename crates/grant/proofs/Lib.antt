@@ -1,3 +1,1 @@
 -- What the proofs of several functions use.
-mod Thin
-mod Above

@@ -1,5 +1,7 @@
 // A grant, after gatekeep's `GrantRef`: the lent words and the place of the grant's first word. Its methods take it apart and leave the work to
 // functions on the words and the place. The functions at the end are for callers that have no `GrantRef`.
+#![tactic(auto)]
+
 ghost use Rattle.std.specs.Prelude.{◌≡◌};
 ghost use Rattle.grant.specs.Fields.{outcome_at, before_condition_at};
 
@@ -11,14 +13,14 @@ pub struct GrantRef<'a> {
 
 // The outcome, the last 16 bits of the first word.
 fn outcome_at(words: &[u32], at: usize) -> u32
-    ensures { result ≡ outcome_at words.now at }
+    ensures field { result ≡ outcome_at words.now at }
 {
     policy_model::outcome_of(policy_model::word_at(words, at)) as u32
 }
 
 // How many words stand before the condition: the first two, and those of the obligations.
 fn before_condition_at(words: &[u32], at: usize) -> u32
-    ensures { result ≡ before_condition_at words.now at }
+    ensures words { result ≡ before_condition_at words.now at }
 {
     let obligations = policy_model::obligations_of(policy_model::word_at(words, at));
     2 + policy_model::obligation_words(obligations) as u32

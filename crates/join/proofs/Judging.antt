@@ -25,7 +25,7 @@ module _ (ls ss : List ℕ) (less : length ss ≤ length ls) where
     by_fields t h = rw (le-leb (length t) table_bytes h)
 
     in_order_lem : join_fault ls ss ≡ or_fault (table_fault partial_facts ls) (or_fault (table_fault partial_facts ss) (clash_fault ls ss))
-    in_order =
+    in_order_lem =
         ap₂ (λ x y. cond (x && y) (or_fault (first_fault partial_facts (table_fields ls)) (or_fault (first_fault partial_facts (table_fields ss)) (clash_fault ls ss))) (some 2))
         (le-leb (length ls) table_bytes few) (le-leb (length ss) table_bytes (omega arith))
         ∙ ap₂ (λ f g. or_fault f (or_fault g (clash_fault ls ss))) (sym (by_fields ls few)) (sym (by_fields ss (omega arith)))

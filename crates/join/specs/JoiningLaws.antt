@@ -1,5 +1,5 @@
 -- Tables byte by byte: the masks of a byte, where tables agree, and what they join to.
-use Rattle.std.specs.Prelude.{◌≡◌, refl, Bool, true, false, not, ◌&&◌, ◌||◌, List, [], ◌∷◌, ◌++◌, ℕ, zero, suc, ◌+◌, ◌-◌, ◌≤◌, ◌<◌, max, eqb, length, take, drop, get_or, replicate}
+use Rattle.std.specs.Prelude.{◌≡◌, refl, Bool, true, false, not, ◌&&◌, ◌||◌, List, [], ◌∷◌, ◌++◌, ℕ, zero, suc, ◌-◌, ◌≤◌, ◌<◌, max, eqb, length, take, drop, get_or, replicate}
 use Rattle.std.proofs.Common.{sym, ◌∙◌, ap, ap₂, arith, length-take, take-append-drop}
 use Rattle.std.proofs.Math.Bool.{or_assoc, and-eq-true_iff}
 use Rattle.std.proofs.Math.Option.{Option}
@@ -9,9 +9,9 @@ use Rattle.model.specs.Facts.{partial_facts, table_fields, field_fault, or_fault
 use Rattle.model.specs.Join.{join_field, join_fields, clashes, joined_bytes}
 use Rattle.laws.specs.Lists.{Below}
 use Rattle.laws.specs.FieldAt.{fieldwise}
-use Rattle.laws.specs.FieldLaws.{joined_split, length_packed}
-use Rattle.laws.specs.BitwiseLaws.{split_and, split_or, split_xor}
-use Rattle.laws.specs.JoinLaws.{clean}
+use Rattle.laws.proofs.WordLaws.{joined_split, length_packed}
+use Rattle.laws.proofs.BitwiseLaws.{split_and, split_or, split_xor}
+use Rattle.laws.proofs.JoinLaws.{clean}
 use Rattle.facts.specs.Answers.{no_fault}
 use Rattle.join.specs.Joining.{agree, bytes_agree, join_byte, Clean, NoThree, Judged}
 

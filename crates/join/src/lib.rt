@@ -1,5 +1,7 @@
 // Two relays' tables joined: what both know, or a numbered refusal that leaves the output as it was. The work is done by bytes, four fields at once, in
 // loops that have no way out before their end, so they are compiled to work on many bytes at a time.
+#![tactic(auto)]
+
 ghost use Rattle.std.specs.Prelude.{◌≡◌, ◌&&◌, true, [], ◌≤◌, eqb, length, take, drop, replicate};
 ghost use Rattle.model.specs.Facts.{table_fields};
 ghost use Rattle.model.specs.Join.{joined_bytes, join_fault, join_tables};

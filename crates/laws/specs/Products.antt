@@ -1,8 +1,8 @@
 -- Outcomes whose meet and join do not care for order or grouping, and sets of products as such outcomes. What a list permits is the union,
 -- or the intersection, of what its permits permit, from no product or from all sixteen on.
-use Rattle.std.specs.Prelude.{◌≡◌, refl, Bool, true, false, cond, List, [], ◌∷◌, ℕ, zero, suc, ◌+◌, ◌*◌, ◌/◌, ◌%◌, ◌^◌, ◌≤◌, ◌<◌, min, max, eqb, ltb}
-use Rattle.std.proofs.Common.{sym, ◌∙◌, ap, ap₂, subst, arith, eqb-true, eq-eqb, lt-ltb, ltb-true}
-use Rattle.std.proofs.Math.Option.{Option, none, some}
+use Rattle.std.specs.Prelude.{◌≡◌, refl, Bool, true, false, cond, ℕ, zero, suc, ◌+◌, ◌*◌, ◌/◌, ◌%◌, ◌^◌, ◌≤◌, ◌<◌, min, max, ltb}
+use Rattle.std.proofs.Common.{sym, ◌∙◌, ap, ap₂, arith, eqb-true, lt-ltb, ltb-true}
+use Rattle.std.proofs.Math.Option.{none, some}
 use Rattle.std.specs.Int.Bits.{bit_and, bit_or, and_step, or_step, and_zero_l, or_zero_l, and_lt}
 use Rattle.std.proofs.lemmas.Nat.{and_comm, or_comm, or_lt}
 use Rattle.model.specs.Outcome.{Outcomes, outcome_bits, below, product_sets}

@@ -1,5 +1,5 @@
 -- Silence read as Absent: in a table, an entry, a list and a record. Request 9.
-use Rattle.std.specs.Prelude.{List, map}
+use Rattle.std.specs.Prelude.{map}
 use Rattle.model.specs.Facts.{Table, heard}
 use Rattle.model.specs.Consulted.{Entry, Consulted}
 use Rattle.model.specs.Record.{Record}

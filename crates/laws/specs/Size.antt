@@ -1,6 +1,5 @@
 -- How many words a tree takes, document 01, "What a call receives".
-use Rattle.std.specs.Prelude.{Bool, true, false, List, [], ◌∷◌, ℕ, ◌+◌, ◌*◌, ◌/◌, length}
-use Rattle.std.proofs.Math.Option.{Option, none, some}
+use Rattle.std.specs.Prelude.{Bool, true, false, List, ℕ, ◌+◌, length}
 use Rattle.model.specs.Fields.{words_for, per_word}
 use Rattle.model.specs.Condition.{Condition, always, never, has, not_c, all_c, any_c, Conditions, cnil, ccons}
 use Rattle.model.specs.Decision.{Permit, Denial, Decision, permits, denies}

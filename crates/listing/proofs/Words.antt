@@ -6,7 +6,7 @@ use native.Mathlib.Omega.{arith}
 use lib.ListN.{length, drop, get_or, set}
 use lib.Seq.{drop-cons, set_at}
 use Rattle.laws.specs.FieldAt.{firsts}
-use Rattle.laws.specs.FieldAtLaws.{length_firsts}
+use Rattle.laws.proofs.FieldAtLaws.{length_firsts}
 
 pub store_next : (f : ℕ → ℕ) (i : ℕ) (out before : List ℕ) → i < length before → out ≡ firsts f i ++ drop i before → set out i (f i) ≡ firsts f (i + 1) ++ drop (i + 1) before
 unfolding firsts

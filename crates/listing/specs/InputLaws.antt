@@ -4,7 +4,7 @@ use Rattle.std.proofs.Common.{sym, ◌∙◌, ap, ap₂, arith, drop-cons}
 use Rattle.model.specs.Reading.{refuse, got, next}
 use Rattle.model.specs.Listing.{number_from, words_from, bytes_from}
 use Rattle.laws.specs.FieldAt.{firsts}
-use Rattle.laws.specs.FieldAtLaws.{firsts_same}
+use Rattle.laws.proofs.FieldAtLaws.{firsts_same}
 use Rattle.listing.specs.Inputs.{word_in, words_in}
 
 -- ---- numbers

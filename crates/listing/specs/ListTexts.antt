@@ -8,7 +8,7 @@ use Rattle.model.specs.Facts.{Presence, absent, present, unknown, silent}
 use Rattle.model.specs.Writing.{seen_in}
 use Rattle.model.specs.Listing.{text, digits, decimal, commas, list_of, presence_text}
 use Rattle.laws.specs.FieldAt.{field_at, firsts}
-use Rattle.laws.specs.FieldAtLaws.{length_firsts}
+use Rattle.laws.proofs.FieldAtLaws.{length_firsts}
 use Rattle.listing.specs.declared.Listed.{Listed}
 use Rattle.listing.specs.declared.Listed.TheVariants.{Obligations, Facts, Consulted as Entries}
 use Rattle.listing.specs.Texts.{width_of, most_of, field_text, fields_text}

@@ -21,14 +21,14 @@ use Rattle.model.specs.Listing.{text, newline, digits, decimal, list_of, line, s
 use Rattle.model.specs.Products.{Outcome, denied_field, encode_d, encode_r, read_record}
 use Rattle.laws.specs.Lists.{Below}
 use Rattle.laws.specs.FieldAt.{field_at, firsts}
-use Rattle.laws.specs.FieldLaws.{Holds}
-use Rattle.laws.specs.FieldAtLaws.{fields_held, narrow_below, narrow_entries, presence_few, seen_back}
-use Rattle.laws.specs.Lengths.{length_pack}
+use Rattle.laws.proofs.FieldLaws.{Holds}
+use Rattle.laws.proofs.FieldAtLaws.{fields_held, narrow_below, narrow_entries, presence_few, seen_back}
+use Rattle.laws.proofs.Lengths.{length_pack}
 use Rattle.laws.specs.Form.{IfThere, Countable, FormP, FormN, FormD}
 use Rattle.laws.specs.Products.{InRange, written_products}
-use Rattle.laws.specs.ReadBack.{shape_back, shape_small}
-use Rattle.laws.specs.ReadForm.{Named, OkRecord, ok_record}
-use Rattle.laws.specs.Canon.{same_record}
+use Rattle.laws.proofs.ReadBack.{shape_back, shape_small}
+use Rattle.laws.proofs.ReadForm.{Named, OkRecord, ok_record}
+use Rattle.laws.proofs.Canon.{same_record}
 use Rattle.listing.specs.declared.Listed.TheVariants.{Obligations, Facts, Consulted as Entries}
 use Rattle.listing.specs.Texts.{Wrote, lists_room, decision_room, consulted_room, listing_room, field_text, fields_text, permit_lines, deny_head, deny_lines, permit_lists, permit_text, deny_text, decision_text, record_text, ListedBody, ListedAs}
 use Rattle.listing.specs.Writers.{wrote_as}

@@ -8,6 +8,10 @@ use Rattle.listing.specs.Texts.{Wrote}
 pub copied : (xs : List ℕ) {before after : List ℕ} {r : ℕ} → r ≡ length xs → after ≡ take (length xs) xs ++ drop (length xs) before → Wrote xs before after r
 copied xs {before} e h = record { output = h ∙ ap (λ l. l ++ drop (length xs) before) (take-length xs); count = e }
 
+-- So are bytes that were copied whole.
+pub copied_whole : (xs : List ℕ) {before after : List ℕ} {r : ℕ} → r ≡ length xs → after ≡ xs ++ drop (length xs) before → Wrote xs before after r
+copied_whole xs e h = record { output = h; count = e }
+
 -- The same bytes by another name.
 pub wrote_as : {xs ys before after : List ℕ} {r : ℕ} → xs ≡ ys → Wrote xs before after r → Wrote ys before after r
 wrote_as {xs} {ys} {before} e w = record { output = w.output ∙ ap (λ l. l ++ drop (length l) before) e; count = w.count ∙ ap length e }

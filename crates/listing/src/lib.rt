@@ -1,8 +1,10 @@
 // The listing of the program `sitting`: the bytes of a Resolved record and of a refusal, and the numbers of the program's input.
+#![tactic(auto)]
+
 ghost use Rattle.std.specs.Prelude.{◌≡◌, ◌++◌, ◌+◌, ◌*◌, ◌%◌, ◌<◌, ◌≤◌, length, drop, get_or};
 ghost use Rattle.model.specs.Fields.{bits};
 ghost use Rattle.model.specs.Reading.{got, shape_of};
-ghost use Rattle.model.specs.Listing.{digit as digitOf, digits, text, decimal, newline, presence_text, refused_text, number_from};
+ghost use Rattle.model.specs.Listing.{digit as digit_of, digits, text, decimal, newline, presence_text, refused_text, number_from};
 ghost use Rattle.model.specs.Products.{read_record};
 ghost use Rattle.laws.specs.FieldAt.{field_at};
 ghost use Rattle.facts.specs.Answers.{presence_of};
@@ -15,7 +17,7 @@ use facts::Presence;
 pub const LISTING_ROOM: usize = 81920;
 
 // What a list of a record holds: obligations of 8 bits, facts or consulted entries of 16.
-#[derive(Drop)]
+#[derive(Clone, Copy)]
 enum Listed {
     Obligations,
     Facts,
@@ -40,12 +42,24 @@ fn field_at(words: &[u32], at: usize, place: usize, kind: Listed) -> u32
     }
 }
 
+// ---- bytes
+
+// Copies bytes to the front of the output, and returns how many.
+fn copy(src: &[u8], out: &mut [u8]) -> usize
+    requires { length src.now ≤ length out.old }
+    ensures count { result ≡ length src.now }
+    ensures copied { out.new ≡ src.now ++ drop (length src.now) out.old }
+{
+    out[..src.len()].copy_from_slice(src);
+    src.len()
+}
+
 // ---- numbers
 
 // A digit's byte, in capitals.
 fn digit(value: u32) -> u8
     requires { value < 16 }
-    ensures { result ≡ digitOf value }
+    ensures { result ≡ digit_of value }
 {
     if value < 10 {
         48 + value as u8
@@ -100,10 +114,10 @@ fn put_presence(presence: Presence, out: &mut [u8]) -> usize
     ensures { Wrote (text "=" ++ presence_text (presence_of presence)) out.old out.new result }
 {
     match presence {
-        Presence::Absent => bytes::copy(b"=absent", out),
-        Presence::Present => bytes::copy(b"=present", out),
-        Presence::Unknown => bytes::copy(b"=unknown", out),
-        Presence::Silent => bytes::copy(b"=silent", out),
+        Presence::Absent => copy(b"=absent", out),
+        Presence::Present => copy(b"=present", out),
+        Presence::Unknown => copy(b"=unknown", out),
+        Presence::Silent => copy(b"=silent", out),
     }
 }
 
@@ -133,7 +147,7 @@ fn put_next(field: u32, kind: Listed, out: &mut [u8]) -> usize
     requires { most_of kind ≤ length out.old }
     ensures { Wrote (text "," ++ field_text kind field) out.old out.new result }
 {
-    let n = bytes::copy(b",", out);
+    let n = copy(b",", out);
     n + put_field(field, kind, &mut out[n..])
 }
 
@@ -143,7 +157,7 @@ fn put_fields(words: &[u32], at: usize, count: usize, kind: Listed, out: &mut [u
     ensures { Wrote (fields_text kind words.now at count) out.old out.new result }
 {
     if count == 0 {
-        return bytes::copy(b"-", out);
+        return copy(b"-", out);
     }
     let mut n = put_field(field_at(words, at, 0, kind), kind, out);
     let mut i = 1;
@@ -166,7 +180,7 @@ fn put_named(
     requires { (at + count < 65536) × (length name.now + (1 + most_of kind * count) ≤ length out.old) }
     ensures { Wrote (name.now ++ fields_text kind words.now at count) out.old out.new result }
 {
-    let n = bytes::copy(name, out);
+    let n = copy(name, out);
     n + put_fields(words, at, count, kind, &mut out[n..])
 }
 
@@ -177,7 +191,7 @@ fn put_products(word: u32, out: &mut [u8]) -> usize
     requires { 27 ≤ length out.old }
     ensures { Wrote (text "effect permit\nproducts " ++ digits 16 4 (word % 65536)) out.old out.new result }
 {
-    let n = bytes::copy(b"effect permit\nproducts ", out);
+    let n = copy(b"effect permit\nproducts ", out);
     n + put_digits(word % policy_model::HALF, 16, 4, &mut out[n..])
 }
 
@@ -223,12 +237,12 @@ fn put_shape(word: u32, out: &mut [u8]) -> usize
     ensures { Wrote (deny_head (shape_of (bits 27 1 word))) out.old out.new result }
 {
     if word / policy_model::HIDDEN % 2 == 1 {
-        bytes::copy(
+        copy(
             b"effect deny\nproducts ----\nshape hidden\nobligations -",
             out,
         )
     } else {
-        bytes::copy(
+        copy(
             b"effect deny\nproducts ----\nshape forbidden\nobligations -",
             out,
         )
@@ -272,7 +286,7 @@ fn put_consulted(words: &[u32], count: usize, out: &mut [u8]) -> usize
     ensures { Wrote ((text "\nconsulted " ++ fields_text Listed.Consulted words.now 1 count) ++ newline) out.old out.new result }
 {
     let n = put_named(b"\nconsulted ", words, 1, count, Listed::Consulted, out);
-    n + bytes::copy(b"\n", &mut out[n..])
+    n + copy(b"\n", &mut out[n..])
 }
 
 // The listing of a Resolved record. Of other words nothing is said but that the bytes fit.
@@ -292,7 +306,7 @@ fn put_number(number: u32, out: &mut [u8]) -> usize
     ensures { Wrote (decimal number ++ newline) out.old out.new result }
 {
     let n = put_decimal(number, out);
-    n + bytes::copy(b"\n", &mut out[n..])
+    n + copy(b"\n", &mut out[n..])
 }
 
 // The listing of a refusal.
@@ -300,7 +314,7 @@ pub fn list_refusal(number: u32, out: &mut [u8]) -> usize
     requires { 13 ≤ length out.old }
     ensures { Wrote (refused_text number) out.old out.new result }
 {
-    let n = bytes::copy(b"refused ", out);
+    let n = copy(b"refused ", out);
     n + put_number(number, &mut out[n..])
 }
 

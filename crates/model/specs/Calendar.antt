@@ -1,5 +1,5 @@
 -- Gregorian dates from 1900 to 2199, and ages. Request 1.
-use Rattle.std.specs.Prelude.{Bool, true, false, cond, not, ◌&&◌, ◌||◌, List, [], ◌∷◌, ℕ, zero, suc, ◌+◌, ◌-◌, ◌%◌, eqb, ltb, leb, get_or, take, ℤ}
+use Rattle.std.specs.Prelude.{Bool, cond, not, ◌&&◌, ◌||◌, List, [], ◌∷◌, ℕ, zero, suc, ◌+◌, ◌-◌, ◌%◌, eqb, ltb, leb, get_or, take, ℤ}
 use Rattle.std.proofs.Math.IntN.{sub_ℕ}
 use Rattle.model.specs.Required.{total}
 

@@ -1,7 +1,7 @@
 -- The calls over words, bytes and an output. Document 01, "How a request is turned back", and requests 6 and 7.
 -- Order of the causes: 1, 2, the table's fields (3 or 4), the words from the first (5 to 8), 10, the sheet's number (16), a reading that
 -- contradicts the record (17), then 11.
-use Rattle.std.specs.Prelude.{Bool, true, false, cond, ◌&&◌, List, [], ◌∷◌, ◌++◌, ℕ, ◌+◌, ◌*◌, ◌^◌, eqb, ltb, leb, length, drop}
+use Rattle.std.specs.Prelude.{Bool, true, false, cond, ◌&&◌, List, ◌++◌, ℕ, ◌^◌, eqb, ltb, leb, length, drop}
 use Rattle.std.proofs.Math.Option.{Option, none, some}
 use Rattle.model.specs.Facts.{table_of, partial_facts, known_facts, table_fault}
 use Rattle.model.specs.Outcome.{Outcomes}

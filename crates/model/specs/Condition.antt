@@ -1,5 +1,5 @@
 -- Conditions, and what they say under a table. Document 01, "Conditions".
-use Rattle.std.specs.Prelude.{Bool, true, false, ◌||◌, List, [], ◌∷◌, ◌++◌, ℕ, eqb}
+use Rattle.std.specs.Prelude.{Bool, false, ◌||◌, List, [], ◌∷◌, ◌++◌, ℕ, eqb}
 use Rattle.model.specs.Facts.{Presence, absent, present, unknown, silent, Table}
 
 -- A condition, and a list of conditions.

@@ -1,5 +1,5 @@
 -- Fields of a word, most significant first, for any width. Document 01, "What a call receives".
-use Rattle.std.specs.Prelude.{List, [], ◌∷◌, ◌++◌, ℕ, zero, suc, ◌+◌, ◌-◌, ◌*◌, ◌/◌, ◌%◌, ◌^◌, length, drop}
+use Rattle.std.specs.Prelude.{List, [], ◌∷◌, ℕ, zero, suc, ◌+◌, ◌-◌, ◌*◌, ◌/◌, ◌%◌, ◌^◌, length, drop}
 
 -- The field of `width` bits that has `below` bits below it; and a value put there.
 abbrev pub bits : ℕ → ℕ → ℕ → ℕ

@@ -1,6 +1,6 @@
 -- Two relays' tables joined. Request 2.
 -- Order of the causes: 2 in either table, 3 in either, 14, then 11.
-use Rattle.std.specs.Prelude.{Bool, true, false, cond, ◌&&◌, ◌||◌, List, [], ◌∷◌, ℕ, max, eqb, leb, length}
+use Rattle.std.specs.Prelude.{Bool, false, cond, ◌&&◌, ◌||◌, List, [], ◌∷◌, ℕ, max, eqb, leb, length}
 use Rattle.std.proofs.Math.Option.{Option, none, some}
 use Rattle.model.specs.Fields.{packed}
 use Rattle.model.specs.Facts.{partial_facts, table_fields, table_bytes, or_fault, first_fault}

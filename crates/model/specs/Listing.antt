@@ -1,16 +1,15 @@
 -- The listing of the program `sitting`, for any input bytes. Document 01, "Listing".
-use Rattle.std.specs.Prelude.{Bool, true, false, cond, ◌&&◌, List, [], ◌∷◌, ◌++◌, map, ℕ, zero, suc, ◌+◌, ◌-◌, ◌*◌, ◌/◌, ◌%◌, ◌^◌, ltb, leb, length, take, drop}
+use Rattle.std.specs.Prelude.{Bool, true, false, cond, ◌&&◌, List, [], ◌∷◌, ◌++◌, map, ℕ, zero, suc, ◌+◌, ◌*◌, ◌/◌, ◌%◌, ◌^◌, ltb, leb}
 use Rattle.std.proofs.Math.Option.{Option, none, some}
-use Prim.Native.Char.{Char, code}
+use Prim.Native.Char.{code}
 use Prim.Native.String as Text
 use Rattle.model.specs.Facts.{Presence, absent, present, unknown, silent, table_of, known_facts, table_bytes, table_fault}
 use Rattle.model.specs.Outcome.{product_sets}
-use Rattle.model.specs.Decision.{Shape, forbidden, hidden, Decision, permits, denies, products}
-use Rattle.model.specs.Policy.{Policy, permit, deny}
+use Rattle.model.specs.Decision.{Shape, forbidden, hidden, Decision, permits, denies}
+use Rattle.model.specs.Policy.{Policy}
 use Rattle.model.specs.Evaluate.{eval_policy}
 use Rattle.model.specs.Consulted.{Entry, Consulted, read}
-use Rattle.model.specs.Writing.{count}
-use Rattle.model.specs.Reading.{Parsed, refuse, got, consulted, many, read_sheet, rest}
+use Rattle.model.specs.Reading.{Parsed, refuse, got, many, read_sheet}
 
 -- ---- bytes
 

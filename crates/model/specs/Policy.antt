@@ -1,5 +1,5 @@
 -- Policies: the trees of sheets and residuals. Document 01, "What a call receives".
-use Rattle.std.specs.Prelude.{Bool, true, false, ◌||◌, List, ℕ}
+use Rattle.std.specs.Prelude.{Bool, false, ◌||◌, List, ℕ}
 use Rattle.std.proofs.Math.Option.{Option}
 use Rattle.model.specs.Condition.{Condition, names_c}
 use Rattle.model.specs.Decision.{Shape, Decision}

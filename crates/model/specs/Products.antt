@@ -3,7 +3,7 @@
 use Rattle.std.specs.Prelude.{Bool, true, List, ℕ, drop}
 use Rattle.std.proofs.Math.Option.{Option}
 use Rattle.model.specs.Facts.{Table}
-use Rattle.model.specs.Outcome.{Outcomes, product_sets}
+use Rattle.model.specs.Outcome.{product_sets}
 use Rattle.model.specs.Levels.{OutcomeTable, outcomes_of, by_table}
 use Rattle.model.specs.Condition.{Condition}
 use Rattle.model.specs.Decision as decision

@@ -1,5 +1,5 @@
 -- Records: what each call's rules give, over trees. Document 01, "What a call receives" and "Narrowing, completing".
-use Rattle.std.specs.Prelude.{List, []}
+use Rattle.std.specs.Prelude.{[]}
 use Rattle.model.specs.Facts.{Table}
 use Rattle.model.specs.Outcome.{Outcomes}
 use Rattle.model.specs.Policy.{Policy}

@@ -1,5 +1,5 @@
 -- Required facts, and the questions about a record. Document 01, "Required facts" and the end of "How a request is turned back".
-use Rattle.std.specs.Prelude.{Bool, true, false, cond, ◌||◌, List, [], ◌∷◌, ℕ, zero, suc, ◌+◌, ◌%◌, ◌/◌, length, replicate}
+use Rattle.std.specs.Prelude.{Bool, true, false, ◌||◌, List, [], ◌∷◌, ℕ, zero, suc, ◌+◌, replicate}
 use Rattle.model.specs.Fields.{split, packed}
 use Rattle.model.specs.Facts.{fact_count}
 use Rattle.model.specs.Outcome.{Outcomes}

@@ -82,8 +82,8 @@ module _ (reading today : Date) where
 
 -- The fields from fact f on: a named fact has what it becomes, every other fact keeps its field.
 abbrev pub set_fields : (ℕ → Bool) → (ℕ → Presence) → ℕ → List ℕ → List ℕ
-set_fields isNamed says f [] = []
-set_fields isNamed says f (q ∷ qs) = cond (isNamed f) (presence_field (says f)) q ∷ set_fields isNamed says (suc f) qs
+set_fields is_named says f [] = []
+set_fields is_named says f (q ∷ qs) = cond (is_named f) (presence_field (says f)) q ∷ set_fields is_named says (suc f) qs
 
 -- ---- the call
 abbrev pub fault_if : Bool → ℕ → Option ℕ

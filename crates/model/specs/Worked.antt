@@ -1,5 +1,5 @@
 -- Sheets worked through, by computation, through words and bytes. Document 01, "Sheets worked through", its wrong turns, and those of request 8.
-use Rattle.std.specs.Prelude.{◌≡◌, refl, Bool, true, false, ◌&&◌, List, [], ◌∷◌, ◌++◌, ℕ, zero, suc, ◌+◌, eqb, replicate, take}
+use Rattle.std.specs.Prelude.{◌≡◌, refl, Bool, true, false, ◌&&◌, List, [], ◌∷◌, ◌++◌, ℕ, eqb, replicate, take}
 use Rattle.model.specs.Outcome.{product_sets}
 use Rattle.model.specs.Partial.{permits_first, sheet_order}
 use Rattle.model.specs.Calls.{Answer, refusal, wrote, afterwards, evaluate, partial_evaluate, narrow_residual, complete_residual}

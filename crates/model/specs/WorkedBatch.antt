@@ -1,6 +1,6 @@
 -- Batches worked through, by computation, through words. Request 10.
-use Rattle.std.specs.Prelude.{◌≡◌, refl, Bool, true, false, ◌&&◌, List, [], ◌∷◌, ◌++◌, ℕ, zero, suc, ◌+◌, ◌*◌, ◌^◌, eqb, replicate}
-use Rattle.std.proofs.Math.Option.{Option, none, some}
+use Rattle.std.specs.Prelude.{◌≡◌, refl, Bool, true, ◌&&◌, List, [], ◌∷◌, ◌++◌, ℕ, ◌+◌, ◌*◌, ◌^◌, eqb, replicate}
+use Rattle.std.proofs.Math.Option.{Option, none}
 use Rattle.model.specs.Facts.{table_of}
 use Rattle.model.specs.Outcome.{product_sets}
 use Rattle.model.specs.Reading.{read_sheet}

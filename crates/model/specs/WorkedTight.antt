@@ -1,5 +1,5 @@
 -- Cases of request 11, by computation: the tight form of sheets and records there and back, and what bad runs and bad words give.
-use Rattle.std.specs.Prelude.{◌≡◌, refl, Bool, true, false, ◌&&◌, List, [], ◌∷◌, ◌++◌, ℕ, ◌+◌, ◌-◌, replicate, length}
+use Rattle.std.specs.Prelude.{◌≡◌, refl, Bool, true, false, ◌&&◌, List, [], ◌∷◌, ◌++◌, ℕ, ◌-◌, replicate, length}
 use Rattle.model.specs.Outcome.{product_sets}
 use Rattle.model.specs.Calls.{Answer, refusal, wrote, afterwards}
 use Rattle.model.specs.Worked.{is_expected, refuses, writes, same_list}

@@ -1,5 +1,5 @@
 -- Trees and records as words of 32 bits. Document 01, "What a call receives" and "Writing".
-use Rattle.std.specs.Prelude.{Bool, true, false, ◌&&◌, List, [], ◌∷◌, ◌++◌, map, ℕ, suc, ◌+◌, ◌-◌, ◌/◌, ◌%◌, ◌^◌, zero, leb, length}
+use Rattle.std.specs.Prelude.{Bool, true, ◌&&◌, List, [], ◌∷◌, ◌++◌, map, ℕ, suc, ◌+◌, ◌-◌, ◌/◌, ◌%◌, ◌^◌, zero, leb, length}
 use Rattle.std.proofs.Math.Option.{Option, none, some}
 use Rattle.model.specs.Fields.{above, pack}
 use Rattle.model.specs.Facts.{Presence, absent, present, unknown, silent, fact_bits}
@@ -7,7 +7,7 @@ use Rattle.model.specs.Outcome.{outcome_bits}
 use Rattle.model.specs.Condition.{Condition, always, never, has, not_c, all_c, any_c, Conditions, cnil, ccons}
 use Rattle.model.specs.Decision.{Shape, forbidden, hidden, Decision, permits, denies}
 use Rattle.model.specs.Policy.{Policy, permit, deny, grant, all, any, or_else, stored, Policies, pnil, pcons}
-use Rattle.model.specs.Partial.{ReducedPolicy, resolved, pending, arms}
+use Rattle.model.specs.Partial.{ReducedPolicy, resolved, pending}
 use Rattle.model.specs.Consulted.{Entry}
 use Rattle.model.specs.Record.{Record, tree}
 

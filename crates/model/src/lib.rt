@@ -1,1 +1,2 @@
 // The definitions are in specs/: this crate has no code.
+#![tactic(auto)]

@@ -1,6 +1,6 @@
 -- What is carried: none where there are no levels, else the table; its outcomes are among the sets of products. Assumes nothing.
 use Rattle.std.specs.Prelude.{◌≡◌, refl, List, ℕ, zero, suc, ◌≤◌}
-use Rattle.std.proofs.Math.Option.{Option, none, some}
+use Rattle.std.proofs.Math.Option.{none, some}
 use Rattle.std.proofs.Common.{arith}
 use Rattle.model.specs.Levels.{outcome_count}
 use Rattle.outcome.specs.Carried.{table, carried}

@@ -1,11 +1,13 @@
 // Outcomes: sets of sixteen products, after gatekeep's outcome type with its `Lattice`; by an outcome table (request 14), levels.
+#![tactic(auto)]
+
 ghost use Rattle.std.specs.Prelude.{◌≡◌, List, [], ◌∷◌, ℕ, ◌≤◌};
 ghost use Rattle.model.specs.Outcome.{product_sets, union_of, intersection_of};
 ghost use Rattle.model.specs.Levels.{entry_from, meet_of, join_of, outcome_count};
 ghost use Rattle.outcome.specs.Carried.{table, carried};
 
 // An outcome: a set of products, one bit each, or the number of a level.
-#[derive(Drop)]
+#[derive(Clone, Copy)]
 pub struct Products {
     pub bits: u16,
 }

@@ -1,12 +1,11 @@
 -- A loop over levels: those passed so far, one more, all of them. Assumes nothing.
-use mathlib.Core.Path.{◌≡◌, refl, sym, ◌∙◌, ap, subst}
+use mathlib.Core.Path.{◌≡◌, refl, sym, ◌∙◌, ap}
 use mathlib.Core.Bool.{Bool, true, false, not, ◌&&◌}
-use Prim.Native.Nat.{ℕ, suc, ◌+◌, ◌≤◌, ◌<◌}
+use Prim.Native.Nat.{ℕ, ◌+◌, ◌≤◌}
 use native.Mathlib.Numerals.{add-one}
 use native.Mathlib.Omega.{arith}
 use borrow.Author.Tests.{not-true, not-false}
 use Rattle.model.specs.Levels.{every_below}
-use Rattle.laws.specs.LevelLaws.{fails_below}
 
 -- What is false of either half is false of both.
 pub left_false : (a b : Bool) → a ≡ false → (a && b) ≡ false

@@ -1,4 +1,6 @@
 // Which outcome tables are accepted (request 14). Each law is tried on every pair or triple of levels, one loop a function.
+#![tactic(auto)]
+
 ghost use Rattle.std.specs.Prelude.{◌≡◌, ◌&&◌, ◌≤◌};
 ghost use Rattle.model.specs.Levels as model;
 ghost use Rattle.outcome.specs.Carried.{table};

@@ -12,7 +12,7 @@ use lib.Seq.{length-take-le}
 use Rattle.model.specs.Fields.{words_for}
 use Rattle.model.specs.Outcome.{product_sets}
 use Rattle.model.specs.Policy.{Policy}
-use Rattle.model.specs.Record.{Record, tree}
+use Rattle.model.specs.Record.{Record}
 use Rattle.model.specs.Writing.{encode, encode_r, numbered}
 use Rattle.model.specs.Reading.{Parsed, refuse, got, unless, whole, sheet_number}
 use Rattle.model.specs.Products.{Outcome, read_sheet, read_lead, read_record}
@@ -20,14 +20,14 @@ use Rattle.model.specs.Calls.{on_read}
 use Rattle.model.specs.Bits.{bytes_of}
 use Rattle.model.specs.Tight.{tight, tight_r, give_bytes, pack_sheet, pack_record}
 use Rattle.laws.specs.FieldAt.{Narrow}
-use Rattle.laws.specs.FieldLaws.{Holds, length_packed}
-use Rattle.laws.specs.BitLaws.{Bits}
+use Rattle.laws.proofs.FieldLaws.{Holds}
+use Rattle.laws.proofs.WordLaws.{length_packed}
+use Rattle.laws.proofs.BitLaws.{Bits}
 use Rattle.laws.specs.Form.{FewRepeats, Countable, Few, Free, FormOf}
-use Rattle.laws.specs.ReadForm.{OkSheet, ok_sheet, OkRecord, ok_record, sheet_form}
-use Rattle.laws.specs.Canon.{same_sheet_lem, same_record}
+use Rattle.laws.proofs.ReadForm.{OkSheet, ok_sheet, OkRecord, ok_record, sheet_form}
+use Rattle.laws.proofs.Canon.{same_sheet_lem, same_record}
 use Rattle.laws.specs.Products.{InRange, written_products}
-use Rattle.laws.specs.TightRecords.{bits_t, bits_r}
-use Rattle.packing.specs.Written.{Written}
+use Rattle.laws.proofs.TightRecords.{bits_t, bits_r}
 use Rattle.policy_model.specs.Answers.{refusal, Lead, lead_of}
 use Rattle.answer.specs.declared.Answer.{Answer}
 use Rattle.answer.specs.declared.Answer.TheVariants as answer

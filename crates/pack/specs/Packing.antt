@@ -1,6 +1,6 @@
 -- A run of bits was packed into the output as bytes, or they have no room in it.
 use Rattle.std.specs.Prelude.{List, ℕ, length}
-use Rattle.laws.specs.BitLaws.{Bits}
+use Rattle.laws.proofs.BitLaws.{Bits}
 use Rattle.model.specs.Tight.{give_bytes}
 use Rattle.answer.specs.Answers.{Answered}
 use Rattle.answer.specs.declared.Answer.{Answer}

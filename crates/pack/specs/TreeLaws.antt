@@ -24,11 +24,11 @@ use Rattle.model.specs.Reading.{kind_of, obligation_count}
 use Rattle.model.specs.Bits.{bits_of}
 use Rattle.model.specs.Tight.{optional, each, tight_c, tight_cs, tight_e, numbers_of, tight_d, tight, tights, tight_r}
 use Rattle.laws.specs.Lists.{Below}
-use Rattle.laws.specs.FieldAtLaws.{packed_field, narrow_below, narrow_entries, presence_few}
-use Rattle.laws.specs.Lengths.{length_pack}
+use Rattle.laws.proofs.FieldAtLaws.{packed_field, narrow_below, narrow_entries, presence_few}
+use Rattle.laws.proofs.Lengths.{length_pack}
 use Rattle.laws.specs.Form.{IfThere, FormC, FormCs, FormL, Countable, FormD, FormG, FormOf, FormsOf}
-use Rattle.laws.specs.ReadForm.{Named}
-use Rattle.laws.specs.ReadBack.{shape_small}
+use Rattle.laws.proofs.ReadForm.{Named}
+use Rattle.laws.proofs.ReadBack.{shape_small}
 use Rattle.policy_model.specs.Span.{own_by, own_of}
 use Rattle.bits.specs.Widths.{plain_width, denied_width}
 use Rattle.bits.specs.WidthLaws.{mark_absent, mark_there, denied_there, denied_absent}

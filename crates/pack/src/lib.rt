@@ -1,5 +1,7 @@
 // Sheets and records in the tight form: every field in order, without zero fields and unused tails, as one run of bits. Words that were checked are a flat
 // list of nodes, so measuring and writing are loops without levels.
+#![tactic(auto)]
+
 ghost use Rattle.std.specs.Prelude.{◌≡◌, true, ◌+◌, ◌*◌, ◌/◌, ◌^◌, ◌≤◌, ◌<◌, length, drop, get_or};
 ghost use Rattle.model.specs.Reading.{record_words};
 ghost use Rattle.model.specs.Tight.{obligation_tight_bits, pack_sheet, pack_record};

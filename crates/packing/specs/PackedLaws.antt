@@ -2,8 +2,8 @@
 use Rattle.std.specs.Prelude.{◌≡◌, refl, List, [], ◌∷◌, ℕ, zero, suc, ◌+◌, ◌*◌, ◌^◌, ◌≤◌, ◌<◌, length, take, drop, get_or}
 use Rattle.std.proofs.Common.{sym, ◌∙◌, ap, arith, length-take}
 use Rattle.model.specs.Fields.{joined, words_for, per_word, pack}
-use Rattle.laws.specs.FieldAtLaws.{packed_word}
-use Rattle.laws.specs.Lengths.{length_pack}
+use Rattle.laws.proofs.FieldAtLaws.{packed_word}
+use Rattle.laws.proofs.Lengths.{length_pack}
 use Rattle.packing.specs.Packed.{values_from}
 
 values_of_nothing : (n k : ℕ) → values_from [] k n ≡ values_from [] 0 n

@@ -1,4 +1,6 @@
 // Lists of fields in words of 32 bits, most significant first: written into a slice that the caller lends, and read from words.
+#![tactic(auto)]
+
 ghost use Rattle.std.specs.Prelude.{◌≡◌, ◌∷◌, [], ◌+◌, ◌/◌, ◌≤◌, ◌<◌, length, take, drop, get_or};
 ghost use Rattle.model.specs.Fields.{joined, words_for, pack};
 ghost use Rattle.model.specs.Writing.{obligation_bits, entry_bits};

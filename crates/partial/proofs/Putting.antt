@@ -15,7 +15,7 @@ use Rattle.model.specs.Record.{Record}
 use Rattle.model.specs.Writing.{entry_field, short}
 use Rattle.model.specs.Products.{Outcome, encode, write}
 use Rattle.laws.specs.Size.{words}
-use Rattle.laws.specs.Lengths.{length_encode_r}
+use Rattle.laws.proofs.Lengths.{length_encode_r}
 use Rattle.packing.specs.Written as packing
 use Rattle.packing.specs.WrittenLaws.{written_lent, written_same}
 use Rattle.record.specs.Nodes.{front_words}

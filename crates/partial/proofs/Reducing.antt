@@ -1,5 +1,5 @@
 -- From the walk's answer and the record that was put to the answer of a call that reduces. Assumes nothing.
-use mathlib.Core.Path.{◌≡◌, refl, sym, ◌∙◌, ap, subst}
+use mathlib.Core.Path.{◌≡◌, refl, sym, ◌∙◌, subst}
 use mathlib.Core.Bool.{Bool, true, false}
 use mathlib.Core.Option.{Option}
 use mathlib.Core.List.{List, []}
@@ -14,13 +14,13 @@ use Rattle.model.specs.Partial.{resolved, pending, as_residual, Order}
 use Rattle.model.specs.Partial as model
 use Rattle.model.specs.Consulted.{Consulted, once}
 use Rattle.model.specs.Products.{Outcome, reduce_policy, walk, read_policy, write}
-use Rattle.laws.specs.FieldLaws.{Holds, weaker, both_hold}
+use Rattle.laws.proofs.FieldLaws.{Holds, weaker, both_hold}
 use Rattle.laws.specs.Size.{words}
 use Rattle.laws.specs.Form.{Countable, Free}
 use Rattle.laws.specs.Products.{InRange, written_products}
-use Rattle.laws.specs.ReadForm.{ok_t}
-use Rattle.staging.specs.Entries.{walk_fits}
-use Rattle.staging.specs.SizeLaws.{reduced_words}
+use Rattle.laws.proofs.ReadForm.{ok_t}
+use Rattle.staging.proofs.Entries.{walk_fits}
+use Rattle.staging.proofs.SizeLaws.{reduced_words}
 use Rattle.condition.specs.Listing.{Lent, Listed}
 use Rattle.sizes.specs.Laid.{most_words, capped, Laid}
 use Rattle.residual.specs.Weight.{weight}

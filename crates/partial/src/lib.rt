@@ -1,5 +1,7 @@
 // Reducing a tree with a table that leaves facts open, after the facts that were consulted before, after gatekeep's partial.rs (`partial_evaluate`).
 // What is left of the tree is laid into scratch first, so that the record's length is known before a word of the output changes.
+#![tactic(auto)]
+
 ghost use Rattle.std.specs.Prelude.{◌+◌, ◌≤◌, min, length};
 ghost use Rattle.outcome.specs.Carried.{carried};
 ghost use Rattle.model.specs.Facts.{fact_count, table_of};

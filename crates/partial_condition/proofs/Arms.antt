@@ -12,7 +12,7 @@ use Rattle.model.specs.Partial.{known, pending_c, ConditionWalk, stopped, throug
 use Rattle.model.specs.Partial as model
 use Rattle.model.specs.Consulted.{Consulted, unless_false, unless_true, walk_c}
 use Rattle.model.specs.Reading.{Parsed, refuse, got, many, read_condition}
-use Rattle.laws.specs.FieldLaws.{Holds, fine, nothing, weaker}
+use Rattle.laws.proofs.FieldLaws.{Holds, fine, nothing, weaker}
 use Rattle.laws.specs.Size.{words_c, words_cs}
 use Rattle.policy_model.specs.Span.{SkippedConditions}
 use Rattle.condition.specs.Listing.{Lent, lent}

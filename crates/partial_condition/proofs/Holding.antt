@@ -9,7 +9,7 @@ use Rattle.model.specs.Condition.{Condition, Conditions, cnil, ccons}
 use Rattle.model.specs.Partial.{through}
 use Rattle.model.specs.Writing.{word, count_c, encode_c, encode_cs}
 use Rattle.laws.specs.Size.{words_c, words_cs}
-use Rattle.laws.specs.Lengths.{length_encode_c}
+use Rattle.laws.proofs.Lengths.{length_encode_c}
 use Rattle.sizes.specs.Laid.{too_many, capped, Laid}
 use Rattle.sizes.specs.LaidLaws.{laid_as, laid_none, laid_lead, laid_then}
 use Rattle.partial_condition.specs.declared.ReducedCondition.{ReducedCondition}

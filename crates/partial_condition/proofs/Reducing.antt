@@ -13,7 +13,7 @@ use Rattle.model.specs.Partial.{known, pending_c, reduce_has, flip_r, end_all_c,
 use Rattle.model.specs.Partial as model
 use Rattle.model.specs.Writing.{word}
 use Rattle.model.specs.Reading.{got, many, kind_of, rest_of, read_condition}
-use Rattle.laws.specs.FieldLaws.{fine, nothing, weaker, then_holds, both_hold}
+use Rattle.laws.proofs.FieldLaws.{fine, nothing, weaker, then_holds, both_hold}
 use Rattle.policy_model.specs.declared.ConditionHead.{ConditionHead}
 use Rattle.policy_model.specs.declared.ConditionHead.TheVariants.{Always, Never, Has, Not, All, Any, BadKind, BadField}
 use Rattle.policy_model.specs.Heads.{condition_heads, condition_head, condition_node}

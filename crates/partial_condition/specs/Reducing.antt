@@ -7,7 +7,7 @@ use Rattle.model.specs.Partial as model
 use Rattle.model.specs.Consulted.{Consulted, consult_known, walk_c, walk_all_c, walk_any_c}
 use Rattle.model.specs.Writing.{encode_c}
 use Rattle.model.specs.Reading.{many, read_condition}
-use Rattle.laws.specs.FieldLaws.{Holds}
+use Rattle.laws.proofs.FieldLaws.{Holds}
 use Rattle.laws.specs.Size.{words_c, words_cs}
 use Rattle.condition.specs.Listing.{Lent, Consults}
 use Rattle.sizes.specs.Laid.{too_many, Laid}

@@ -1,5 +1,7 @@
 // Conditions reduced, after gatekeep's partial.rs: a condition under a table that leaves facts open is known, or what is left of it is written to the
 // front of `out`, which may be too short for it: then only its size is right. The facts that were read as known are listed on the way, as in `condition`.
+#![tactic(auto)]
+
 ghost use Rattle.std.specs.Prelude.{◌≡◌, not, ◌&&◌, ◌+◌, ◌^◌, ◌≤◌, ◌<◌, set};
 ghost use Rattle.std.specs.Bool.{beq};
 ghost use Rattle.model.specs.Facts.{fact_count, table_of};
@@ -13,7 +15,7 @@ use facts::Presence;
 use policy_model::ConditionHead;
 
 // Whether a condition is pending, its value if it is not, the position after its words, how many entries are in use, and the size of what is left.
-#[derive(Drop)]
+#[derive(Clone, Copy)]
 pub struct ReducedCondition {
     pub pending: bool,
     pub satisfied: bool,
@@ -113,7 +115,7 @@ fn negated(inner: ReducedCondition, out: &mut [u32]) -> ReducedCondition
 }
 
 // The condition at `at`, of at most `depth` levels.
-#[cycle(reduce_arm_reduce_arms_reduce_condition_reduce_condition_all_reduce_condition_any)]
+#[cycle(reduction)]
 pub fn reduce_condition(
     words: &[u32],
     at: usize,
@@ -164,7 +166,7 @@ pub fn reduce_condition(
 }
 
 // The same of an arm. A Has, the commonest arm, is seen here, so that the list rule reads it with no call.
-#[cycle(reduce_arm_reduce_arms_reduce_condition_reduce_condition_all_reduce_condition_any)]
+#[cycle(reduction)]
 fn reduce_arm(
     words: &[u32],
     at: usize,
@@ -266,7 +268,7 @@ fn ended(any: bool, kept: Kept, next: usize, count: usize, out: &mut [u32]) -> R
 }
 
 // The arms of a list rule, an All or an Any of `arms` conditions from `at`: those after the one that decides aren't read.
-#[cycle(reduce_arm_reduce_arms_reduce_condition_reduce_condition_all_reduce_condition_any)]
+#[cycle(reduction)]
 fn reduce_arms(
     words: &[u32],
     at: usize,
@@ -318,7 +320,7 @@ fn reduce_arms(
 }
 
 // All of `arms` conditions from `at`: false without arms, else a false arm decides.
-#[cycle(reduce_arm_reduce_arms_reduce_condition_reduce_condition_all_reduce_condition_any)]
+#[cycle(reduction)]
 fn reduce_condition_all(
     words: &[u32],
     at: usize,
@@ -342,7 +344,7 @@ fn reduce_condition_all(
 }
 
 // Any of `arms` conditions from `at`: a true arm decides.
-#[cycle(reduce_arm_reduce_arms_reduce_condition_reduce_condition_all_reduce_condition_any)]
+#[cycle(reduction)]
 fn reduce_condition_any(
     words: &[u32],
     at: usize,

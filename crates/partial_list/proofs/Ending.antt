@@ -10,7 +10,6 @@ use Rattle.model.specs.Facts.{Table}
 use Rattle.model.specs.Levels.{OutcomeTable}
 use Rattle.model.specs.Decision.{Permit, Denial, permits}
 use Rattle.model.specs.Decision.{Decision as Decided}
-use Rattle.model.specs.Partial.{pending}
 use Rattle.model.specs.Writing.{word, count}
 use Rattle.model.specs.Products.{Outcome, join_permit, encode_d, encodes}
 use Rattle.decision.specs.Meaning.{decision_of}

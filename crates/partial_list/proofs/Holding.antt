@@ -2,10 +2,10 @@
 use mathlib.Core.Path.{◌≡◌, refl, sym, ◌∙◌, ap}
 use mathlib.Core.Bool.{Bool, true, false}
 use mathlib.Core.Option.{Option}
-use mathlib.Core.List.{List, ◌∷◌, ◌++◌}
-use Prim.Native.Nat.{ℕ, ◌+◌, ◌≤◌}
+use mathlib.Core.List.{List, ◌∷◌}
+use Prim.Native.Nat.{ℕ, ◌+◌}
 use native.Mathlib.Omega.{arith}
-use lib.ListN.{length, take, drop, set}
+use lib.ListN.{take, drop, set}
 use lib.Seq.{take-take}
 use Rattle.model.specs.Facts.{Table}
 use Rattle.model.specs.Levels.{OutcomeTable}
@@ -15,7 +15,7 @@ use Rattle.model.specs.Products.{encodes}
 use Rattle.decision.specs.declared.Decision.{Decision}
 use Rattle.decision.specs.Room.{obligation_room, Few}
 use Rattle.evaluate.specs.Evaluating.{Folds}
-use Rattle.sizes.specs.Laid.{too_many, capped}
+use Rattle.sizes.specs.Laid.{capped}
 use Rattle.sizes.specs.LaidLaws.{laid_lead, laid_as}
 use Rattle.residual.specs.Weight.{weight, weights}
 use Rattle.partial_list.specs.declared.ReducedPolicy.{ReducedPolicy}

@@ -7,9 +7,8 @@ use Rattle.model.specs.Decision.{Decision as Decided}
 use Rattle.model.specs.Policy.{Policy}
 use Rattle.model.specs.Partial.{resolved, pending}
 use Rattle.model.specs.Partial as model
-use Rattle.model.specs.Writing.{word, count}
+use Rattle.model.specs.Writing.{count}
 use Rattle.model.specs.Products.{Outcome, encode_d, encode, encodes}
-use Rattle.laws.specs.Size.{words}
 use Rattle.decision.specs.declared.Decision.{Decision}
 use Rattle.decision.specs.Meaning.{denied_at, decision_of, Sound}
 use Rattle.evaluate.specs.Evaluating.{Folds}

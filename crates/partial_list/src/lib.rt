@@ -1,6 +1,8 @@
 // What a list of policies keeps of its arms while it is reduced, and what it comes to, after gatekeep's partial.rs: with its permits first, or in sheet order
 // (request 8). Lent: `buf`, for united obligations, `named`, for the facts of one clause, `out`, where pending arms are laid, and `front`, where a list with
 // its permits first keeps their nodes until it knows that an arm is pending. A slice may be too short for what is laid in it: then only its size is right.
+#![tactic(auto)]
+
 ghost use Rattle.std.specs.Prelude.{◌≡◌, true, false, not, ◌&&◌, List, ℕ, ◌+◌, ◌^◌, ◌≤◌, ◌<◌, drop, set};
 ghost use Rattle.std.proofs.Math.Option.{Option};
 ghost use Rattle.model.specs.Facts.{Table, table_of};
@@ -19,7 +21,7 @@ use decision::{Decision, OBLIGATION_ROOM};
 use outcome::Products;
 
 // Whether a policy is pending, its decision if it is not, the position after its words, how many entries are in use, and the size of what is left.
-#[derive(Drop)]
+#[derive(Clone, Copy)]
 pub struct ReducedPolicy {
     pub pending: bool,
     pub decision: Decision,
@@ -29,7 +31,7 @@ pub struct ReducedPolicy {
 }
 
 // What the arms of a list came to so far.
-#[derive(Drop)]
+#[derive(Clone, Copy)]
 pub struct Sofar {
     // of the resolved arms, if there was one
     pub decision: Decision,

@@ -18,7 +18,7 @@ use Rattle.model.specs.Consulted.{Consulted, unless_permitted}
 use Rattle.model.specs.Writing.{count}
 use Rattle.model.specs.Reading.{Parsed, got, next, many}
 use Rattle.model.specs.Products.{Outcome, end_all, end_any, reduce_policy, reduce_arms, walk, encode_d, encode, read_policy}
-use Rattle.laws.specs.FieldLaws.{Holds, fine, weaker, then_holds, both_hold}
+use Rattle.laws.proofs.FieldLaws.{Holds, fine, weaker, then_holds, both_hold}
 use Rattle.laws.specs.Size.{words, wordss}
 use Rattle.policy_model.specs.declared.PolicyHead.TheVariants.{OrElse}
 use Rattle.policy_model.specs.Heads.{policy_node}

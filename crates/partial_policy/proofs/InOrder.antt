@@ -16,9 +16,8 @@ use Rattle.model.specs.Partial.{resolved, pending, sheet_order, in_order, any_pe
 use Rattle.model.specs.Partial as model
 use Rattle.model.specs.Reading.{got, next, many}
 use Rattle.model.specs.Products.{Outcome, end_in_order, reduce_policy, walk, encode_d, encodes, read_policy}
-use Rattle.laws.specs.FieldLaws.{Holds, fine, weaker, then_holds, both_hold}
+use Rattle.laws.proofs.FieldLaws.{Holds, fine, weaker, then_holds, both_hold}
 use Rattle.laws.specs.Size.{words, wordss}
-use Rattle.policy_model.specs.Heads.{policy_node}
 use Rattle.policy_model.specs.Span.{Skipped}
 use Rattle.policy_model.proofs.Policies.{policy_leaves}
 use Rattle.condition.specs.Listing.{Lent, lent}
@@ -38,7 +37,7 @@ use Rattle.partial_list.specs.declared.ReducedPolicy.{ReducedPolicy}
 use Rattle.partial_list.specs.declared.Sofar.{Sofar}
 use Rattle.partial_list.specs.Keeping.{stops, list_of, fold_of, fold_next, read_of}
 use Rattle.partial_list.specs.KeepingLaws.{read_more, read_stop, read_none, read_start}
-use Rattle.partial_list.specs.Holding.{left_of, is_begun, value_of, NoDeny}
+use Rattle.partial_list.specs.Holding.{left_of, value_of, NoDeny}
 use Rattle.partial_list.specs.HoldingLaws.{left_start, left_more, left_last, left_none, end_pending, end_value, value_more, value_last, pending_more, pending_open, weights_more, words_more, count_more, going_more, begun_more}
 use Rattle.partial_list.specs.WithinLaws.{within_as, within_then, within_still}
 use Rattle.partial_list.specs.Answers.{resolved_to, Result, sofar_of, Bounded}

@@ -19,19 +19,18 @@ use Rattle.model.specs.Condition.{Condition, satisfied, unsatisfied, eval_has, e
 use Rattle.model.specs.Condition as model-condition
 use Rattle.model.specs.Consulted.{Consulted, walk_c}
 use Rattle.model.specs.Policy.{Policy, Grant as Clause, grant}
-use Rattle.model.specs.Evaluate.{eval_grant}
 use Rattle.model.specs.Partial.{known, pending_c, reduce_condition, resolved, pending, Order, reduce_grant}
 use Rattle.model.specs.Partial as model
 use Rattle.model.specs.Writing.{obligation_bits, encode_c}
 use Rattle.model.specs.Reading.{Parsed, refuse, got, kind_of, rest_of, few_obligations, read_condition}
 use Rattle.model.specs.Products.{Outcome, read, walk, eval_policy, reduce_policy, encode, read_policy, policy_at}
-use Rattle.laws.specs.FieldLaws.{Holds, fine, nothing, weaker, then_holds, both_hold}
+use Rattle.laws.proofs.FieldLaws.{Holds, fine, nothing, weaker, then_holds, both_hold}
 use Rattle.laws.specs.Size.{words_c, words}
-use Rattle.laws.specs.Lengths.{length_pack}
-use Rattle.laws.specs.Canon.{same_t}
+use Rattle.laws.proofs.Lengths.{length_pack}
+use Rattle.laws.proofs.Canon.{same_t}
 use Rattle.laws.specs.Products.{written_products}
-use Rattle.staging.specs.ConditionLaws as staging
-use Rattle.staging.specs.ConditionLaws.{known_again}
+use Rattle.staging.proofs.ConditionLaws as staging
+use Rattle.staging.proofs.ConditionLaws.{known_again}
 use Rattle.facts.specs.AnswerLaws.{settled_known, settled_consulted}
 use Rattle.policy_model.specs.contracts.PolicyHead.{the_type}
 use Rattle.policy_model.specs.declared.PolicyHead.{PolicyHead}

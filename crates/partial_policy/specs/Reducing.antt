@@ -1,14 +1,14 @@
 -- What the reduction of policies answers, and what it leaves in the lists and outputs that it is lent. Document 01, "Reducing".
-use Rattle.std.specs.Prelude.{◌≡◌, Bool, true, false, List, ◌∷◌, ◌++◌, ℕ, suc, ◌+◌, ◌-◌, ◌%◌, ◌≤◌, ◌<◌, min, length, drop, get_or}
+use Rattle.std.specs.Prelude.{◌≡◌, Bool, true, false, List, ◌∷◌, ◌++◌, ℕ, suc, ◌+◌, ◌%◌, ◌≤◌, ◌<◌, min, length, drop, get_or}
 use Rattle.std.proofs.Math.Option.{Option}
 use Rattle.model.specs.Facts.{Table}
 use Rattle.model.specs.Levels.{OutcomeTable}
 use Rattle.model.specs.Partial.{as_residual, Order, permits_first, sheet_order}
 use Rattle.model.specs.Partial as model
 use Rattle.model.specs.Consulted.{Consulted}
-use Rattle.model.specs.Writing.{word, count}
+use Rattle.model.specs.Writing.{word}
 use Rattle.model.specs.Products.{Outcome, reduce_policy, walk, encode, read_policy, policy_at}
-use Rattle.laws.specs.FieldLaws.{Holds}
+use Rattle.laws.proofs.FieldLaws.{Holds}
 use Rattle.laws.specs.Size.{words}
 use Rattle.facts.specs.Answers.{is_settled}
 use Rattle.policy_model.specs.declared.PolicyHead.{PolicyHead}

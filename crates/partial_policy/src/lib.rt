@@ -2,6 +2,8 @@
 // of `out`, which may be too short for it: then only its size is right. A policy hands its arms to the list rule, and the list rule hands each arm back.
 // There are two list rules: with its permits first, or in sheet order (request 8). Lent down the walk, besides: the consulted list and `buf`, as in
 // `evaluate`, and `named` and `front`, as in `partial_list`; a list with its permits first lends the tail of `front` to its arms.
+#![tactic(auto)]
+
 ghost use Rattle.std.specs.Prelude.{◌≡◌, Bool, true, false, List, ℕ, ◌+◌, ◌^◌, ◌≤◌, ◌<◌, length, take, drop};
 ghost use Rattle.std.proofs.Math.Option.{Option};
 ghost use Rattle.model.specs.Facts.{table_of};
@@ -190,7 +192,7 @@ fn end_or_else(
 }
 
 // The policy at `at`, of at most `depth` levels.
-#[cycle(reduce_all_reduce_any_reduce_arm_reduce_in_order_reduce_or_else_reduce_permits_first_reduce_policy)]
+#[cycle(reduction)]
 pub fn reduce_policy(
     words: &[u32],
     at: usize,
@@ -296,7 +298,7 @@ pub fn reduce_policy(
 }
 
 // The same of an arm of a list with its permits first. A Permit and a grant on one fact that is settled, the commonest arms of a wide list, are answered here.
-#[cycle(reduce_all_reduce_any_reduce_arm_reduce_in_order_reduce_or_else_reduce_permits_first_reduce_policy)]
+#[cycle(reduction)]
 fn reduce_arm(
     words: &[u32],
     at: usize,
@@ -347,7 +349,7 @@ fn reduce_arm(
 
 // The All at `at`, whose `arms` have at most `depth` levels, by the list rule of the order. Each rule has two callers, so that none is compiled into a
 // policy's frame, of which there is one for each level.
-#[cycle(reduce_all_reduce_any_reduce_arm_reduce_in_order_reduce_or_else_reduce_permits_first_reduce_policy)]
+#[cycle(reduction)]
 fn reduce_all(
     words: &[u32],
     at: usize,
@@ -407,7 +409,7 @@ fn reduce_all(
 }
 
 // The Any at `at`.
-#[cycle(reduce_all_reduce_any_reduce_arm_reduce_in_order_reduce_or_else_reduce_permits_first_reduce_policy)]
+#[cycle(reduction)]
 fn reduce_any(
     words: &[u32],
     at: usize,
@@ -467,7 +469,7 @@ fn reduce_any(
 }
 
 // The All or Any at `at`, whose `arms` have at most `depth` levels, with its permits first. All stops at a resolved deny, which is its answer, and arms after that one aren't read; Any reads every arm.
-#[cycle(reduce_all_reduce_any_reduce_arm_reduce_in_order_reduce_or_else_reduce_permits_first_reduce_policy)]
+#[cycle(reduction)]
 fn reduce_permits_first(
     words: &[u32],
     at: usize,
@@ -536,7 +538,7 @@ fn reduce_permits_first(
 }
 
 // The same in sheet order. A resolved deny ends All: where no arm before it is pending it is the answer, else it is the last arm that is kept.
-#[cycle(reduce_all_reduce_any_reduce_arm_reduce_in_order_reduce_or_else_reduce_permits_first_reduce_policy)]
+#[cycle(reduction)]
 fn reduce_in_order(
     words: &[u32],
     at: usize,
@@ -609,7 +611,7 @@ fn reduce_in_order(
 
 // The OrElse at `at`, whose two policies have at most `depth` levels: a resolved permit of the primary is the answer, after a resolved deny the fallback
 // is, and with a pending primary both are kept.
-#[cycle(reduce_all_reduce_any_reduce_arm_reduce_in_order_reduce_or_else_reduce_permits_first_reduce_policy)]
+#[cycle(reduction)]
 fn reduce_or_else(
     words: &[u32],
     at: usize,

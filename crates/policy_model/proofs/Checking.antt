@@ -7,7 +7,7 @@ use native.Mathlib.Omega.{arith}
 use lib.ListN.{length, drop, get_or, drop_of_length-le}
 use lib.Seq.{drop-cons, drop-drop, drop_at}
 use Rattle.model.specs.Reading.{Parsed, refuse, got, next, many}
-use Rattle.laws.specs.FieldLaws.{Holds, weaker}
+use Rattle.laws.proofs.FieldLaws.{Holds, weaker}
 use Rattle.policy_model.specs.declared.Checked.{Checked}
 use Rattle.policy_model.specs.declared.Checked.TheVariants.{Next, Refused}
 use Rattle.policy_model.specs.Answers.{checked}
@@ -35,51 +35,51 @@ Leaves size us q = Holds (λ a vs. drop (size a) us ≡ vs) q
 pub leaves_of : {A : Type 0} (enc : A → List ℕ) (size : A → ℕ) → ((a : A) → length (enc a) ≡ size a) → (us : List ℕ) (q : Parsed A) → Holds (λ a vs. enc a ++ vs ≡ us) q → Leaves size us q
 leaves_of enc size long us q h = weaker q (λ a vs e. ap (drop (size a)) (sym e) ∙ drop_at (enc a) vs (size a) (long a)) h
 
-module _ {A C : Type 0} (sizeA : A → ℕ) (sizeC : C → ℕ) (words : List ℕ) (from at : ℕ) where
+module _ {A C : Type 0} (size_a : A → ℕ) (size_c : C → ℕ) (words : List ℕ) (from at : ℕ) where
   -- A part was read up to `after`, and the rest is read from there.
-  pub go_on : (after : ℕ) (q : Parsed A) (k : A → List ℕ → Parsed C) (r : Checked) → Leaves sizeA (drop from words) q → Next after ≡ checked sizeA from q →
-      ((a : A) → after ≡ from + sizeA a → r ≡ checked sizeC at (k a (drop after words))) → r ≡ checked sizeC at (next q k)
+  pub go_on : (after : ℕ) (q : Parsed A) (k : A → List ℕ → Parsed C) (r : Checked) → Leaves size_a (drop from words) q → Next after ≡ checked size_a from q →
+      ((a : A) → after ≡ from + size_a a → r ≡ checked size_c at (k a (drop after words))) → r ≡ checked size_c at (next q k)
   unfolding checked
   go_on after (refuse n) k r l e f = clash after n e
   go_on after (got a vs) k r l e f =
-      let ends : after ≡ from + sizeA a = cc in
-      let rest : drop after words ≡ vs = ap (λ n. drop n words) ends ∙ sym (drop-drop (sizeA a) from words) ∙ l.it in
-      f a ends ∙ ap (λ us. checked sizeC at (k a us)) rest
+      let ends : after ≡ from + size_a a = cc in
+      let rest : drop after words ≡ vs = ap (λ n. drop n words) ends ∙ sym (drop-drop (size_a a) from words) ∙ l.it in
+      f a ends ∙ ap (λ us. checked size_c at (k a us)) rest
 
-  pub give_up : (n : ℕ) (q : Parsed A) (k : A → List ℕ → Parsed C) → Refused n ≡ checked sizeA from q → Refused n ≡ checked sizeC at (next q k)
+  pub give_up : (n : ℕ) (q : Parsed A) (k : A → List ℕ → Parsed C) → Refused n ≡ checked size_a from q → Refused n ≡ checked size_c at (next q k)
   unfolding checked
   give_up n (refuse m) k e = e
-  give_up n (got a vs) k e = clash (from + sizeA a) n (sym e)
+  give_up n (got a vs) k e = clash (from + size_a a) n (sym e)
 
 -- The last part.
-module _ {A C : Type 0} (sizeA : A → ℕ) (sizeC : C → ℕ) (from at : ℕ) where
-  pub end_with : (f : A → C) (q : Parsed A) → ((a : A) → from + sizeA a ≡ at + sizeC (f a)) → checked sizeA from q ≡ checked sizeC at (next q (λ a vs. got (f a) vs))
+module _ {A C : Type 0} (size_a : A → ℕ) (size_c : C → ℕ) (from at : ℕ) where
+  pub end_with : (f : A → C) (q : Parsed A) → ((a : A) → from + size_a a ≡ at + size_c (f a)) → checked size_a from q ≡ checked size_c at (next q (λ a vs. got (f a) vs))
   unfolding checked
   end_with f (refuse n) e = refl
   end_with f (got a vs) e = ap Next (e a)
 
 -- So many parts, one after the other.
-module _ {A B : Type 0} (sizeA : A → ℕ) (sizeB : B → ℕ) (nil : B) (cons : A → B → B) (p : List ℕ → Parsed A)
-    (size-nil : sizeB nil ≡ 0) (size-cons : (a : A) (b : B) → sizeB (cons a b) ≡ sizeA a + sizeB b)
-    (leaves : (us : List ℕ) → Leaves sizeA us (p us)) (words : List ℕ) where
+module _ {A B : Type 0} (size_a : A → ℕ) (size_b : B → ℕ) (nil : B) (cons : A → B → B) (p : List ℕ → Parsed A)
+    (size-nil : size_b nil ≡ 0) (size-cons : (a : A) (b : B) → size_b (cons a b) ≡ size_a a + size_b b)
+    (leaves : (us : List ℕ) → Leaves size_a us (p us)) (words : List ℕ) where
   more_than_none : (count : ℕ) (us : List ℕ) → (count ≡ 0 → ⊥) → many nil cons p count us ≡ next (p us) (λ a vs. next (many nil cons p (count - 1) vs) (λ b ts. got (cons a b) ts))
   more_than_none zero us f = absurd (f refl)
   more_than_none (suc count) us f = rw sub-one
 
   -- The first part, and then the others.
-  first_then : (at : ℕ) (q : Parsed A) (rest : List ℕ → Parsed B) → Leaves sizeA (drop at words) q →
-      and_then (checked sizeA at q) (λ after. checked sizeB after (rest (drop after words))) ≡ checked sizeB at (next q (λ a vs. next (rest vs) (λ b ts. got (cons a b) ts)))
+  first_then : (at : ℕ) (q : Parsed A) (rest : List ℕ → Parsed B) → Leaves size_a (drop at words) q →
+      and_then (checked size_a at q) (λ after. checked size_b after (rest (drop after words))) ≡ checked size_b at (next q (λ a vs. next (rest vs) (λ b ts. got (cons a b) ts)))
   unfolding checked
   first_then at (refuse n) rest l = refl
   first_then at (got a vs) rest l =
-      ap (λ us. checked sizeB (at + sizeA a) (rest us)) (sym (drop-drop (sizeA a) at words) ∙ l.it)
-      ∙ end_with sizeB sizeB (at + sizeA a) at (cons a) (rest vs) (λ b. omega (arith, size-cons a b))
+      ap (λ us. checked size_b (at + size_a a) (rest us)) (sym (drop-drop (size_a a) at words) ∙ l.it)
+      ∙ end_with size_b size_b (at + size_a a) at (cons a) (rest vs) (λ b. omega (arith, size-cons a b))
 
   pub many_first : (count at : ℕ) → (count ≡ 0 → ⊥) →
-      and_then (checked sizeA at (p (drop at words))) (λ after. checked sizeB after (many nil cons p (count - 1) (drop after words))) ≡ checked sizeB at (many nil cons p count (drop at words))
+      and_then (checked size_a at (p (drop at words))) (λ after. checked size_b after (many nil cons p (count - 1) (drop after words))) ≡ checked size_b at (many nil cons p count (drop at words))
   many_first count at f =
-      first_then at (p (drop at words)) (many nil cons p (count - 1)) (leaves (drop at words)) ∙ ap (checked sizeB at) (sym (more_than_none count (drop at words) f))
+      first_then at (p (drop at words)) (many nil cons p (count - 1)) (leaves (drop at words)) ∙ ap (checked size_b at) (sym (more_than_none count (drop at words) f))
 
-  pub many_none : (count at : ℕ) → count ≡ 0 → Next at ≡ checked sizeB at (many nil cons p count (drop at words))
+  pub many_none : (count at : ℕ) → count ≡ 0 → Next at ≡ checked size_b at (many nil cons p count (drop at words))
   unfolding checked
   many_none count at e = rw e (ap Next (omega (arith, size-nil)))

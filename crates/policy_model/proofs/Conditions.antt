@@ -9,8 +9,8 @@ use Rattle.model.specs.Condition.{Condition, not_c, all_c, any_c, cnil, ccons}
 use Rattle.model.specs.Writing.{encode_c}
 use Rattle.model.specs.Reading.{Parsed, refuse, got, next, many, read_condition}
 use Rattle.laws.specs.Size.{words_c, words_cs}
-use Rattle.laws.specs.Lengths.{length_encode_c}
-use Rattle.laws.specs.Canon.{same_c}
+use Rattle.laws.proofs.Lengths.{length_encode_c}
+use Rattle.laws.proofs.Canon.{same_c}
 use Rattle.policy_model.specs.declared.Checked.{Checked}
 use Rattle.policy_model.specs.declared.Checked.TheVariants.{Next, Refused}
 use Rattle.policy_model.specs.declared.ConditionHead.{ConditionHead}

@@ -9,8 +9,8 @@ use lib.ListN.{length, drop, length-map}
 use lib.Seq.{drop_at}
 use Rattle.model.specs.Fields.{words_for, per_word, pack}
 use Rattle.model.specs.Reading.{Parsed, refuse, got, Fields, bad, ok, put, take_fields, read_list}
-use Rattle.laws.specs.FieldLaws.{bad_fields, Holds, weaker, same_list_lem}
-use Rattle.laws.specs.Lengths.{length_pack}
+use Rattle.laws.proofs.FieldLaws.{bad_fields, Holds, weaker, same_list_lem}
+use Rattle.laws.proofs.Lengths.{length_pack}
 use Rattle.policy_model.specs.declared.Checked.{Checked}
 use Rattle.policy_model.specs.declared.Checked.TheVariants.{Next, Refused}
 use Rattle.policy_model.specs.Answers.{checked}

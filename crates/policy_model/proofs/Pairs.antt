@@ -6,16 +6,17 @@ use Prim.Native.Nat.{ℕ, zero, suc, ◌+◌, ◌-◌, ◌/◌, ◌%◌, ◌≤�
 use native.Mathlib.Nat.{div-one}
 use native.Mathlib.Numerals.{sub-one}
 use native.Mathlib.Omega.{arith}
-use borrow.Author.Tests.{lt-ltb, le-ltb, ltb-true, ltb-false}
+use borrow.Author.Tests.{le-ltb, ltb-true, ltb-false}
 use lib.Dec.{eqb, ltb, eqb-suc-zero, eqb-suc-suc}
 use lib.ListN.{length, drop, get_or}
 use Rattle.model.specs.Fields.{split, words_for}
 use Rattle.model.specs.Consulted.{Entry, Consulted}
 use Rattle.model.specs.Writing.{entry_bits, seen_in, entry_field}
-use Rattle.model.specs.Reading.{Parsed, refuse, got, unless, Fields, bad, ok, put, take_field, take_fields, read_words, read_list, listed, presence_count, consulted}
+use Rattle.model.specs.Reading.{Parsed, refuse, got, unless, bad, ok, put, take_field, take_fields, read_words, read_list, listed, presence_count, consulted}
 use Rattle.laws.specs.Size.{pairs}
-use Rattle.laws.specs.FieldLaws.{bad_words_lem, Holds, weaker, same_list_lem, words_for_none, words_for_more}
-use Rattle.laws.specs.ReadForm.{same_listed, same_consulted}
+use Rattle.laws.proofs.FieldLaws.{bad_words_lem, Holds, weaker, same_list_lem}
+use Rattle.laws.proofs.WordLaws.{words_for_none, words_for_more}
+use Rattle.laws.proofs.ReadForm.{same_listed, same_consulted}
 use Rattle.policy_model.specs.declared.Checked.{Checked}
 use Rattle.policy_model.specs.declared.Checked.TheVariants.{Next, Refused}
 use Rattle.policy_model.specs.Answers.{checked}

@@ -18,8 +18,8 @@ use Rattle.model.specs.Products.{Outcome, encode}
 use Rattle.model.specs.Products as products
 use Rattle.laws.specs.Size.{words_d, words, wordss}
 use Rattle.laws.specs.Form.{IfThere}
-use Rattle.laws.specs.Lengths.{length_encode}
-use Rattle.laws.specs.Canon.{same_t}
+use Rattle.laws.proofs.Lengths.{length_encode}
+use Rattle.laws.proofs.Canon.{same_t}
 use Rattle.policy_model.specs.declared.Checked.{Checked}
 use Rattle.policy_model.specs.declared.Checked.TheVariants.{Next, Refused}
 use Rattle.policy_model.specs.declared.PolicyHead.{PolicyHead}

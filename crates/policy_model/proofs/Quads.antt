@@ -1,8 +1,8 @@
 -- A list of obligations, word by word: how many are to come. Assumes nothing.
 use mathlib.Core.Path.{◌≡◌, refl, sym, ◌∙◌, ap, ap₂}
 use mathlib.Core.Bool.{Bool, true, false, cond}
-use mathlib.Core.List.{List, [], ◌∷◌, ◌++◌}
-use Prim.Native.Nat.{ℕ, zero, suc, ◌+◌, ◌-◌, ◌*◌, ◌/◌, ◌%◌, ◌^◌, ◌≤◌, ◌<◌}
+use mathlib.Core.List.{List, [], ◌∷◌}
+use Prim.Native.Nat.{ℕ, zero, suc, ◌+◌, ◌-◌, ◌/◌, ◌%◌, ◌≤◌, ◌<◌}
 use native.Mathlib.Nat.{div-one}
 use native.Mathlib.Numerals.{sub-one}
 use native.Mathlib.Omega.{arith}
@@ -10,10 +10,11 @@ use lib.Dec.{eqb, ltb, eqb-suc-zero}
 use lib.ListN.{length, drop, get_or}
 use Rattle.model.specs.Fields.{split, words_for}
 use Rattle.model.specs.Writing.{obligation_bits}
-use Rattle.model.specs.Reading.{Parsed, refuse, got, unless, Fields, bad, ok, put, take_field, take_fields, read_words, read_list, obligation, obligation_count}
+use Rattle.model.specs.Reading.{got, unless, Fields, bad, ok, put, take_field, take_fields, read_words, read_list, obligation, obligation_count}
 use Rattle.laws.specs.Size.{quads}
-use Rattle.laws.specs.FieldLaws.{bad_words_lem, words_for_none, words_for_more}
-use Rattle.laws.specs.ReadForm.{same_obligation}
+use Rattle.laws.proofs.FieldLaws.{bad_words_lem}
+use Rattle.laws.proofs.WordLaws.{words_for_none, words_for_more}
+use Rattle.laws.proofs.ReadForm.{same_obligation}
 use Rattle.policy_model.specs.declared.Checked.{Checked}
 use Rattle.policy_model.specs.declared.Checked.TheVariants.{Next}
 use Rattle.policy_model.specs.declared.Checked.TheVariants as check

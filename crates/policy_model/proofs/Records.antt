@@ -1,23 +1,21 @@
 -- What an accepted sheet or record consists of: its tree is read to the last word, and a record's entries before it. Assumes nothing.
 use mathlib.Core.Path.{◌≡◌, refl, sym, ◌∙◌, ap, subst}
-use mathlib.Core.Bool.{Bool, true, false, ◌&&◌}
-use mathlib.Core.Option.{Option, none, some}
+use mathlib.Core.Bool.{true, false, ◌&&◌}
+use mathlib.Core.Option.{none}
 use mathlib.Core.List.{List, [], ◌∷◌}
 use Prim.Native.Nat.{ℕ, zero, suc, ◌+◌, ◌-◌, ◌/◌, ◌%◌, ◌≤◌}
 use native.Mathlib.Omega.{arith}
 use borrow.Author.Tests.{leb-true, le-leb}
 use lib.Dec.{leb}
 use lib.ListN.{length, drop}
-use Rattle.model.specs.Condition.{Condition}
 use Rattle.model.specs.Policy.{Policy, stored}
 use Rattle.model.specs.Partial.{ReducedPolicy, resolved, pending}
-use Rattle.model.specs.Consulted.{Consulted}
 use Rattle.model.specs.Record.{Record}
 use Rattle.model.specs.Writing.{entry_bits}
 use Rattle.model.specs.Reading.{Parsed, refuse, got, next, unless, read_list, consulted, read_condition, whole}
 use Rattle.model.specs.Products.{Outcome, lead_kind, at12, at13, as_stored, node_p, read_policy, read_sheet, node14, parse14, parse15, rest, leads, read_lead, read_record}
 use Rattle.laws.specs.Size.{pairs}
-use Rattle.laws.specs.FieldLaws.{Holds, fine, nothing, if_holds, weaker}
+use Rattle.laws.proofs.FieldLaws.{Holds, fine, nothing, if_holds}
 use Rattle.policy_model.specs.Answers.{refusal, Lead, lead_of}
 use Rattle.policy_model.proofs.Pairs.{entries_leave, entries_long}
 

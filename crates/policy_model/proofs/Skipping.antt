@@ -10,16 +10,16 @@ use lib.Dec.{eqb, ltb, leb}
 use lib.ListN.{length, drop, get_or, length-map, length-drop}
 use lib.Seq.{drop-drop, get_or-drop}
 use Rattle.model.specs.Fields.{words_for, per_word, pack}
-use Rattle.model.specs.Condition.{Condition, not_c, all_c, any_c, Conditions, cnil, ccons}
+use Rattle.model.specs.Condition.{Condition, not_c, all_c, any_c, cnil, ccons}
 use Rattle.model.specs.Decision.{Decision, permits, denies}
-use Rattle.model.specs.Policy.{Policy, grant, all, any, or_else, stored, Policies, pnil, pcons}
+use Rattle.model.specs.Policy.{Policy, grant, all, any, or_else, stored, pnil, pcons}
 use Rattle.model.specs.Writing.{obligation_bits, entry_bits}
-use Rattle.model.specs.Reading.{Parsed, refuse, got, next, unless, another, many, read_list, obligation, listed, mark, shape_of, read_condition, most_obligations}
+use Rattle.model.specs.Reading.{Parsed, refuse, got, next, unless, many, read_list, obligation, listed, mark, shape_of, read_condition, most_obligations}
 use Rattle.model.specs.Products.{Outcome, read_policy}
 use Rattle.laws.specs.Size.{quads, pairs, words_c, words_cs, words_d, words, wordss}
-use Rattle.laws.specs.FieldLaws.{Holds, fine, nothing, if_holds, weaker, then_holds, same_list_lem}
-use Rattle.laws.specs.Lengths.{length_pack}
-use Rattle.laws.specs.ReadForm.{same_obligation, same_listed}
+use Rattle.laws.proofs.FieldLaws.{Holds, fine, nothing, if_holds, weaker, then_holds, same_list_lem}
+use Rattle.laws.proofs.Lengths.{length_pack}
+use Rattle.laws.proofs.ReadForm.{same_obligation, same_listed}
 use Rattle.policy_model.specs.declared.ConditionHead.{ConditionHead}
 use Rattle.policy_model.specs.declared.ConditionHead.TheVariants.{Always, Never, Has, Not}
 use Rattle.policy_model.specs.declared.ConditionHead.TheVariants as condition
@@ -198,10 +198,10 @@ abbrev SpanC : List ℕ → Condition → List ℕ → Type 0
 SpanC us c vs = (nodes : ℕ) → span us 0 (suc nodes) ≡ words_c c + span vs 0 nodes
 
 -- So many trees, one after the other.
-module _ {A B : Type 0} (sizeA : A → ℕ) (sizeB : B → ℕ) (nil : B) (cons : A → B → B) (p : List ℕ → Parsed A)
-    (size-nil : sizeB nil ≡ 0) (size-cons : (a : A) (b : B) → sizeB (cons a b) ≡ sizeA a + sizeB b)
-    (spans : (us : List ℕ) → Holds (λ a vs. (nodes : ℕ) → span us 0 (suc nodes) ≡ sizeA a + span vs 0 nodes) (p us)) where
-  span_many : (count : ℕ) (us : List ℕ) → Holds (λ b vs. (nodes : ℕ) → span us 0 (count + nodes) ≡ sizeB b + span vs 0 nodes) (many nil cons p count us)
+module _ {A B : Type 0} (size_a : A → ℕ) (size_b : B → ℕ) (nil : B) (cons : A → B → B) (p : List ℕ → Parsed A)
+    (size-nil : size_b nil ≡ 0) (size-cons : (a : A) (b : B) → size_b (cons a b) ≡ size_a a + size_b b)
+    (spans : (us : List ℕ) → Holds (λ a vs. (nodes : ℕ) → span us 0 (suc nodes) ≡ size_a a + span vs 0 nodes) (p us)) where
+  span_many : (count : ℕ) (us : List ℕ) → Holds (λ b vs. (nodes : ℕ) → span us 0 (count + nodes) ≡ size_b b + span vs 0 nodes) (many nil cons p count us)
   span_many zero us = fine (λ nodes. ap (span us 0) (let e : 0 + nodes ≡ nodes = omega arith in e) ∙ omega (arith, size-nil))
   span_many (suc count) us =
       then_holds (p us) (λ a vs. next (many nil cons p count vs) (λ b ts. got (cons a b) ts)) (spans us) (λ a vs h.
@@ -211,14 +211,14 @@ module _ {A B : Type 0} (sizeA : A → ℕ) (sizeB : B → ℕ) (nil : B) (cons 
       ap (span us 0) e ∙ omega (arith, h (count + nodes), g nodes, size-cons a b))))
 
   -- The position after them.
-  skipped_at : (count at r : ℕ) (us : List ℕ) (q : Parsed B) → r ≡ at + span us 0 count → Holds (λ b vs. (nodes : ℕ) → span us 0 (count + nodes) ≡ sizeB b + span vs 0 nodes) q → Skipped sizeB at q r
+  skipped_at : (count at r : ℕ) (us : List ℕ) (q : Parsed B) → r ≡ at + span us 0 count → Holds (λ b vs. (nodes : ℕ) → span us 0 (count + nodes) ≡ size_b b + span vs 0 nodes) q → Skipped size_b at q r
   unfolding Skipped
   skipped_at count at r us (refuse n) e h = tt
   skipped_at count at r us (got b vs) e h =
       let z : span us 0 (count + 0) ≡ span us 0 count = ap (span us 0) (omega arith) in
       omega (arith, h.it 0, z, span_zero vs)
 
-  skipped_many : (count at r : ℕ) (us : List ℕ) → r ≡ at + span us 0 count → Skipped sizeB at (many nil cons p count us) r
+  skipped_many : (count at r : ℕ) (us : List ℕ) → r ≡ at + span us 0 count → Skipped size_b at (many nil cons p count us) r
   skipped_many count at r us e = skipped_at count at r us (many nil cons p count us) e (span_many count us)
 
 module _ (p : List ℕ → Parsed Condition) (spans : (us : List ℕ) → Holds (SpanC us) (p us)) where

@@ -12,8 +12,8 @@ use lib.Seq.{drop-drop}
 use Rattle.model.specs.Outcome.{below}
 use Rattle.model.specs.Condition.{Condition}
 use Rattle.model.specs.Decision.{Decision}
-use Rattle.model.specs.Policy.{Policy, stored}
-use Rattle.model.specs.Partial.{ReducedPolicy, resolved, pending}
+use Rattle.model.specs.Policy.{Policy}
+use Rattle.model.specs.Partial.{ReducedPolicy, pending}
 use Rattle.model.specs.Consulted.{Consulted}
 use Rattle.model.specs.Record.{Record}
 use Rattle.model.specs.Writing.{entry_bits}
@@ -21,7 +21,7 @@ use Rattle.model.specs.Reading.{Parsed, refuse, got, next, unless, another, read
 use Rattle.model.specs.Reading as reading
 use Rattle.model.specs.Products.{Outcome, lead_kind, as_stored, as_resolved}
 use Rattle.laws.specs.Size.{pairs, words}
-use Rattle.laws.specs.FieldLaws.{Holds, fine, nothing, if_holds}
+use Rattle.laws.proofs.FieldLaws.{Holds, fine, nothing, if_holds}
 use Rattle.policy_model.specs.declared.Checked.{Checked}
 use Rattle.policy_model.specs.declared.Checked.TheVariants.{Next, Refused}
 use Rattle.policy_model.specs.Answers.{checked, at_end, refusal, words_b, lead_of, record_lead, record_of}

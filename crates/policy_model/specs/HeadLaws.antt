@@ -1,13 +1,12 @@
 -- A node read by its kind and its other bits is the node read by its head: for every walk over the words.
-use Rattle.std.specs.Prelude.{◌≡◌, Bool, ◌&&◌, List, [], ◌∷◌, eqb, ltb, leb, length, get_or}
+use Rattle.std.specs.Prelude.{◌≡◌, Bool, ◌&&◌, List, ◌∷◌, eqb, ltb, leb, get_or}
 use Rattle.std.proofs.Math.Path.{refl}
-use Rattle.std.proofs.Common.{sym, ◌∙◌, ap, eq-eqb, leb-true, leb-false, ltb-true, ltb-false, le-leb, lt-ltb, le-ltb}
+use Rattle.std.proofs.Common.{sym, ◌∙◌, ap, eq-eqb, leb-true, lt-ltb, le-ltb}
 use Rattle.std.proofs.Math.Bool.{true, false, cond}
-use Rattle.std.proofs.Math.Option.{Option, none, some}
+use Rattle.std.proofs.Math.Option.{none, some}
 use Prim.Native.Nat.{ℕ, zero, suc, ◌+◌, ◌-◌, ◌/◌, ◌%◌, ◌≤◌, ◌<◌}
 use native.Mathlib.Omega.{arith}
 use Rattle.std.proofs.lemmas.Bool.{lt-leb}
-use Rattle.std.proofs.Math.ListN.{get_or-eq_default}
 use Rattle.model.specs.Outcome.{below}
 use Rattle.model.specs.Condition.{Condition}
 use Rattle.model.specs.Decision.{Decision}
@@ -21,7 +20,7 @@ use Rattle.policy_model.specs.declared.ConditionHead.TheVariants as condition
 use Rattle.policy_model.specs.declared.PolicyHead.{PolicyHead}
 use Rattle.policy_model.specs.declared.PolicyHead.TheVariants.{Permit, Deny, Grant, OrElse, PermitWithTrace, DenyWithTrace}
 use Rattle.policy_model.specs.declared.PolicyHead.TheVariants as policy
-use Rattle.policy_model.specs.Heads.{condition_heads, condition_head, condition_node, deep_condition, permit_head, grant_head, permit_trace_head, deny_trace_head, policy_heads, policy_head, within_most, bit_of, denied_by, permit_trace_node, deny_trace_node, grant_node, policy_node, deep_policy}
+use Rattle.policy_model.specs.Heads.{condition_heads, condition_head, condition_node, deep_condition, permit_head, grant_head, permit_trace_head, deny_trace_head, policy_heads, policy_head, within_most, bit_of, permit_trace_node, deny_trace_node, grant_node, policy_node, deep_policy}
 
 -- ---- conditions
 module _ (p : List ℕ → Parsed Condition) (ws : List ℕ) where

@@ -5,7 +5,7 @@ use Rattle.model.specs.Outcome.{outcome_bits}
 use Rattle.model.specs.Condition.{cnil, ccons}
 use Rattle.model.specs.Writing.{count_bits}
 use Rattle.model.specs.Reading.{Parsed, refuse, got, kind_of, many, read_condition}
-use Rattle.laws.specs.FieldLaws.{Holds}
+use Rattle.laws.proofs.FieldLaws.{Holds}
 use Rattle.laws.specs.Size.{words_cs}
 
 -- The arms that a first word opens, by its kind: a grant's condition is one.

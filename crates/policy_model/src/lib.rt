@@ -1,4 +1,6 @@
 // Policies as words, after gatekeep's policy_model.rs: what one word says, whether words hold a sheet or a record, and how far a tree reaches.
+#![tactic(auto)]
+
 ghost use Rattle.std.specs.Prelude.{◌≡◌, Bool, ℕ, ◌+◌, ◌-◌, ◌%◌, ◌^◌, ◌<◌, ◌≤◌, length, drop, get_or};
 ghost use Rattle.model.specs.Fields.{bits, split, words_for};
 ghost use Rattle.model.specs.Outcome.{outcome_bits, below};
@@ -8,7 +10,7 @@ ghost use Rattle.model.specs.Writing.{count_bits, obligation_bits, entry_bits};
 ghost use Rattle.model.specs.Reading.{many, read_list, obligation, listed, consulted, read_condition, levels, record_words, sheet_number, whole};
 ghost use Rattle.model.specs.Reading as reading;
 ghost use Rattle.model.specs.Products.{read_policy};
-ghost use Rattle.laws.specs.Size.{quads, pairs, words_c, words_cs, words_d, words as wordsT, wordss as wordsTs};
+ghost use Rattle.laws.specs.Size.{quads, pairs, words_c, words_cs, words_d, words as words_t, wordss as words_ts};
 ghost use Rattle.policy_model.specs.Heads.{condition_head, deep_condition, permit_head, grant_head, permit_trace_head, deny_trace_head, policy_head, within_most, deep_policy, grant_node, permit_trace_node, deny_trace_node};
 ghost use Rattle.policy_model.specs.Plain.{plain_grant};
 ghost use Rattle.policy_model.specs.Lists.{seen_one, seen_all, entry_fits, pair_fits, mark_fits, marks_fit, checked_pairs};
@@ -189,7 +191,7 @@ pub enum ConditionHead {
 }
 
 // What the first word of a policy says.
-#[derive(Drop)]
+#[derive(Clone, Copy)]
 pub enum PolicyHead {
     Permit(u16),
     Deny,
@@ -665,7 +667,7 @@ fn check_grant_condition(words: &[u32], at: usize, depth: usize) -> Checked
 fn check_grant(words: &[u32], at: usize, depth: usize, obligations: u32) -> Checked
     requires at_in_bounds { at < length words.now }
     requires depth_le_levels { depth ≤ levels }
-    ensures { (hidden : Bool) (outcome : ℕ) → result ≡ checked wordsT at (grant_node (read_condition depth) hidden obligations outcome (drop (at + 1) words.now)) }
+    ensures { (hidden : Bool) (outcome : ℕ) → result ≡ checked words_t at (grant_node (read_condition depth) hidden obligations outcome (drop (at + 1) words.now)) }
 {
     let second = at + 1;
     if words.len() <= second {
@@ -800,7 +802,7 @@ fn within(head: PolicyHead, most: u32) -> bool
 // Checks the policy at `at` up to its arms. A Grant's condition is no arm.
 fn policy_step(words: &[u32], at: usize, depth: usize, residual: bool, most: u32) -> Step
     requires { depth ≤ levels }
-    ensures { Stepped words.now at depth (checked wordsT at (reading.read_policy (below most) residual depth (drop at words.now))) (λ n. checked wordsTs (at + 1) (many pnil pcons (reading.read_policy (below most) residual (depth - 1)) n (drop (at + 1) words.now))) result }
+    ensures { Stepped words.now at depth (checked words_t at (reading.read_policy (below most) residual depth (drop at words.now))) (λ n. checked words_ts (at + 1) (many pnil pcons (reading.read_policy (below most) residual (depth - 1)) n (drop (at + 1) words.now))) result }
 {
     if words.len() <= at {
         return Step::Refused(6);
@@ -839,7 +841,7 @@ fn policy_step(words: &[u32], at: usize, depth: usize, residual: bool, most: u32
 
 // The words of the policy at `at`, of at most `depth` levels, if it is a Permit or a plain grant, the commonest; 0 if it is another. So these are passed with no step.
 fn short_policy(words: &[u32], at: usize, depth: usize, most: u32) -> usize
-    ensures { (result ≡ 0 → ⊥) → (at + result ≤ length words.now) × ((residual : Bool) → Checked.Next (at + result) ≡ checked wordsT at (reading.read_policy (below most) residual depth (drop at words.now))) }
+    ensures { (result ≡ 0 → ⊥) → (at + result ≤ length words.now) × ((residual : Bool) → Checked.Next (at + result) ≡ checked words_t at (reading.read_policy (below most) residual depth (drop at words.now))) }
 {
     if words.len() <= at {
         return 0;
@@ -863,7 +865,7 @@ fn short_policy(words: &[u32], at: usize, depth: usize, most: u32) -> usize
 // Checks the policy at `at`, of at most `depth` levels, its conditions among them, in one loop as `check_condition` does.
 fn check_policy(words: &[u32], at: usize, depth: usize, residual: bool, most: u32) -> Checked
     requires { depth ≤ levels }
-    ensures { result ≡ checked wordsT at (reading.read_policy (below most) residual depth (drop at words.now)) }
+    ensures { result ≡ checked words_t at (reading.read_policy (below most) residual depth (drop at words.now)) }
 {
     let mut above = [0u32; LEVELS];
     let mut level = 0;
@@ -1109,7 +1111,7 @@ pub fn skip_conditions(words: &[u32], at: usize, count: u32) -> usize
 // The position after `count` policies from `at` that read there.
 pub fn skip_policies(words: &[u32], at: usize, count: u32) -> usize
     requires { length words.now ≤ record_words }
-    ensures { (depth : ℕ) (residual : Bool) → Skipped wordsTs at (many pnil pcons (read_policy residual depth) count (drop at words.now)) result }
+    ensures { (depth : ℕ) (residual : Bool) → Skipped words_ts at (many pnil pcons (read_policy residual depth) count (drop at words.now)) result }
 {
     skip_nodes(words, at, count)
 }

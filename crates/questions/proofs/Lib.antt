@@ -2,3 +2,4 @@
 pub mod Nodes
 pub mod Walking
 pub mod Records
+pub mod AnswerLaws

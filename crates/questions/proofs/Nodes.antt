@@ -15,8 +15,8 @@ use Rattle.model.specs.Writing.{obligation_bits, entry_bits}
 use Rattle.model.specs.Reading.{Parsed, refuse, got, next, another, many, read_list, obligation, listed, mark, kind_of, read_condition, most_obligations}
 use Rattle.model.specs.Required.{some?, obliges, obligess}
 use Rattle.model.specs.Products.{Outcome, outcome_of, denied_of, grant_at, at12, at13, last_kind, node_p, read_policy}
-use Rattle.laws.specs.FieldLaws.{Holds, fine, nothing, if_holds, weaker, then_holds, same_list_lem}
-use Rattle.laws.specs.ReadForm.{same_obligation}
+use Rattle.laws.proofs.FieldLaws.{Holds, fine, nothing, if_holds, weaker, then_holds, same_list_lem}
+use Rattle.laws.proofs.ReadForm.{same_obligation}
 use Rattle.questions.specs.Nodes.{kind_at, obligation_at, arms_at}
 
 -- ---- a node and its arms

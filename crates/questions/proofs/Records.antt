@@ -16,9 +16,10 @@ use Rattle.model.specs.Record.{Record, tree}
 use Rattle.model.specs.Reading.{Parsed, refuse, got, whole, record_length}
 use Rattle.model.specs.Required.{permit_on_top, deny_on_top, asked_of}
 use Rattle.model.specs.Products.{Outcome, read_policy, read_lead, read_record}
-use Rattle.laws.specs.FieldLaws.{Holds, fine, nothing, if_holds}
+use Rattle.laws.proofs.FieldLaws.{Holds, fine, nothing, if_holds}
 use Rattle.laws.specs.Size.{pairs}
-use Rattle.laws.specs.Numbers.{Numbered, record_numbered}
+use Rattle.laws.specs.Numbers.{Numbered}
+use Rattle.laws.proofs.NumberLaws.{record_numbered}
 use Rattle.policy_model.specs.Answers.{lead_of}
 use Rattle.policy_model.proofs.Checking.{word_at, no_word}
 use Rattle.policy_model.proofs.Records.{TreeRead, record_parts, lead_is_lem}

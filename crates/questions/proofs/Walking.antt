@@ -11,7 +11,7 @@ use Rattle.model.specs.Policy.{Policy, permit, deny, grant, all, any, or_else, s
 use Rattle.model.specs.Reading.{Parsed, got, next, many}
 use Rattle.model.specs.Required.{obliges, obligess}
 use Rattle.model.specs.Products.{Outcome, read_policy}
-use Rattle.laws.specs.FieldLaws.{Holds, fine, then_holds}
+use Rattle.laws.proofs.FieldLaws.{Holds, fine, then_holds}
 use Rattle.laws.specs.Size.{words, wordss}
 use Rattle.policy_model.specs.Span.{Skipped}
 use Rattle.policy_model.proofs.Checking.{word_at, no_word}

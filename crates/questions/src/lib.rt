@@ -1,4 +1,6 @@
 // The questions about a record, after gatekeep's ResidualPolicy: whether its tree is a permit or a deny constant, and whether it carries an obligation.
+#![tactic(auto)]
+
 ghost use Rattle.std.specs.Prelude.{◌≡◌, ◌||◌, ◌<◌, ◌≤◌, eqb, length};
 ghost use Rattle.model.specs.Policy.{Policy};
 ghost use Rattle.model.specs.Reading.{record_words};

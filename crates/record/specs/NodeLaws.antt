@@ -1,5 +1,5 @@
 -- A label or a reason as it is read from its half of a word, and the words of a record by its front and its tree.
-use Rattle.std.specs.Prelude.{◌≡◌, refl, Bool, true, false, cond, List, [], ◌∷◌, ◌++◌, map, ℕ, ◌+◌, ◌-◌, ◌≤◌, ◌<◌, eqb, ltb}
+use Rattle.std.specs.Prelude.{◌≡◌, refl, Bool, true, false, cond, List, [], ◌∷◌, ◌++◌, map, ℕ, ◌-◌, ◌≤◌, ◌<◌, eqb, ltb}
 use Rattle.std.proofs.Common.{sym, ◌∙◌, ap, ap₂, arith, ltb-true, ltb-false, le-leb}
 use Rattle.std.proofs.Math.Option.{none, some}
 use Rattle.std.proofs.lemmas.Bool.{lt-leb}
@@ -9,7 +9,7 @@ use Rattle.model.specs.Record.{Record, tree}
 use Rattle.model.specs.Writing.{entry_bits, word, entry_field}
 use Rattle.model.specs.Reading.{got, unless, mark}
 use Rattle.model.specs.Products.{Outcome, encode, lead_kind, encode_r}
-use Rattle.laws.specs.FieldLaws.{Holds, fine, if_holds}
+use Rattle.laws.proofs.FieldLaws.{Holds, fine, if_holds}
 use Rattle.record.specs.Nodes.{mark_in, lead_of, front_words}
 
 -- ---- a label or a reason that was read

@@ -1,4 +1,6 @@
 // Writers of decisions and of a record's front. Each part is written into what the last one left of the output, and the counts are added.
+#![tactic(auto)]
+
 ghost use Rattle.std.specs.Prelude.{◌≡◌, ◌∷◌, [], ◌+◌, ◌^◌, ◌≤◌, ◌<◌, length, take};
 ghost use Rattle.model.specs.Fields.{above, words_for};
 ghost use Rattle.model.specs.Outcome.{outcome_bits};

@@ -1,4 +1,6 @@
 // The register of sheets: which sheet is in force for a group on a day. Request 5.
+#![tactic(auto)]
+
 ghost use Rattle.std.specs.Prelude.{◌≡◌, ◌+◌, ◌≤◌, ◌<◌, length, drop};
 ghost use Rattle.model.specs.Register.{register_words, entries_of, same_sheet, is_among, faultless, is_register};
 ghost use Rattle.model.specs.Register.{qualifies, supersedes, later, in_force, sheet_in_force};
@@ -20,7 +22,7 @@ const ABOVE_WITHDRAWN: u32 = 16777216;
 pub const NO_SHEET: u32 = ABOVE_NUMBER;
 
 // An entry of the register.
-#[derive(Drop)]
+#[derive(Clone, Copy)]
 pub struct Entry {
     pub group: u32,
     pub withdrawn: bool,

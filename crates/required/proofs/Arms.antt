@@ -8,7 +8,7 @@ use lib.ListN.{length, drop}
 use lib.Seq.{drop-drop, drop_at}
 use Rattle.model.specs.Reading.{Parsed, refuse, got, next, unless, many}
 use Rattle.model.specs.Required.{fact_set}
-use Rattle.laws.specs.FieldLaws.{Holds}
+use Rattle.laws.proofs.FieldLaws.{Holds}
 use Rattle.fact_set.specs.Sets.{Grown}
 use Rattle.required.specs.Sets.{Walked, Collected}
 use Rattle.required.specs.Arms.{Onward}

@@ -12,10 +12,10 @@ use lib.Seq.{drop-cons}
 use Rattle.model.specs.Condition.{Condition, not_c, all_c, any_c, Conditions, cnil, ccons, names_c, names_cs}
 use Rattle.model.specs.Writing.{encode_c}
 use Rattle.model.specs.Reading.{Parsed, refuse, got, next, many, kind_of, read_condition}
-use Rattle.laws.specs.FieldLaws.{Holds, weaker}
+use Rattle.laws.proofs.FieldLaws.{Holds, weaker}
 use Rattle.laws.specs.Size.{words_c, words_cs}
-use Rattle.laws.specs.Lengths.{length_encode_c}
-use Rattle.laws.specs.Canon.{same_c}
+use Rattle.laws.proofs.Lengths.{length_encode_c}
+use Rattle.laws.proofs.Canon.{same_c}
 use Rattle.policy_model.specs.declared.ConditionHead.{ConditionHead}
 use Rattle.policy_model.specs.declared.ConditionHead.TheVariants.{Always, Never, Has, Not}
 use Rattle.policy_model.specs.declared.ConditionHead.TheVariants as condition

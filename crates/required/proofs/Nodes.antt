@@ -12,8 +12,8 @@ use Rattle.model.specs.Policy.{Policy, permit, deny, all, any, or_else, Policies
 use Rattle.model.specs.Reading.{Parsed, refuse, got, next, many, levels, read_condition}
 use Rattle.model.specs.Required.{ones}
 use Rattle.model.specs.Products.{Outcome, read_policy}
-use Rattle.laws.specs.FieldLaws.{Holds}
-use Rattle.laws.specs.Deeper.{Follows, deeper}
+use Rattle.laws.proofs.FieldLaws.{Holds}
+use Rattle.laws.proofs.Deeper.{Follows, deeper}
 use Rattle.laws.specs.Size.{words}
 use Rattle.policy_model.specs.declared.PolicyHead.{PolicyHead}
 use Rattle.policy_model.specs.declared.PolicyHead.TheVariants.{Permit, Deny, Grant, OrElse, PermitWithTrace, DenyWithTrace}

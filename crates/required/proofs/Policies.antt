@@ -18,12 +18,12 @@ use Rattle.model.specs.Policy.{stored, names}
 use Rattle.model.specs.Writing.{obligation_bits, entry_bits}
 use Rattle.model.specs.Reading.{Parsed, refuse, got, next, another, read_list, obligation, listed, mark, levels, read_condition, most_obligations}
 use Rattle.model.specs.Products.{Outcome, encode, read_policy, policy_at}
-use Rattle.laws.specs.FieldLaws.{Holds, fine, nothing, if_holds, weaker, then_holds, same_list_lem}
+use Rattle.laws.proofs.FieldLaws.{Holds, fine, nothing, if_holds, weaker, then_holds, same_list_lem}
 use Rattle.laws.specs.Size.{words_c, words_d, words}
-use Rattle.laws.specs.Lengths.{length_pack, length_encode}
-use Rattle.laws.specs.ReadForm.{same_obligation, same_listed}
+use Rattle.laws.proofs.Lengths.{length_pack, length_encode}
+use Rattle.laws.proofs.ReadForm.{same_obligation, same_listed}
 use Rattle.laws.specs.Products.{written_products}
-use Rattle.laws.specs.Canon.{same_t}
+use Rattle.laws.proofs.Canon.{same_t}
 use Rattle.policy_model.specs.declared.PolicyHead.{PolicyHead}
 use Rattle.policy_model.specs.declared.PolicyHead.TheVariants.{Permit, Deny, Grant, OrElse, PermitWithTrace, DenyWithTrace}
 use Rattle.policy_model.specs.declared.PolicyHead.TheVariants as policy

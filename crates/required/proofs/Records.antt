@@ -17,10 +17,10 @@ use Rattle.model.specs.Writing.{count_bits, entry_bits, entry_field}
 use Rattle.model.specs.Reading.{Parsed, refuse, got, next, unless, read_list, consulted, kind_of, rest_of, whole, levels}
 use Rattle.model.specs.Required.{fact_set, required_of}
 use Rattle.model.specs.Products.{Outcome, lead_kind, read_policy, at12, at13, node14, parse14, parse15, rest, leads, read_lead, policy_at}
-use Rattle.laws.specs.FieldLaws.{Holds, fine, nothing, if_holds, weaker, then_holds, same_list_lem}
+use Rattle.laws.proofs.FieldLaws.{Holds, fine, nothing, if_holds, weaker, then_holds, same_list_lem}
 use Rattle.laws.specs.Size.{pairs}
-use Rattle.laws.specs.Lengths.{length_pack}
-use Rattle.laws.specs.ReadForm.{same_consulted}
+use Rattle.laws.proofs.Lengths.{length_pack}
+use Rattle.laws.proofs.ReadForm.{same_consulted}
 use Rattle.laws.specs.Numbers.{Numbered}
 use Rattle.policy_model.specs.Answers.{Lead, lead_of}
 use Rattle.required.specs.declared.Required.TheVariants.{Facts, Refused}

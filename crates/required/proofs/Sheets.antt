@@ -11,7 +11,7 @@ use Rattle.model.specs.Policy.{Policy, names}
 use Rattle.model.specs.Reading.{Parsed, refuse, got, unless, whole, levels, sheet_length}
 use Rattle.model.specs.Required.{required_of}
 use Rattle.model.specs.Products.{Outcome, read_policy, read_sheet, required_facts}
-use Rattle.laws.specs.Deeper.{Follows, deeper}
+use Rattle.laws.proofs.Deeper.{Follows, deeper}
 use Rattle.laws.specs.Numbers.{Numbered}
 use Rattle.policy_model.specs.Answers.{refusal}
 use Rattle.required.specs.declared.Required.TheVariants.{Facts, Refused}

@@ -5,7 +5,7 @@ use Rattle.std.specs.Int.Count as count
 use Rattle.model.specs.Fields.{split, joined}
 use Rattle.model.specs.Required.{one_bit, flags, fact_set, total, ones}
 use Rattle.laws.specs.FieldAt.{padded}
-use Rattle.laws.specs.FieldLaws.{split_joined}
+use Rattle.laws.proofs.WordLaws.{split_joined}
 use Rattle.fact_set.specs.Sets.{numbers}
 use Rattle.fact_set.specs.SetLaws.{narrow_flags, flags_append, set_numbers}
 use Rattle.required.specs.Sets.{named_from, how_many}

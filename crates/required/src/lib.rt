@@ -1,6 +1,8 @@
 // Required facts, after gatekeep's evaluate.rs: the set of the facts that a tree names, and their count. A set is sixteen numbers, one bit for each
 // fact, fact 0 the top bit of the first. The walk over a condition takes the set by value, and returns it grown with the index of the next word; the one
 // over policies lends it, so that nodes without a condition copy nothing.
+#![tactic(auto)]
+
 ghost use Rattle.std.specs.Prelude.{◌≡◌, true, List, ℕ, ◌+◌, ◌≤◌, ◌<◌, eqb, length, drop, get_or, replicate};
 ghost use Rattle.model.specs.Facts.{fact_count};
 ghost use Rattle.model.specs.Condition.{Condition, names_c};

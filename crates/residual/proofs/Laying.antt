@@ -11,7 +11,7 @@ use Rattle.model.specs.Decision.{Decision as Decided}
 use Rattle.model.specs.Writing.{short_d}
 use Rattle.model.specs.Products.{Outcome}
 use Rattle.laws.specs.Size.{words_d}
-use Rattle.laws.specs.Lengths.{length_encode_d}
+use Rattle.laws.proofs.Lengths.{length_encode_d}
 use Rattle.packing.specs.WrittenLaws.{written_front}
 use Rattle.decision.specs.declared.Decision.{Decision}
 use Rattle.decision.specs.Meaning.{decision_of, Sound}
@@ -19,7 +19,7 @@ use Rattle.decision.specs.Room.{list_room}
 use Rattle.decision.specs.Answers.{Held}
 use Rattle.clause.specs.Clauses.{decision_size, countable}
 use Rattle.clause.specs.Answers.{ClauseFacts, DecisionWritten}
-use Rattle.clause.specs.AnswerLaws.{gathered, decision_size_lem, decision_short, node_small, few_facts}
+use Rattle.clause.proofs.AnswerLaws.{gathered, decision_size_lem, decision_short, node_small, few_facts}
 use Rattle.sizes.specs.Laid.{too_many}
 use Rattle.residual.specs.Weight.{weight_d}
 use Rattle.residual.specs.Answers.{NodeLaid}

@@ -1,5 +1,7 @@
 // What a residual keeps, after gatekeep's partial.rs: the node of a resolved part, and a list of such nodes and pending arms.
 // An output may be too short for the words, and then only their size is right.
+#![tactic(auto)]
+
 ghost use Rattle.std.specs.Prelude.{◌≡◌, true, [], ◌+◌, ◌≤◌, ◌<◌, length};
 ghost use Rattle.model.specs.Facts.{fact_count, table_of};
 ghost use Rattle.model.specs.Decision.{permits, combined};

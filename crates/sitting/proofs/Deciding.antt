@@ -6,7 +6,6 @@ use mathlib.Core.List.{List, [], ◌∷◌}
 use Prim.Native.Nat.{ℕ, ◌+◌, ◌*◌, ◌≤◌}
 use native.Mathlib.Omega.{arith}
 use borrow.Author.Tests.{le-leb}
-use lib.Dec.{leb}
 use lib.ListN.{length, take, drop, length-append}
 use lib.Seq.{take_at}
 use Rattle.model.specs.Facts.{table_of, known_facts, table_fault}
@@ -16,15 +15,15 @@ use Rattle.model.specs.Policy.{Policy}
 use Rattle.model.specs.Partial.{resolved}
 use Rattle.model.specs.Evaluate.{eval_policy}
 use Rattle.model.specs.Consulted.{Consulted, read}
-use Rattle.model.specs.Record.{Record, evaluated}
+use Rattle.model.specs.Record.{evaluated}
 use Rattle.model.specs.Writing.{numbered}
 use Rattle.model.specs.Reading.{Parsed, refuse, got, unless, sheet_length, whole}
 use Rattle.model.specs.Listing.{refused_text, listing, decided, checked}
 use Rattle.model.specs.Calls as model
 use Rattle.model.specs.Products.{Outcome, evaluate_by, encode_r, read_sheet, read_record, read_policy, write}
 use Rattle.model.specs.Levels.{outcome_count, meet_of, join_of}
-use Rattle.laws.specs.LevelLaws.{none_is}
-use Rattle.staging.specs.Demand3.{evaluate_of, evaluate_back_of}
+use Rattle.laws.proofs.LevelLaws.{none_is}
+use Rattle.staging.proofs.Demand3.{evaluate_of, evaluate_back_of}
 use Rattle.answer.specs.declared.Answer.{Answer}
 use Rattle.answer.specs.declared.Answer.TheVariants.{Written, Refused}
 use Rattle.answer.specs.Answers.{Answered, answer_of, number_of, written_of}

@@ -1,14 +1,16 @@
 // The program `sitting`: reads a request from standard input, decides it and writes its listing.
+#![tactic(auto)]
+
 ghost use Rattle.std.specs.Prelude.{◌≤◌, length, drop};
 ghost use Rattle.model.specs.Facts.{known_facts, table_fault};
 ghost use Rattle.model.specs.Reading.{sheet_words};
-ghost use Rattle.model.specs.Listing.{checked, sitting as Listing·sitting};
+ghost use Rattle.model.specs.Listing.{checked, sitting as listing_of};
 ghost use Rattle.sitting.specs.Requests.{from_table};
 ghost use Rattle.listing.specs.Texts.{Wrote, listing_room};
 
 use answer::Answer;
-use libc::{STDIN_FILENO, STDOUT_FILENO};
 use policy_model::SHEET_WORDS;
+use std::io::{self, Write};
 
 // A request that is read whole takes no more bytes than this: a word count, 4,096 words, a table length and 256 bytes. Later bytes are ignored.
 const REQUEST: usize = 2 + 4 * SHEET_WORDS + 2 + facts::TABLE_BYTES;
@@ -51,7 +53,7 @@ fn list_table(sheet: &[u32], input: &[u8], at: usize, out: &mut [u8]) -> usize
 // Lists a request of any bytes.
 fn list_request(input: &[u8], out: &mut [u8]) -> usize
     requires { listing_room ≤ length out.old }
-    ensures { Wrote (Listing·sitting input.now) out.old out.new result }
+    ensures { Wrote (listing_of input.now) out.old out.new result }
 {
     if input.len() < 2 {
         return listing::list_refusal(6, out);
@@ -70,26 +72,15 @@ fn list_request(input: &[u8], out: &mut [u8]) -> usize
     listing::list_refusal(6, out)
 }
 
-// Reads once, and answers whether there was a byte.
-fn read_on() -> bool {
-    let mut buf = io::buffer();
-    io::read_full(STDIN_FILENO, &mut buf) != 0
-}
-
-// Reads the input to its end, so that whoever writes it is not cut off. A proved loop has to end, and nothing says that the input does: it counts its
-// turns down, from a number that no run uses up.
-fn read_to_end() {
-    let mut turns = u64::MAX;
-    while turns > 0 && read_on() {
-        turns -= 1;
-    }
-}
-
-fn main() {
-    let mut input = [0u8; REQUEST];
+fn main(rt: HostRuntime) -> io::Result<()> {
+    let mut buf = [0u8; REQUEST];
     let mut out = [0u8; listing::LISTING_ROOM];
-    let read = io::read_full(STDIN_FILENO, &mut input);
-    read_to_end();
-    let written = list_request(&input[..read], &mut out);
-    io::write_all(STDOUT_FILENO, &out[..written]);
+    let mut stdin = rt.stdin();
+    let read = input::read_full(&mut stdin, &mut buf)?;
+    // To the input's end, so that whoever writes it is not cut off. What was read whole is listed also where the rest can't be read.
+    let rest = io::copy(&mut stdin, &mut io::sink());
+    let written = list_request(&buf[..read], &mut out);
+    rt.stdout().write_all(&out[..written])?;
+    rest?;
+    Ok(())
 }

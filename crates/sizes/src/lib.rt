@@ -1,5 +1,7 @@
 // Sizes of what a reduction writes, in words. The output may be too short for it, and then only the size is right.
 // A record has at most LIMIT words, so a size is counted up to LIMIT + 1, which says that there are too many.
+#![tactic(auto)]
+
 ghost use Rattle.std.specs.Prelude.{◌≡◌, ◌+◌, ◌≤◌, min};
 ghost use Rattle.sizes.specs.Laid.{too_many, capped};
 

@@ -1,4 +1,6 @@
 // The staged guarantee of what the calls return, in specs/. The functions say that the runs it speaks of are the calls' own.
+#![tactic(auto)]
+
 ghost use Rattle.std.proofs.Math.Option.{none, some};
 ghost use Rattle.model.specs.Partial.{permits_first, sheet_order};
 ghost use Rattle.outcome.specs.Carried.{table};

@@ -1,7 +1,7 @@
 -- Demand 3: what is claimed of a list of calls, each by either order, all under one number. Document 01, "Stages", and requests 6, 7 and 8. The proof is
 -- in Demand3.
 use Rattle.std.specs.Prelude.{◌≡◌, ◌⊎◌, false, List, [], ◌∷◌, ℕ, ◌+◌, ◌*◌, ◌≤◌, length}
-use Rattle.std.proofs.Math.Option.{Option, none}
+use Rattle.std.proofs.Math.Option.{none}
 use Rattle.model.specs.Facts.{unknown, Table, heard, table_of, partial_facts, table_fault}
 use Rattle.model.specs.Outcome.{Outcomes}
 use Rattle.model.specs.Decision.{Decision, products}

@@ -1,1 +1,2 @@
 // The staged theorem, in specs/: this crate has no code.
+#![tactic(auto)]

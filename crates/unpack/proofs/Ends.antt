@@ -10,7 +10,7 @@ use lib.Pow.{pow_pos}
 use lib.ListN.{length, take, set}
 use Rattle.model.specs.Fields.{joined}
 use Rattle.model.specs.Tight.{zeros}
-use Rattle.laws.specs.BitLaws.{Bits}
+use Rattle.laws.proofs.BitLaws.{Bits}
 use Rattle.packing.specs.Written.{Written}
 use Rattle.packing.specs.WrittenLaws.{written_none, written_next, written_same}
 use Rattle.unpack.specs.declared.Node.{Node}

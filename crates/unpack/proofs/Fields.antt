@@ -4,7 +4,6 @@ use mathlib.Core.Bool.{cond}
 use mathlib.Core.List.{List, [], ◌∷◌, map}
 use Prim.Native.Nat.{ℕ, zero, suc, ◌+◌, ◌*◌, ◌≤◌, ◌<◌}
 use native.Mathlib.Nat.{mul-suc}
-use native.Mathlib.Numerals.{add-one}
 use native.Mathlib.Omega.{arith}
 use lib.Dec.{eqb}
 use lib.ListN.{length, take, drop, get_or, get_or-eq_default}
@@ -12,8 +11,8 @@ use lib.Seq.{drop-drop, take_all}
 use Rattle.model.specs.Fields.{joined, words_for, pack}
 use Rattle.model.specs.Bits.{run_of}
 use Rattle.laws.specs.FieldAt.{Narrow}
-use Rattle.laws.specs.FieldLaws.{narrow_drop}
-use Rattle.laws.specs.BitLaws.{Bits, bits_run}
+use Rattle.laws.proofs.WordLaws.{narrow_drop}
+use Rattle.laws.proofs.BitLaws.{Bits, bits_run}
 use Rattle.packing.specs.Packed.{values_from}
 use Rattle.packing.specs.PackedLaws.{pack_word}
 use Rattle.bits.specs.WidthLaws.{mark_few, denied_few}

@@ -8,8 +8,8 @@ use lib.ListN.{length, drop, length-append, length-map}
 use Rattle.model.specs.Fields.{words_for, pack}
 use Rattle.model.specs.Outcome.{product_sets}
 use Rattle.model.specs.Tight.{resolved_in, loose_r}
-use Rattle.laws.specs.BitLaws.{Bits}
-use Rattle.laws.specs.Lengths.{length_pack}
+use Rattle.laws.proofs.BitLaws.{Bits}
+use Rattle.laws.proofs.Lengths.{length_pack}
 use Rattle.unpack.specs.declared.Found.{Found}
 use Rattle.unpack.specs.Nodes.{field_in, fields_in, loose_entry, entry_words, kind_in, count_in, tree_at, restored, restored_record}
 use Rattle.unpack.specs.Answers.{sized, Says, one_policy, words_b, words_u}

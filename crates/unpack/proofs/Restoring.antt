@@ -7,7 +7,7 @@ use native.Mathlib.Omega.{arith}
 use lib.ListN.{length, take, drop, set, length-append, length-map}
 use lib.Seq.{drop-drop, length-take-le}
 use Rattle.model.specs.Fields.{words_for, pack}
-use Rattle.laws.specs.Lengths.{length_pack}
+use Rattle.laws.proofs.Lengths.{length_pack}
 use Rattle.packing.specs.Written.{Written}
 use Rattle.packing.specs.WrittenLaws.{written_none, written_lent, written_next, written_same, written_long}
 use Rattle.bits.specs.Widths.{plain_width}

@@ -10,13 +10,12 @@ use lib.ListN.{length, drop, length-drop}
 use lib.Seq.{drop-drop}
 use Rattle.model.specs.Reading.{Parsed, refuse, got, unless, few_obligations}
 use Rattle.model.specs.Products.{last_kind}
-use Rattle.laws.specs.BitLaws.{Bits}
+use Rattle.laws.proofs.BitLaws.{Bits}
 use Rattle.policy_model.specs.Span.{arms_of}
 use Rattle.bits.specs.Widths.{plain_width}
 use Rattle.unpack.specs.declared.Found.{Found}
 use Rattle.unpack.specs.declared.Found.TheVariants as found
 use Rattle.unpack.specs.declared.Step.TheVariants as step
-use Rattle.unpack.specs.declared.Node.{Node}
 use Rattle.unpack.specs.Nodes.{lead_in, kind_in, lead_kind_of, plain_word, grant_node, permit_node, deny_node, list_node, node_length, node_count, Small}
 use Rattle.unpack.specs.Answers.{Says, Steps, step_of, plain_step, one_condition, all_conditions, one_policy, all_policies}
 use Rattle.unpack.specs.FieldLaws.{need, need_there, need_ended}

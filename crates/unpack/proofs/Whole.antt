@@ -14,10 +14,10 @@ use Rattle.model.specs.Reading.{Parsed, refuse, got, unless}
 use Rattle.model.specs.Products.{Outcome}
 use Rattle.model.specs.Calls as model
 use Rattle.model.specs.Tight.{loose, zeros, filled, give_words, UnderNumber}
-use Rattle.laws.specs.FieldLaws.{Holds, fine, nothing}
-use Rattle.laws.specs.BitLaws.{Bits}
+use Rattle.laws.proofs.FieldLaws.{Holds, fine, nothing}
+use Rattle.laws.proofs.BitLaws.{Bits}
 use Rattle.laws.specs.Size.{words}
-use Rattle.laws.specs.Lengths.{length_encode, length_encode_r, length_numbered}
+use Rattle.laws.proofs.Lengths.{length_encode, length_encode_r, length_numbered}
 use Rattle.packing.specs.Written as packing
 use Rattle.answer.specs.declared.Answer.TheVariants.{Written, Refused}
 use Rattle.answer.specs.Answers.{Answered}

@@ -7,7 +7,7 @@ use Rattle.model.specs.Partial.{ReducedPolicy, as_residual}
 use Rattle.model.specs.Products.{Outcome}
 use Rattle.model.specs.Reading.{Parsed, refuse, got, many}
 use Rattle.model.specs.Tight.{kind_bits, loose_c, loose, UnderNumber}
-use Rattle.laws.specs.Size.{words_c, words_cs, words as wordsT, wordss as wordsTs, words_r}
+use Rattle.laws.specs.Size.{words_c, words_cs, words as words_t, wordss as words_ts, words_r}
 use Rattle.policy_model.specs.Span.{arms_of}
 use Rattle.bits.specs.Widths.{plain_width}
 use Rattle.unpack.specs.Nodes.{lead_kind_of, plain_word}
@@ -49,13 +49,13 @@ abbrev pub all_conditions : ℕ → ℕ → List ℕ → ℕ → Parsed ℕ
 all_conditions d w bs n = sized words_cs w (many cnil ccons (loose_c d) n bs)
 
 abbrev pub one_policy : Bool → ℕ → ℕ → List ℕ → Parsed ℕ
-one_policy res d w bs = sized wordsT w (loose product_sets.value res d bs)
+one_policy res d w bs = sized words_t w (loose product_sets.value res d bs)
 
 abbrev pub all_policies : Bool → ℕ → ℕ → List ℕ → ℕ → Parsed ℕ
-all_policies res d w bs n = sized wordsTs w (many pnil pcons (loose product_sets.value res d) n bs)
+all_policies res d w bs n = sized words_ts w (many pnil pcons (loose product_sets.value res d) n bs)
 
 abbrev pub words_b : ReducedPolicy Outcome → ℕ
-words_b b = wordsT (as_residual b)
+words_b b = words_t (as_residual b)
 
 abbrev pub words_u : UnderNumber Outcome → ℕ
 words_u u = words_r u.held

@@ -8,8 +8,8 @@ use Rattle.model.specs.Fields.{joined}
 use Rattle.model.specs.Reading.{Parsed, refuse, got, next}
 use Rattle.model.specs.Bits.{take_bits, take_run}
 use Rattle.model.specs.Tight.{take_optional, take_each}
-use Rattle.laws.specs.FieldLaws.{joined_small, narrow_drop}
-use Rattle.laws.specs.BitLaws.{Bits}
+use Rattle.laws.proofs.WordLaws.{joined_small, narrow_drop}
+use Rattle.laws.proofs.BitLaws.{Bits}
 use Rattle.bits.specs.Widths.{mark_width}
 use Rattle.bits.specs.WidthLaws.{mark_absent, mark_there}
 use Rattle.unpack.specs.Nodes.{field_in, fields_in, mark_in}

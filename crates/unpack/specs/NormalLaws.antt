@@ -15,7 +15,7 @@ use Rattle.model.specs.Products.{Outcome}
 use Rattle.model.specs.Tight as tight
 use Rattle.model.specs.Tight.{denied_in, obligations8, reason8, label8, outcome8, counted8, shape8, fields8, facts12, obligations12, count12, label12, outcome12, counted12, fields12, facts13, count13, reason13, label13, shape13, fields13}
 use Rattle.model.specs.Bits.{take_bits}
-use Rattle.laws.specs.BitLaws.{Bits}
+use Rattle.laws.proofs.BitLaws.{Bits}
 use Rattle.bits.specs.Widths.{mark_width, denied_width}
 use Rattle.bits.specs.WidthLaws.{denied_few}
 use Rattle.unpack.specs.Nodes.{field_in, fields_in, mark_in, grant_middle, grant_node, permit_middle, permit_node, deny_lead, deny_first, deny_before, deny_middle, deny_after, deny_node, node_length}

@@ -19,10 +19,11 @@ use Rattle.model.specs.Reading.{Parsed, refuse, got, next, unless, by_kind, as_r
 use Rattle.model.specs.Products.{Outcome}
 use Rattle.model.specs.Tight.{loose_c, fields12, fields13, fields_p, loose, take_entries, UnderNumber, resolved_in, pending_in, entries_r, count_r, number_r, fields_r, loose_r}
 use Rattle.model.specs.Bits.{take_bits}
-use Rattle.laws.specs.FieldLaws.{Holds, fine, nothing, if_holds, then_holds, both_hold, narrow_drop}
-use Rattle.laws.specs.BitLaws.{Bits}
+use Rattle.laws.proofs.FieldLaws.{Holds, fine, nothing, if_holds, then_holds, both_hold}
+use Rattle.laws.proofs.WordLaws.{narrow_drop}
+use Rattle.laws.proofs.BitLaws.{Bits}
 use Rattle.laws.specs.Size.{words}
-use Rattle.laws.specs.ReadForm.{seen_field}
+use Rattle.laws.proofs.ReadForm.{seen_field}
 use Rattle.unpack.specs.Nodes.{field_in, fields_in, loose_entry, kind_in, permit_node, deny_node, list_node, has_lists, node_length, count_in, tree_at, restored, restored_record}
 use Rattle.unpack.specs.Answers.{sized, one_policy, words_b, words_u}
 use Rattle.unpack.specs.FieldLaws.{need, need_there, need_ended, merged, taken, next_assoc, step_bits, first_bits, field_small}

@@ -20,8 +20,9 @@ use Rattle.model.specs.Writing.{obligation_bits, entry_bits, word, shape_bit, ma
 use Rattle.model.specs.Reading.{Parsed, refuse, got, next, unless, many, few_obligations, shape_of, outcome_of, in_residual, as_stored}
 use Rattle.model.specs.Products.{Outcome, last_kind}
 use Rattle.model.specs.Tight.{loose_c, fields_c, fields12, fields13, fields_p, loose}
-use Rattle.laws.specs.BitLaws.{Bits}
-use Rattle.laws.specs.FieldLaws.{Holds, fine, nothing, if_holds, then_holds, narrow_drop}
+use Rattle.laws.proofs.BitLaws.{Bits}
+use Rattle.laws.proofs.FieldLaws.{Holds, fine, nothing, if_holds, then_holds}
+use Rattle.laws.proofs.WordLaws.{narrow_drop}
 use Rattle.bits.specs.Widths.{plain_width, mark_width, denied_width}
 use Rattle.unpack.specs.declared.Node.{Node}
 use Rattle.unpack.specs.Nodes.{field_in, fields_in, mark_in, loose_entry, lead_in, kind_in, plain_word, grant_middle, grant_node, permit_middle, permit_node, deny_lead, deny_first, deny_before, deny_middle, deny_after, deny_node, list_node, has_lists, node_length, node_words, restored_node, node_bits, restored}

@@ -3,7 +3,6 @@ use Rattle.std.specs.Prelude.{◌≡◌, Bool, ◌&&◌, List, ltb, leb, length,
 use Rattle.std.proofs.Math.Path.{refl, sym, ap, ap₂}
 use Rattle.std.proofs.Common.{◌∙◌, subst, lt-ltb, le-ltb, le-leb, leb-true}
 use Rattle.std.proofs.Math.Bool.{true, false, cond}
-use Rattle.std.proofs.Math.Option.{none}
 use Prim.Native.Nat.{ℕ, zero, suc, ◌+◌, ◌-◌, ◌*◌, ◌/◌, ◌%◌, ◌^◌, ◌≤◌, ◌<◌}
 use native.Mathlib.Omega.{arith}
 use Rattle.std.proofs.lemmas.Bool.{lt-leb}
@@ -18,7 +17,7 @@ use Rattle.model.specs.Reading.{Parsed, refuse, got, next, unless, many, kind_of
 use Rattle.model.specs.Products.{Outcome, last_kind}
 use Rattle.model.specs.Tight.{fields_c, loose_c, fields12, fields13, fields_p, loose}
 use Rattle.laws.specs.Size.{words_c, words_cs, words, wordss}
-use Rattle.laws.specs.BitLaws.{Bits}
+use Rattle.laws.proofs.BitLaws.{Bits}
 use Rattle.policy_model.specs.Span.{arms_by, arms_of}
 use Rattle.bits.specs.Widths.{plain_width}
 use Rattle.unpack.specs.Nodes.{field_in, lead_in, kind_in, plain_word, grant_node, permit_node, deny_node, node_length, node_count}
@@ -39,25 +38,25 @@ pub sized_unless : {A : Type 0} (size : A → ℕ) (w : ℕ) (b : Bool) (n : ℕ
 sized_unless size w true n p = refl
 sized_unless size w false n p = refl
 
-module _ {A B : Type 0} (sizeA : A → ℕ) (sizeB : B → ℕ) (nil : B) (cons : A → B → B) (p : List ℕ → Parsed A)
-    (empty : sizeB nil ≡ 0) (more : (a : A) (b : B) → sizeB (cons a b) ≡ sizeA a + sizeB b) where
-  lists_more : (n w : ℕ) (bs : List ℕ) → next (sized sizeA w (p bs)) (λ v cs. sized sizeB v (many nil cons p n cs)) ≡ sized sizeB w (many nil cons p (suc n) bs)
+module _ {A B : Type 0} (size_a : A → ℕ) (size_b : B → ℕ) (nil : B) (cons : A → B → B) (p : List ℕ → Parsed A)
+    (empty : size_b nil ≡ 0) (more : (a : A) (b : B) → size_b (cons a b) ≡ size_a a + size_b b) where
+  lists_more : (n w : ℕ) (bs : List ℕ) → next (sized size_a w (p bs)) (λ v cs. sized size_b v (many nil cons p n cs)) ≡ sized size_b w (many nil cons p (suc n) bs)
   lists_more n w bs = by (p bs)
     where
-      inner : (a : A) (q : Parsed B) → sized sizeB (w + sizeA a) q ≡ sized sizeB w (next q (λ xs us. got (cons a xs) us))
+      inner : (a : A) (q : Parsed B) → sized size_b (w + size_a a) q ≡ sized size_b w (next q (λ xs us. got (cons a xs) us))
       inner a (refuse e) = refl
       inner a (got xs us) = ap (λ m. got m us) (let e = more a xs in omega arith)
 
-      by : (q : Parsed A) → next (sized sizeA w q) (λ v cs. sized sizeB v (many nil cons p n cs)) ≡ sized sizeB w (next q (λ a vs. next (many nil cons p n vs) (λ xs us. got (cons a xs) us)))
+      by : (q : Parsed A) → next (sized size_a w q) (λ v cs. sized size_b v (many nil cons p n cs)) ≡ sized size_b w (next q (λ a vs. next (many nil cons p n vs) (λ xs us. got (cons a xs) us)))
       by (refuse e) = refl
       by (got a cs) = inner a (many nil cons p n cs)
 
-  pub lists_first : (n w : ℕ) (bs : List ℕ) → (n ≡ 0 → ⊥) → next (sized sizeA w (p bs)) (λ v cs. sized sizeB v (many nil cons p (n - 1) cs)) ≡ sized sizeB w (many nil cons p n bs)
+  pub lists_first : (n w : ℕ) (bs : List ℕ) → (n ≡ 0 → ⊥) → next (sized size_a w (p bs)) (λ v cs. sized size_b v (many nil cons p (n - 1) cs)) ≡ sized size_b w (many nil cons p n bs)
   lists_first zero w bs f = absurd (f refl)
-  lists_first (suc n) w bs f = ap (λ m. next (sized sizeA w (p bs)) (λ v cs. sized sizeB v (many nil cons p m cs))) (let e : suc n - 1 ≡ n = omega arith in e) ∙ lists_more n w bs
+  lists_first (suc n) w bs f = ap (λ m. next (sized size_a w (p bs)) (λ v cs. sized size_b v (many nil cons p m cs))) (let e : suc n - 1 ≡ n = omega arith in e) ∙ lists_more n w bs
 
-  pub lists_none : (n w : ℕ) (bs : List ℕ) → n ≡ 0 → got w bs ≡ sized sizeB w (many nil cons p n bs)
-  lists_none n w bs e = ap (λ m. got m bs) (let z = empty in let y : w ≡ w + sizeB nil = omega arith in y) ∙ ap (λ m. sized sizeB w (many nil cons p m bs)) (sym e)
+  pub lists_none : (n w : ℕ) (bs : List ℕ) → n ≡ 0 → got w bs ≡ sized size_b w (many nil cons p n bs)
+  lists_none n w bs e = ap (λ m. got m bs) (let z = empty in let y : w ≡ w + size_b nil = omega arith in y) ∙ ap (λ m. sized size_b w (many nil cons p m bs)) (sym e)
 
 pub condition_lists : Lists one_condition all_conditions
 condition_lists =

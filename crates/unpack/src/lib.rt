@@ -1,5 +1,7 @@
 // Sheets and records from the tight form. Bits are checked field by field, with the levels of the tree; checked bits are a flat list of nodes, so
 // restoring their words is a loop without levels.
+#![tactic(auto)]
+
 ghost use Rattle.std.specs.Prelude.{◌≡◌, Bool, true, ◌&&◌, map, ℕ, suc, ◌+◌, ◌-◌, ◌^◌, ◌≤◌, ◌<◌, ltb, length, drop, get_or};
 ghost use Rattle.model.specs.Fields.{words_for};
 ghost use Rattle.model.specs.Outcome.{product_sets};
@@ -19,7 +21,7 @@ pub const TIGHT_BYTES: usize = 65536;
 
 // A node with lists: its first words put together, how many they are, the bits that they take, and how many obligations and facts follow. Past the end bits
 // are 0.
-#[derive(Drop)]
+#[derive(Clone, Copy)]
 struct Node {
     first: u32,
     second: u32,

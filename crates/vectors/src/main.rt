@@ -1,10 +1,12 @@
 // Replays the original's stored answers on the proved calls, and says how many differ.
 // Standard input: a line that says how they were made, then the stored answers. Of each eight 16-bit numbers (call, room, table bytes, words, number,
 // value, answer words, the sheet's number), the table, the words, and the words that stand first in the output afterwards; all most significant byte first.
+#![tactic(auto)]
+
 ghost use Rattle.std.specs.Prelude.{◌≡◌, ◌++◌, ◌+◌, ◌*◌, ◌^◌, ◌<◌, ◌≤◌, length, drop};
 ghost use Rattle.model.specs.Required.{one_bit};
 ghost use Rattle.model.specs.Products.{required_facts, required_residual_facts};
-ghost use Rattle.answer.specs.Answers.{number_of as Answer·numberOf, written_of};
+ghost use Rattle.answer.specs.Answers.{number_of as refusal_of, written_of};
 ghost use Rattle.required.specs.Answers.{number_of, count_of};
 ghost use Rattle.questions.specs.Answers.{asked};
 ghost use Rattle.listing.specs.Inputs.{words_in};
@@ -16,6 +18,7 @@ ghost use Rattle.vectors.specs.Tallies.{noted_in, step_of, tally_of};
 use answer::Answer;
 use questions::Told;
 use required::Required;
+use std::io;
 
 // What a call returns: the number of the refusal, 0 when accepted, and its value (words written or facts counted).
 #[derive(Drop)]
@@ -92,7 +95,7 @@ fn put_set(set: &[u64], out: &mut [u32])
 // ---- the proved calls
 
 fn written(answer: Answer) -> Reply
-    ensures { (result.number ≡ Answer·numberOf answer) × (result.value ≡ written_of answer) }
+    ensures { (result.number ≡ refusal_of answer) × (result.value ≡ written_of answer) }
 {
     match answer {
         Answer::Written(words) => Reply {
@@ -363,51 +366,46 @@ fn tally_of(
 // ---- the summary
 
 // `NAME: N replayed, N differ`, and the place of the first that differs.
-fn print(name: &[u8], tally: Tally) {
-    io::write_all(1, name);
-    io::write_all(1, b": ");
-    io::print_decimal(1, tally.replayed as u64);
-    io::write_all(1, b" replayed, ");
-    io::print_decimal(1, tally.differ as u64);
-    io::write_all(1, b" differ");
+fn print(rt: &impl Print, name: &str, tally: Tally) -> io::Result<()> {
+    print!(rt;
+        "{name}: {} replayed, {} differ",
+        tally.replayed, tally.differ
+    )?;
     if tally.differ > 0 {
-        io::write_all(1, b", the first is answer ");
-        io::print_decimal(1, tally.first as u64);
+        print!(rt; ", the first is answer {}", tally.first)?;
     }
-    io::write_all(1, b"\n");
+    println!(rt)
 }
 
 // A stored size is a number of 16 bits.
 const SIZES: usize = 65536;
 
 // The line of a call.
-fn replay(cases: &[u8], call: usize, name: &[u8]) {
+fn replay(rt: &impl Print, cases: &[u8], call: usize, name: &str) -> io::Result<()> {
     let mut words = [0u32; SIZES];
     let mut expected = [0u32; SIZES];
     let mut out = [0u32; SIZES];
-    print(
-        name,
-        tally_of(cases, call, &mut words, &mut expected, &mut out),
-    );
+    let tally = tally_of(cases, call, &mut words, &mut expected, &mut out);
+    print(rt, name, tally)
 }
 
 // One line for each call that is replayed.
-fn summary(cases: &[u8]) {
-    replay(cases, 0, b"evaluate");
-    replay(cases, 1, b"partial_evaluate");
-    replay(cases, 3, b"complete_residual");
-    replay(cases, 4, b"required_facts");
-    replay(cases, 5, b"required_residual_facts");
-    replay(cases, 6, b"is_permit_constant");
-    replay(cases, 7, b"is_deny_constant");
-    replay(cases, 8, b"carries_obligation");
+fn summary(rt: &impl Print, cases: &[u8]) -> io::Result<()> {
+    replay(rt, cases, 0, "evaluate")?;
+    replay(rt, cases, 1, "partial_evaluate")?;
+    replay(rt, cases, 3, "complete_residual")?;
+    replay(rt, cases, 4, "required_facts")?;
+    replay(rt, cases, 5, "required_residual_facts")?;
+    replay(rt, cases, 6, "is_permit_constant")?;
+    replay(rt, cases, 7, "is_deny_constant")?;
+    replay(rt, cases, 8, "carries_obligation")
 }
 
 // The stored answers begin after the first line.
-fn report(input: &[u8]) {
-    let end = bytes::scan::find(input, 0, input.len(), 10);
-    if end < input.len() {
-        summary(&input[end + 1..]);
+fn report(rt: &impl Print, input: &[u8]) -> io::Result<()> {
+    match input.iter().position(|byte| *byte == b'\n') {
+        Some(end) => summary(rt, &input[end + 1..]),
+        None => Ok(()),
     }
 }
 
@@ -418,8 +416,8 @@ fn buffer() -> [u8; 1048576]
     [0; 1048576]
 }
 
-fn main() {
-    let mut input = buffer();
-    let n = io::read_full(0, &mut input);
-    report(&input[..n]);
+fn main(rt: HostRuntime) -> io::Result<()> {
+    let mut buf = buffer();
+    let read = input::read_full(&mut rt.stdin(), &mut buf)?;
+    report(&rt, &buf[..read])
 }

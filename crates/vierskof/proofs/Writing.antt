@@ -8,7 +8,7 @@ use Rattle.answer.specs.declared.Answer.{Answer}
 use Rattle.answer.specs.Answers.{number_of, written_of, Answered}
 use Rattle.answer.specs.AnswerLaws.{number_of_lem, written_of_lem}
 use Rattle.batch.specs.declared.Batch.{Batch}
-use Rattle.batch.specs.Answers.{batch_meant, returned as Batch·returned, Runs}
+use Rattle.batch.specs.Answers.{batch_meant, returned as batch_returned, Runs}
 use Rattle.vierskof.specs.Answers.{returned, Writes, Batches}
 
 pub writes : {a : model.Answer} {before after : List ℕ} {r : Answer} {n : ℕ} → Answered a before after r → n ≡ returned (number_of r) (written_of r) → Writes a before after n
@@ -24,9 +24,9 @@ pub writes_under : (call : ℕ → model.Answer) {handed number : ℕ} {before a
 writes_under call {before = before} {after} {n = n} same s e = subst (λ m. Writes (call m) before after n) same (writes s e)
 
 -- From what a batch comes to.
-returned_meant : (b : batch.Batch) → Batch·returned (batch_meant b) ≡ batch.batch_number b
+returned_meant : (b : batch.Batch) → batch_returned (batch_meant b) ≡ batch.batch_number b
 returned_meant (batch.turned_back n) = refl
 returned_meant (batch.answers rs) = refl
 
-pub batches : {b : batch.Batch} {places placesAfter out outAfter : List ℕ} {r : Batch} {n : ℕ} → Runs b places placesAfter out outAfter r → n ≡ Batch·returned r → Batches b places placesAfter out outAfter n
-batches {b} s e = record { answer = e ∙ ap Batch·returned s.batch_is ∙ returned_meant b; replies_are = s.replies_are; output_is = s.output_is }
+pub batches : {b : batch.Batch} {places places_after out out_after : List ℕ} {r : Batch} {n : ℕ} → Runs b places places_after out out_after r → n ≡ batch_returned r → Batches b places places_after out out_after n
+batches {b} s e = record { answer = e ∙ ap batch_returned s.batch_is ∙ returned_meant b; replies_are = s.replies_are; output_is = s.output_is }

@@ -21,10 +21,10 @@ pub record Writes (a : Answer) (before after : List ℕ) (r : ℕ) : Type 0 wher
   pub output_is : after ≡ afterwards a before
 
 -- A batch: its number, and the places for the replies and the output afterwards.
-pub record Batches (b : Batch) (places placesAfter out outAfter : List ℕ) (r : ℕ) : Type 0 where
+pub record Batches (b : Batch) (places places_after out out_after : List ℕ) (r : ℕ) : Type 0 where
   pub answer : r ≡ batch_number b
-  pub replies_are : placesAfter ≡ replies_after b places
-  pub output_is : outAfter ≡ output_after b out
+  pub replies_are : places_after ≡ replies_after b places
+  pub output_is : out_after ≡ output_after b out
 
 -- A question: 1 for yes, 0 for no.
 abbrev pub said : Asked → ℕ

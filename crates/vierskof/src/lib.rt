@@ -1,5 +1,7 @@
 // The exported C interface. A slice passes as a pointer and an element count. A call returns one number: that of the refusal times 2^32, or 0
 // when it is accepted, and the call's value.
+#![tactic(auto)]
+
 ghost use Rattle.model.specs.Products.{evaluate, required_facts, required_residual_facts, is_permit_constant, is_deny_constant, carries_obligation, partial_evaluate, narrow_residual, complete_residual, evaluate_by, partial_evaluate_by, narrow_residual_by, complete_residual_by};
 ghost use Rattle.model.specs.Partial.{permits_first, sheet_order};
 ghost use Rattle.model.specs.Register.{sheet_in_force};
@@ -11,11 +13,11 @@ ghost use Rattle.model.specs.Batch.{evaluate_batch};
 ghost use Rattle.std.specs.Prelude.{◌≡◌, length};
 ghost use Rattle.std.proofs.Math.Option.{none, some};
 ghost use Rattle.outcome.specs.Carried.{table};
-ghost use Rattle.answer.specs.Answers.{number_of as Answer·numberOf, written_of};
+ghost use Rattle.answer.specs.Answers.{number_of as refusal_of, written_of};
 ghost use Rattle.required.specs.Answers.{number_of, count_of};
 ghost use Rattle.questions.specs.Answers.{asked};
 ghost use Rattle.register.specs.Answers.{in_force_of};
-ghost use Rattle.batch.specs.Answers.{returned as Batch·returned};
+ghost use Rattle.batch.specs.Answers.{returned as batch_returned};
 ghost use Rattle.vierskof.specs.Answers.{Requires, Writes, Batches, returned};
 ghost use Rattle.vierskof.specs.Answers.{said, named, dated};
 
@@ -28,7 +30,7 @@ use required::Required;
 
 // The number of the refusal and the words or bytes written, as one number.
 fn written(answer: Answer) -> u64
-    ensures { result ≡ returned (Answer·numberOf answer) (written_of answer) }
+    ensures { result ≡ returned (refusal_of answer) (written_of answer) }
 {
     match answer {
         Answer::Written(words) => words as u64,
@@ -349,7 +351,7 @@ pub extern "C" fn vierskof_unpack_record(bytes: &[u8], out: &mut [u32]) -> u64
 
 // The number of a batch's refusal and the words written in all, as one number.
 fn batched(batch: Batch) -> u64
-    ensures { result ≡ Batch·returned batch }
+    ensures { result ≡ batch_returned batch }
 {
     match batch {
         Batch::Written(words) => words as u64,

@@ -3,29 +3,28 @@ use mathlib.Core.Path.{◌≡◌, refl, sym, ◌∙◌, ap, subst}
 use mathlib.Core.Bool.{Bool, true, false, not, cond, beq}
 use mathlib.Core.List.{List, [], ◌∷◌}
 use Prim.Native.Nat.{ℕ, zero, suc, ◌+◌, ◌-◌, ◌/◌, ◌%◌, ◌≤◌, ◌<◌}
-use native.Mathlib.Numerals.{add-one}
 use native.Mathlib.Omega.{arith}
 use lib.ListN.{length, drop, get_or}
 use Rattle.model.specs.Facts.{Table}
 use Rattle.model.specs.Condition.{Condition, always, never, has, not_c, all_c, any_c, Conditions, cnil, ccons, eval_condition}
 use Rattle.model.specs.Visits.{visits_c}
 use Rattle.model.specs.Reading.{Parsed, refuse, got, next, many, read_condition}
-use Rattle.laws.specs.FieldLaws.{Holds, fine, nothing}
+use Rattle.laws.proofs.FieldLaws.{fine, nothing}
 use Rattle.laws.specs.Size.{words_c, words_cs}
 use Rattle.facts.specs.Answers.{is_present}
 use Rattle.policy_model.specs.declared.ConditionHead.{ConditionHead}
 use Rattle.policy_model.specs.declared.ConditionHead.TheVariants.{Always, Never, Has, Not, All, Any, BadKind, BadField}
-use Rattle.policy_model.specs.Heads.{condition_head, condition_node, deep_condition}
+use Rattle.policy_model.specs.Heads.{condition_head, condition_node}
 use Rattle.policy_model.specs.HeadLaws.{condition_node_lem, condition_deep, has_word}
 use Rattle.policy_model.specs.Span.{SkippedConditions}
 use Rattle.policy_model.proofs.Checking.{word_at, no_word}
 use Rattle.policy_model.proofs.Conditions.{condition_leaves}
 use Rattle.visits.specs.declared.Visit.{Visit}
 use Rattle.visits.specs.declared.Visit.TheVariants.{Within, Over}
-use Rattle.visits.specs.Holding.{is_satisfied, holds_c, holds_cs, visits_cs}
+use Rattle.visits.specs.Holding.{holds_c, holds_cs, visits_cs}
 use Rattle.visits.specs.Counting.{counted_by, flipped, Counts}
 use Rattle.visits.proofs.Holding.{has_holds, flip_holds, all_holds, any_holds, all_nodes, any_nodes, some_c}
-use Rattle.visits.proofs.Counting.{counted_as, flipped_is, refused, none_left, leaf, below, some_arm, arms_none, arm_first, arm_over, arms_passed, Going}
+use Rattle.visits.proofs.Counting.{counted_as, flipped_is, refused, none_left, leaf, below, some_arm, arms_none, arm_first, arm_over, arms_passed}
 
 module _ (T : Table) (W : List ℕ) (at allowance n : ℕ) where
   -- The answer to the condition at `at`, of so many levels.

@@ -10,7 +10,7 @@ use lib.Dec.{leb}
 use lib.ListN.{drop}
 use lib.Seq.{drop-drop}
 use Rattle.model.specs.Reading.{Parsed, refuse, got, next, many}
-use Rattle.laws.specs.FieldLaws.{Holds, fine, nothing, weaker, then_holds, both_hold}
+use Rattle.laws.proofs.FieldLaws.{Holds, fine, nothing, weaker, then_holds, both_hold}
 use Rattle.policy_model.proofs.Checking.{Leaves}
 use Rattle.visits.specs.declared.Visit.{Visit}
 use Rattle.visits.specs.declared.Visit.TheVariants.{Within, Over}
@@ -75,11 +75,11 @@ module _ {A : Type 0} (size : A → ℕ) (value : A → Bool) (nodes : A → ℕ
   leaf a ws v q r e p f g h = record { says = rw e (fine (p ∙ counted_as allowance (omega arith) f (omega arith))) }
 
 -- A node whose first word is followed by what was counted.
-pub below : {A B : Type 0} (sizeA : A → ℕ) (valueA : A → Bool) (nodesA : A → ℕ) (size : B → ℕ) (value : B → Bool) (nodes : B → ℕ) (at allowance n : ℕ) (q : Parsed A) (make : A → B) (r : Visit) →
-    ((a : A) (ws : List ℕ) → q ≡ got a ws → (value (make a) ≡ valueA a) × ((nodes (make a) ≡ 1 + nodesA a) × (size (make a) ≡ 1 + sizeA a))) →
-    Counts sizeA valueA nodesA (at + 1) allowance (n + 1) q r → Counts size value nodes at allowance n (next q (λ a ws. got (make a) ws)) r
-below sizeA valueA nodesA size value nodes at allowance n (refuse m) make r f c = record { says = nothing }
-below sizeA valueA nodesA size value nodes at allowance n (got a ws) make r f c =
+pub below : {A B : Type 0} (size_a : A → ℕ) (value_a : A → Bool) (nodes_a : A → ℕ) (size : B → ℕ) (value : B → Bool) (nodes : B → ℕ) (at allowance n : ℕ) (q : Parsed A) (make : A → B) (r : Visit) →
+    ((a : A) (ws : List ℕ) → q ≡ got a ws → (value (make a) ≡ value_a a) × ((nodes (make a) ≡ 1 + nodes_a a) × (size (make a) ≡ 1 + size_a a))) →
+    Counts size_a value_a nodes_a (at + 1) allowance (n + 1) q r → Counts size value nodes at allowance n (next q (λ a ws. got (make a) ws)) r
+below size_a value_a nodes_a size value nodes at allowance n (refuse m) make r f c = record { says = nothing }
+below size_a value_a nodes_a size value nodes at allowance n (got a ws) make r f c =
     let g = f a ws refl in
     record { says = fine (c.says.it ∙ counted_as allowance (omega (arith, g.1.0)) (sym g.0) (omega (arith, g.1.1))) }
 

@@ -1,7 +1,6 @@
 -- Counts of policies in a sheet: a node by its head, and arms. Assumes nothing.
 use mathlib.Core.Path.{◌≡◌, refl, sym, ◌∙◌, ap, subst}
 use mathlib.Core.Bool.{Bool, true, false, not, cond, ◌||◌, beq}
-use mathlib.Core.Option.{Option}
 use mathlib.Core.List.{List, [], ◌∷◌}
 use Prim.Native.Nat.{ℕ, zero, suc, ◌+◌, ◌-◌, ◌/◌, ◌%◌, ◌≤◌, ◌<◌}
 use native.Mathlib.Omega.{arith}
@@ -12,16 +11,16 @@ use lib.Seq.{drop-drop}
 use Rattle.model.specs.Facts.{Table}
 use Rattle.model.specs.Outcome.{product_sets}
 use Rattle.model.specs.Condition.{Condition}
-use Rattle.model.specs.Policy.{Grant, Policy, permit, deny, grant, all, any, or_else, Policies, pnil, pcons}
-use Rattle.model.specs.Visits.{visits_c, visits}
+use Rattle.model.specs.Policy.{Grant, Policy, permit, deny, grant, all, any, or_else, pnil, pcons}
+use Rattle.model.specs.Visits.{visits_c}
 use Rattle.model.specs.Writing.{obligation_bits}
-use Rattle.model.specs.Reading.{Parsed, refuse, got, next, unless, whole, many, mark, shape_of, obligation, read_list, sheet_length, kind_of, rest_of, most_obligations, read_condition}
-use Rattle.model.specs.Levels.{OutcomeTable, outcomes_of}
-use Rattle.model.specs.Products.{Outcome, read_policy, read_sheet}
-use Rattle.laws.specs.FieldLaws.{Holds, fine, nothing, if_holds, weaker, then_holds, both_hold}
+use Rattle.model.specs.Reading.{Parsed, refuse, got, next, whole, many, mark, shape_of, obligation, read_list, sheet_length, kind_of, rest_of, most_obligations, read_condition}
+use Rattle.model.specs.Levels.{outcomes_of}
+use Rattle.model.specs.Products.{Outcome, read_policy}
+use Rattle.laws.proofs.FieldLaws.{Holds, fine, nothing, if_holds, weaker, then_holds, both_hold}
 use Rattle.laws.specs.Size.{words_c, words, wordss}
-use Rattle.laws.specs.Deeper.{deeper, follows_got}
-use Rattle.laws.specs.ReadForm.{ok_obligations}
+use Rattle.laws.proofs.Deeper.{deeper, follows_got}
+use Rattle.laws.proofs.ReadForm.{ok_obligations}
 use Rattle.facts.specs.Answers.{is_present}
 use Rattle.policy_model.specs.declared.PolicyHead.{PolicyHead}
 use Rattle.policy_model.specs.declared.PolicyHead.TheVariants.{Permit, Deny, Grant as GrantHead, All, Any, OrElse, PermitWithTrace, DenyWithTrace, BadKind, BadField}

@@ -6,7 +6,7 @@ use Rattle.model.specs.Levels.{OutcomeTable, outcomes_of}
 use Rattle.model.specs.Visits.{visits}
 use Rattle.model.specs.Reading.{Parsed}
 use Rattle.model.specs.Products.{read_sheet}
-use Rattle.laws.specs.FieldLaws.{Holds}
+use Rattle.laws.proofs.FieldLaws.{Holds}
 use Rattle.visits.specs.declared.Visit.{Visit}
 use Rattle.visits.specs.declared.Visit.TheVariants.{Within, Over}
 use Rattle.visits.specs.declared.Count.{Count}

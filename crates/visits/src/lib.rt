@@ -1,5 +1,7 @@
 // The nodes that direct evaluation visits, counted by a walk of their own: an allowance goes in, the visited count comes out. The walk knows only whether
 // a node holds, keeps no list, and ends when the allowance is used up. Request 10.
+#![tactic(auto)]
+
 ghost use Rattle.std.specs.Prelude.{◌≡◌, true, false, ℕ, ◌≤◌, ◌<◌, length, drop};
 ghost use Rattle.model.specs.Facts.{table_of};
 ghost use Rattle.model.specs.Condition.{cnil, ccons};
@@ -7,7 +9,7 @@ ghost use Rattle.model.specs.Policy.{pnil, pcons};
 ghost use Rattle.model.specs.Visits.{visits_c};
 ghost use Rattle.model.specs.Reading.{record_words, many, read_condition};
 ghost use Rattle.model.specs.Products.{read_policy};
-ghost use Rattle.laws.specs.Size.{words_c, words_cs, words as wordsT, wordss as wordsTs};
+ghost use Rattle.laws.specs.Size.{words_c, words_cs, words as words_t, wordss as words_ts};
 ghost use Rattle.policy_model.specs.Plain.{plain_grant};
 ghost use Rattle.visits.specs.Holding.{holds_c, holds_cs, visits_cs, holds_p, holds_ps, holds_any, nodes_p, nodes_ps, nodes_any};
 ghost use Rattle.visits.specs.Counting.{counted_by, flipped, Counts, CountsSheet};
@@ -57,7 +59,7 @@ fn negated(arm: Visit) -> Visit
 }
 
 // The condition at `at`, of at most `depth` levels, after `nodes` that were visited before. Every node counts, so with none left it is over at once.
-#[cycle(visit_condition_visit_conditions)]
+#[cycle(condition_visits)]
 fn visit_condition(
     words: &[u32],
     at: usize,
@@ -111,7 +113,7 @@ fn visit_condition(
 }
 
 // The `arms` from `at` of an All (`stop` false) or an Any (`stop` true): an arm whose value is `stop` decides, and those after it aren't visited.
-#[cycle(visit_condition_visit_conditions)]
+#[cycle(condition_visits)]
 fn visit_conditions(
     words: &[u32],
     at: usize,
@@ -156,7 +158,7 @@ fn visit_conditions(
 // A Grant of three words on one fact, the commonest policy: two nodes.
 fn visit_plain(words: &[u32], at: usize, facts: &[u8], allowance: u32, nodes: u32) -> Visit
     requires { (plain_grant (drop at words.now) ≡ true) × (nodes < allowance) }
-    ensures { (depth : ℕ) → Counts wordsT (holds_p (table_of facts.now)) (nodes_p (table_of facts.now)) at allowance nodes (read_policy false depth (drop at words.now)) result }
+    ensures { (depth : ℕ) → Counts words_t (holds_p (table_of facts.now)) (nodes_p (table_of facts.now)) at allowance nodes (read_policy false depth (drop at words.now)) result }
 {
     if allowance - nodes < 2 {
         return Visit::Over;
@@ -166,7 +168,7 @@ fn visit_plain(words: &[u32], at: usize, facts: &[u8], allowance: u32, nodes: u3
 }
 
 // The policy at `at`, of at most `depth` levels, in a sheet.
-#[cycle(visit_any_visit_policies_visit_policy)]
+#[cycle(policy_visits)]
 fn visit_policy(
     words: &[u32],
     at: usize,
@@ -176,7 +178,7 @@ fn visit_policy(
     nodes: u32,
 ) -> Visit
     requires { length words.now ≤ record_words }
-    ensures { Counts wordsT (holds_p (table_of facts.now)) (nodes_p (table_of facts.now)) at allowance nodes (read_policy false depth (drop at words.now)) result }
+    ensures { Counts words_t (holds_p (table_of facts.now)) (nodes_p (table_of facts.now)) at allowance nodes (read_policy false depth (drop at words.now)) result }
 {
     if words.len() <= at {
         return Visit::Over;
@@ -231,7 +233,7 @@ fn visit_policy(
 }
 
 // The `arms` from `at` of an All, up to its deny (`stop` false), or an OrElse's two, up to a permit (`stop` true).
-#[cycle(visit_any_visit_policies_visit_policy)]
+#[cycle(policy_visits)]
 fn visit_policies(
     words: &[u32],
     at: usize,
@@ -243,7 +245,7 @@ fn visit_policies(
     nodes: u32,
 ) -> Visit
     requires { length words.now ≤ record_words }
-    ensures { Counts wordsTs (holds_ps stop (table_of facts.now)) (nodes_ps stop (table_of facts.now)) at allowance nodes (many pnil pcons (read_policy false depth) arms (drop at words.now)) result }
+    ensures { Counts words_ts (holds_ps stop (table_of facts.now)) (nodes_ps stop (table_of facts.now)) at allowance nodes (many pnil pcons (read_policy false depth) arms (drop at words.now)) result }
 {
     let mut next = at;
     let mut left = arms;
@@ -275,7 +277,7 @@ fn visit_policies(
 }
 
 // The `arms` from `at` of an Any, each of which is visited.
-#[cycle(visit_any_visit_policies_visit_policy)]
+#[cycle(policy_visits)]
 fn visit_any(
     words: &[u32],
     at: usize,
@@ -286,7 +288,7 @@ fn visit_any(
     nodes: u32,
 ) -> Visit
     requires { length words.now ≤ record_words }
-    ensures { Counts wordsTs (holds_any (table_of facts.now) false) (nodes_any (table_of facts.now)) at allowance nodes (many pnil pcons (read_policy false depth) arms (drop at words.now)) result }
+    ensures { Counts words_ts (holds_any (table_of facts.now) false) (nodes_any (table_of facts.now)) at allowance nodes (many pnil pcons (read_policy false depth) arms (drop at words.now)) result }
 {
     let mut next = at;
     let mut left = arms;

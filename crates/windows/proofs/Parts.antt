@@ -8,19 +8,19 @@ use native.Mathlib.Omega.{arith}
 use lib.Bits.{bit_and, and_high}
 use lib.Dec.{eqb, leb}
 use borrow.Author.Tests.{le-leb, lt-leb, eq-eqb, ne_eqb, not-false}
-use lib.ListN.{length, take, drop, get_or, set, drop_of_length-le, length-append, length-drop}
-use lib.Seq.{drop-cons, take-length}
+use lib.ListN.{length, drop, get_or, set, drop_of_length-le, length-append, length-drop}
+use lib.Seq.{drop-cons}
 use Rattle.model.specs.Fields.{bits, split, packed}
 use Rattle.model.specs.Facts.{Presence, unknown, fact_bits, table_bytes, table_fields}
 use Rattle.model.specs.Writing.{presence_field}
 use Rattle.model.specs.Windows.{Window, window_of, windows_of, age_bits, verdict, right_window, right_windows, decided, becomes, named, set_fields, bad_date, bad_list, windows_fault, windowed_table, apply_windows}
 use Rattle.model.specs.Calls.{refusal, wrote, unless_fault, afterwards}
 use Rattle.model.specs.Calendar.{Date, exists, unknown_date, age_in_days, age_in_years}
-use Rattle.laws.specs.FieldAtLaws.{split_shift}
-use Rattle.laws.specs.FieldLaws.{length_packed}
-use Rattle.laws.specs.UnpackedLaws.{fields_packed, packed_fields, length_fields}
-use Rattle.laws.specs.WindowLaws.{Judged, length_set_fields, narrow_set_fields}
-use Rattle.laws.specs.FieldSetLaws.{unit_at, replaced}
+use Rattle.laws.proofs.ShiftLaws.{split_shift}
+use Rattle.laws.proofs.WordLaws.{length_packed}
+use Rattle.laws.proofs.UnpackedLaws.{fields_packed, packed_fields, length_fields}
+use Rattle.laws.proofs.WindowLaws.{Judged, length_set_fields, narrow_set_fields}
+use Rattle.laws.proofs.FieldSetLaws.{unit_at, replaced}
 use Rattle.answer.specs.declared.Answer.TheVariants.{Written, Refused}
 use Rattle.answer.specs.Answers.{answer_of, Answered}
 use Rattle.windows.specs.Setting.{number_of, in_ages, held_by, held_as, fields_by, set_where, marked, Windowed}
@@ -200,7 +200,7 @@ module _ (list : List ℕ) (reading today : Date) (table : List ℕ) (j : Judged
   new = set_fields (named ws) says 0 (table_fields table)
 
   -- Every field of the output by its fact: those of the table are set, what stands after them keeps its fields.
-  pub finished : {out after : List ℕ} (g : ℕ → ℕ → ℕ) → table_bytes ≤ length out → length after ≡ length out → table_fields after ≡ fields_by g 0 (table_fields (take (length table) table ++ drop (length table) out)) →
+  pub finished : {out after : List ℕ} (g : ℕ → ℕ → ℕ) → table_bytes ≤ length out → length after ≡ length out → table_fields after ≡ fields_by g 0 (table_fields (table ++ drop (length table) out)) →
       ((f q : ℕ) → g f q ≡ cond (named ws f) (presence_field (says f)) q) → Windowed list reading today table out after
   finished {out} {after} g room same told each =
       record {
@@ -208,8 +208,8 @@ module _ (list : List ℕ) (reading today : Date) (table : List ℕ) (j : Judged
             (told ∙ ap (λ l. fields_by g 0 (table_fields l)) copied ∙ ap (fields_by g 0) (fields_append table (drop table_bytes out)) ∙ split_there ∙ ap₂ (λ a b. a ++ b) front back ∙ sym (fields_append (windowed_table list reading today table) (drop table_bytes out)));
       }
     where
-      copied : take (length table) table ++ drop (length table) out ≡ table ++ drop table_bytes out
-      copied = ap₂ (λ a b. a ++ b) (take-length table) (ap (λ n. drop n out) j.long)
+      copied : table ++ drop (length table) out ≡ table ++ drop table_bytes out
+      copied = ap (λ n. table ++ drop n out) j.long
 
       count : length (table_fields table) ≡ 1024
       count = omega (arith, length_fields table, j.long)

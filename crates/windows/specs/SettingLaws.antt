@@ -46,9 +46,9 @@ module _ (g : ℕ → ℕ → ℕ) where
   pub set_by : (n v : ℕ) (qs : List ℕ) → set (fields_by g 0 qs) n v ≡ fields_by (then_set n v) 0 qs
   set_by n v qs = set_from n v 0 n qs (omega arith)
 
-pub set_fields_by : (isNamed : ℕ → Bool) (says : ℕ → Presence) (a : ℕ) (qs : List ℕ) → set_fields isNamed says a qs ≡ fields_by (λ f q. cond (isNamed f) (presence_field (says f)) q) a qs
-set_fields_by isNamed says a [] = refl
-set_fields_by isNamed says a (q ∷ qs) = ap (λ l. cond (isNamed a) (presence_field (says a)) q ∷ l) (set_fields_by isNamed says (suc a) qs)
+pub set_fields_by : (is_named : ℕ → Bool) (says : ℕ → Presence) (a : ℕ) (qs : List ℕ) → set_fields is_named says a qs ≡ fields_by (λ f q. cond (is_named f) (presence_field (says f)) q) a qs
+set_fields_by is_named says a [] = refl
+set_fields_by is_named says a (q ∷ qs) = ap (λ l. cond (is_named a) (presence_field (says a)) q ∷ l) (set_fields_by is_named says (suc a) qs)
 
 -- ---- the windows of a list, from the last
 pub last_windows : (list : List ℕ) (i : ℕ) → length list < i * 2 + 2 → windows_of (drop (i * 2) list) ≡ []
@@ -113,7 +113,7 @@ closes_is true = refl
 closes_is false = refl
 
 -- Absent for a named fact, then Present where an open window says it, then Absent where a closed one does.
-in_turn : (isNamed opened closed : Bool) (q : ℕ) → (isNamed ≡ false → opened ≡ false) → (isNamed ≡ false → closed ≡ false) → cond closed 0 (cond opened 1 (cond isNamed 0 q)) ≡ cond isNamed (presence_field (verdict (opened && not closed))) q
+in_turn : (is_named opened closed : Bool) (q : ℕ) → (is_named ≡ false → opened ≡ false) → (is_named ≡ false → closed ≡ false) → cond closed 0 (cond opened 1 (cond is_named 0 q)) ≡ cond is_named (presence_field (verdict (opened && not closed))) q
 in_turn true true true q o c = refl
 in_turn true true false q o c = refl
 in_turn true false true q o c = refl

@@ -1,4 +1,6 @@
 // Retention windows: the facts that a list names, set in a table by the age of a reading.
+#![tactic(auto)]
+
 ghost use Rattle.std.specs.Prelude.{◌≡◌, ◌/◌, ◌≤◌, ◌<◌, length, set};
 ghost use Rattle.std.proofs.Math.Option.{none};
 ghost use Rattle.model.specs.Fields.{split};
@@ -173,7 +175,7 @@ fn write(windows: &[u32], reading: Date, today: Date, facts: &[u8], out: &mut [u
     requires { (windows_fault windows.now (date_of reading) (date_of today) facts.now ≡ none) × (table_bytes ≤ length out.old) }
     ensures { Windowed windows.now (date_of reading) (date_of today) facts.now out.old out.new }
 {
-    bytes::copy(facts, out);
+    out[..facts.len()].copy_from_slice(facts);
     if calendar::is_unknown(reading) {
         mark(windows, UNKNOWN, out);
         return;

@@ -1,31 +1,50 @@
 //! Rows for the proof checker: the calls that write, as a source file of its own language.
 
+use std::collections::BTreeSet;
+use std::iter;
+
 use crate::case::{Answer, Call, Case};
 use crate::refusal::Refusal;
 
-const HEAD: &str = "\
-use mathlib.Core.List.{List, [], _∷_}
-use Prim.Native.Nat.{ℕ}
-use Rattle·model.specs.Worked.{Row, evaluates, completes, reduces, narrows, reducesInOrder, narrowsInOrder, rowUnder, refuses, writes}
+/// The words that rows are made of. Only those that are used are imported, as `rt tidy` leaves it.
+const WORDS: [&str; 9] = [
+    "evaluates",
+    "completes",
+    "reduces",
+    "narrows",
+    "reduces_in_order",
+    "narrows_in_order",
+    "row_under",
+    "refuses",
+    "writes",
+];
 
-abbrev pub rows : List Row
-rows =
-";
-
-/// The file's text: a comment that says how it was made, then a list of rows.
+/// The file's text: a comment that says how it was made, the imports that it needs, then a list of rows.
 pub fn file(made_by: &str, cases: &[Case]) -> String {
     let mut rows: Vec<_> = cases.iter().map(row).collect();
     rows.push("[]".to_owned());
+    let rows = rows.join("\n    ∷ ");
+    let used: BTreeSet<&str> = rows.split([' ', '(', ')', '\n']).collect();
+    let imported = WORDS.into_iter().filter(|word| used.contains(word));
+    let imports: Vec<_> = iter::once("Row").chain(imported).collect();
     format!(
-        "-- Made by: {made_by}\n{HEAD}    {}\n",
-        rows.join("\n    ∷ ")
+        "\
+-- Made by: {made_by}
+use Rattle.std.specs.Prelude.{{List, [], ◌∷◌}}
+use Rattle.model.specs.Worked.{{{}}}
+
+abbrev pub rows : List Row
+rows =
+    {rows}
+",
+        imports.join(", ")
     )
 }
 
 /// Sheet number, call, room, table, given words and answer.
 fn row(case: &Case) -> String {
     format!(
-        "rowUnder {} {} {} {} {} {}",
+        "row_under {} {} {} {} {} {}",
         case.number,
         constructor(case.call),
         case.room,
@@ -41,8 +60,8 @@ fn constructor(call: Call) -> &'static str {
         Call::PartialEvaluate => "reduces",
         Call::NarrowResidual => "narrows",
         Call::CompleteResidual => "completes",
-        Call::PartialEvaluateInOrder => "reducesInOrder",
-        Call::NarrowResidualInOrder => "narrowsInOrder",
+        Call::PartialEvaluateInOrder => "reduces_in_order",
+        Call::NarrowResidualInOrder => "narrows_in_order",
         other => unreachable!("{} writes no record", other.name()),
     }
 }

@@ -176,8 +176,8 @@
 //! # Linking
 //!
 //! The static library is looked for in the folder that the environment variable `VIERSKOF_LIB_DIR`
-//! names; a relative one begins where cargo is called. Without it the build has `rt staticlib
-//! vierskof` prove and make it, which takes minutes the first time. It is for x86-64 Linux.
+//! names; a relative one begins where cargo is called. Without it the build has `rt lib`, in
+//! `crates/vierskof`, prove and make it, which takes minutes the first time. It is for x86-64 Linux.
 //!
 //! # What may grow
 //!

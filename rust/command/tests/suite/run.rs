@@ -1,23 +1,30 @@
 //! The scripts in a fresh clone, with stand-ins for the kit, cargo and Debian's tools.
 
-use std::fs;
 use std::os::unix::fs::PermissionsExt;
 use std::path::{Path, PathBuf};
-use std::process::{Command, Output};
+use std::process::{self, Command, Output};
+use std::{env, fs};
 
-use super::{answer, folder};
+use super::answer;
 
 const ROOT: &str = concat!(env!("CARGO_MANIFEST_DIR"), "/../..");
 
-/// A clone in which nothing is built.
+/// A clone in which nothing is built, outside the repository, in which rt takes no second crates.txt.
 struct Clone {
     folder: PathBuf,
 }
 
+impl Drop for Clone {
+    fn drop(&mut self) {
+        let _ = fs::remove_dir_all(&self.folder);
+    }
+}
+
 impl Clone {
     fn new(name: &str) -> Self {
+        let folder = format!("vierskof-{name}-{}", process::id());
         let clone = Self {
-            folder: folder(name),
+            folder: env::temp_dir().join(folder),
         };
         for part in [
             "run",
@@ -34,8 +41,12 @@ impl Clone {
                 .status();
             assert!(copied.expect("cp runs").success(), "{part}");
         }
-        fs::create_dir_all(clone.folder.join("crates")).expect("a folder");
-        fs::write(clone.folder.join("crates.txt"), "").expect("a file");
+        for proved in ["sitting", "vierskof"] {
+            fs::create_dir_all(clone.folder.join("crates").join(proved)).expect("a folder");
+        }
+        for file in ["crates.txt", "crates/sitting/stdin"] {
+            fs::write(clone.folder.join(file), "").expect("a file");
+        }
         for tool in ["rt", "cargo", "apt-get", "sudo"] {
             clone.tool(tool, "exit 9");
         }
@@ -120,14 +131,15 @@ fn each_step_is_told() {
     clone.tool(
         "rt",
         "\
-echo 'library std: modules loaded=0 checked=0'
-[ -f target/bin/sitting ] || echo 'rt: model proved (3 s)'
-echo 'rt: laws proved (unchanged since it was last proved)'
-[ -f target/bin/sitting ] || echo 'rt: calls proved (21 s)' >&2
-mkdir -p target/bin target/staticlib
-printf '#!/bin/sh\\ncat >/dev/null; echo listed\\n' >target/bin/sitting
-chmod +x target/bin/sitting
-[ $1 != staticlib ] || touch target/staticlib/libvierskof.a",
+echo 'statements std: modules loaded=0 checked=0'
+[ -f out/made ] || echo 'rt: chose --jobs 2 for model'
+echo 'rt: nothing has changed since the last proved build'
+[ -f out/made ] || echo 'rt: chose --jobs 4 for calls' >&2
+mkdir -p out
+touch out/made
+printf '#!/bin/sh\\ncat >/dev/null; echo listed\\n' >out/sitting
+chmod +x out/sitting
+[ $1 != lib ] || touch out/libvierskof.a",
     );
     clone.tool(
         "cargo",
@@ -143,30 +155,26 @@ chmod +x target/release/vierskof",
     assert_eq!((status, printed.as_str()), (Some(0), "listed\n"));
     let lines: Vec<&str> = steps.lines().collect();
     assert!(lines[0].starts_with("run: proving and building"), "{steps}");
-    assert!(lines[0].ends_with("minutes on two cores"), "{steps}");
-    assert_eq!(
-        lines[1..],
-        ["rt: model proved (3 s)", "rt: calls proved (21 s)"]
-    );
+    let last = "minutes on two cores with an older kit";
+    assert!(lines[0].ends_with(last), "{steps}");
+    let proving = ["rt: proving model", "rt: proving calls"];
+    assert_eq!(lines[1..], proving);
     assert_eq!(
         clone.run("sitting /dev/null"),
         (Some(0), "listed\n".to_owned(), String::new())
     );
-    assert_eq!(clone.called(), "rt check sitting\n".repeat(2));
+    assert_eq!(clone.called(), "rt run\n");
 
     let (status, printed, steps) = clone.run("show x");
     assert_eq!((status, printed.as_str()), (Some(0), "decided show x\n"));
     let lines: Vec<&str> = steps.lines().collect();
     assert!(lines[1].starts_with("library: "), "{steps}");
-    assert_eq!(lines[2..], ["   Compiling command v0.1.0 (..)"]);
+    assert_eq!(lines[2..4], proving);
+    assert_eq!(lines[4..], ["   Compiling command v0.1.0 (..)"]);
     let again = (Some(0), "decided show x\n".to_owned(), String::new());
     assert_eq!(clone.run("show x"), again);
     let called = clone.called();
-    assert_eq!(
-        called.matches("rt staticlib vierskof\n").count(),
-        1,
-        "{called}"
-    );
+    assert_eq!(called.matches("rt lib\n").count(), 1, "{called}");
     // Of the packages only those that the command needs are asked for.
     let asked: Vec<&str> = called
         .lines()
@@ -183,14 +191,14 @@ fn what_fails_says_all() {
     let clone = Clone::new("failing");
     clone.tool(
         "rt",
-        "echo 'rt: model proved (3 s)'; echo why; echo 'rt: FAILED: laws' >&2; exit 1",
+        "echo 'rt: chose --jobs 2 for laws'; echo why; echo 'rt: the library laws did not build' >&2; exit 1",
     );
-    let (status, printed, said) = clone.run("");
-    assert_eq!((status, printed.as_str()), (Some(1), ""));
-    assert!(said.contains("\nwhy\nrt: FAILED: laws\n"), "{said}");
-    let (status, printed, said) = clone.run("show x");
-    assert_eq!((status, printed.as_str()), (Some(1), ""));
-    assert!(said.contains("\nwhy\nrt: FAILED: laws\n"), "{said}");
+    for arguments in ["", "show x"] {
+        let (status, printed, said) = clone.run(arguments);
+        assert_eq!((status, printed.as_str()), (Some(1), ""));
+        let last = "\nwhy\nrt: the library laws did not build\n";
+        assert!(said.ends_with(last), "{said}");
+    }
 
     fs::remove_file(clone.folder.join("bin/rt")).expect("the kit goes");
     for arguments in ["", "show x"] {
@@ -204,7 +212,7 @@ fn what_fails_says_all() {
     let (status, _, said) = told(clone.output("tools/library", ""));
     assert_eq!(status, Some(1));
     assert!(
-        said.ends_with("library: rt staticlib vierskof made no target/staticlib/libvierskof.a\n"),
+        said.ends_with("library: rt lib made no crates/vierskof/out/libvierskof.a\n"),
         "{said}"
     );
 }

@@ -253,15 +253,14 @@ fn rows_of_the_checker() {
     ];
     let expected = "\
 -- Made by: hand
-use mathlib.Core.List.{List, [], _∷_}
-use Prim.Native.Nat.{ℕ}
-use Rattle·model.specs.Worked.{Row, evaluates, completes, reduces, narrows, reducesInOrder, narrowsInOrder, rowUnder, refuses, writes}
+use Rattle.std.specs.Prelude.{List, [], ◌∷◌}
+use Rattle.model.specs.Worked.{Row, evaluates, reduces, row_under, refuses, writes}
 
 abbrev pub rows : List Row
 rows =
-    rowUnder 0 evaluates 100 (0x00 ∷ 0x10 ∷ []) (0x88000003 ∷ 0x0 ∷ 0x20000005 ∷ []) \
+    row_under 0 evaluates 100 (0x00 ∷ 0x10 ∷ []) (0x88000003 ∷ 0x0 ∷ 0x20000005 ∷ []) \
      (writes (0xE0000001 ∷ 0x40050000 ∷ 0xC0000003 ∷ 0x1 ∷ 0x50000 ∷ []))
-    ∷ rowUnder 65536 reduces 100 [] (0x70000001 ∷ []) (refuses 8)
+    ∷ row_under 65536 reduces 100 [] (0x70000001 ∷ []) (refuses 8)
     ∷ []
 ";
     assert_eq!(rows::file("hand", &cases), expected);

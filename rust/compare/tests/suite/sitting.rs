@@ -14,13 +14,10 @@ use super::listing::request;
 
 const SEED: u64 = 20_261_116;
 
-/// Where `rt check sitting` links it.
+/// Where `rt ci` and `rt run` link it.
 fn program() -> PathBuf {
-    let program = Path::new(env!("CARGO_MANIFEST_DIR")).join("../../target/bin/sitting");
-    assert!(
-        program.is_file(),
-        "no program: make it with `rt check sitting`"
-    );
+    let program = Path::new(env!("CARGO_MANIFEST_DIR")).join("../../crates/sitting/out/sitting");
+    assert!(program.is_file(), "no program: ./run makes it");
     program
 }
 

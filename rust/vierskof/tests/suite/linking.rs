@@ -14,7 +14,9 @@ impl Place {
     fn new(name: &str) -> Self {
         let folder = Path::new(env!("CARGO_TARGET_TMPDIR")).join(name);
         let _ = fs::remove_dir_all(&folder);
-        fs::create_dir_all(folder.join("tools")).expect("a folder");
+        for part in ["built", "tools"] {
+            fs::create_dir_all(folder.join(part)).expect("a folder");
+        }
         let compiled = Command::new("rustc")
             .args(["--edition", "2024", "-o"])
             .arg(folder.join("script"))
@@ -50,6 +52,7 @@ impl Place {
             .current_dir(&package)
             .env_clear()
             .env("CARGO_MANIFEST_DIR", &package)
+            .env("OUT_DIR", self.folder.join("built"))
             .env("PATH", format!("{}:/bin", self.path("tools")))
             .env("PWD", self.folder.join(from));
         if let Some(library) = library {
@@ -90,7 +93,8 @@ fn a_build_that_made_no_archive_says_why() {
         "{outside}"
     );
 
-    place.write("crates/vierskof/src/lib.rt", "");
+    // No sources in it: rt refuses any outside the crates of the repository around.
+    fs::create_dir_all(place.folder.join("crates/vierskof")).expect("a folder");
     let none = place.said("", None);
     assert!(
         none.contains("cargo::error=rt, the command of the Rattle kit, is not on the PATH"),
@@ -98,9 +102,12 @@ fn a_build_that_made_no_archive_says_why() {
     );
     assert!(none.contains("cargo::error=no libvierskof.a in "), "{none}");
 
-    place.kit("echo 'rt: calls NOT PROVED (exit 1, 3 s)'; echo 'rt: FAILED: calls' >&2; exit 1");
+    let last = "rt: the library calls did not build, so nothing above it was checked";
+    place.kit(&format!(
+        "echo 'logic=not-proved'; echo '{last}' >&2; exit 1"
+    ));
     let refused = place.said("", None);
-    for line in ["rt: calls NOT PROVED (exit 1, 3 s)", "rt: FAILED: calls"] {
+    for line in ["logic=not-proved", last] {
         assert!(
             refused.contains(&format!("cargo::error={line}\n")),
             "{refused}"
@@ -114,12 +121,16 @@ fn a_build_that_made_no_archive_says_why() {
         "{silent}"
     );
 
-    place.kit("mkdir -p target/staticlib && touch target/staticlib/libvierskof.a");
+    place.kit("[ $1 = lib ] && mkdir -p out && touch out/libvierskof.a");
     let made = place.said("", None);
     assert!(
         made.contains("cargo::rustc-link-lib=static=vierskof"),
         "{made}"
     );
     assert!(!made.contains("cargo::error"), "{made}");
+    // Linked where `rt ci` doesn't take it away, and watched nowhere.
+    let search = format!("cargo::rustc-link-search=native={}\n", place.path("built"));
+    assert!(made.contains(&search), "{made}");
+    assert!(place.folder.join("built/libvierskof.a").is_file());
     assert!(!made.contains("libvierskof.a"), "{made}");
 }

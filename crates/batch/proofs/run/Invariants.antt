@@ -1,0 +1,15 @@
+-- `batch::run` meets its contract. The loop's invariant: what stands afterwards is what stands so far, and the replies to the requests still to come.
+-- Assumes nothing.
+use Prim.Native.Nat.{◌-◌}
+use Rattle.model.specs.Levels.{outcomes_of}
+use Rattle.model.specs.Register.{entries_of}
+use Rattle.outcome.specs.Carried.{carried}
+use Rattle.batch.proofs.Running.{Standing}
+use Rattle.batch.proofs.run.Given as goal
+
+abbrev pub invariant-loop-i : goal.invariant-loop-i
+invariant-loop-i l =
+    Standing (outcomes_of (carried l.outcome_levels l.outcomes)) (entries_of l.entries) l.sheets l.requests l.allowance l.initial.replies l.initial.out l.replies l.out l.left l.used l.i
+
+abbrev pub decreases-loop-i : goal.decreases-loop-i
+decreases-loop-i l = l.count - l.i

@@ -1,0 +1,10 @@
+-- `calls::evaluate` meets its contract: that of the call without a table. Assumes nothing.
+use Rattle.model.specs.Calls as model
+use lib.ListN.{length}
+use Rattle.calls.proofs.Levels.{without_table}
+use Rattle.calls.proofs.evaluate.Goals as goal
+
+pub returns : goal.returns
+returns c =
+    let args = c.args in
+    without_table (λ L. model.evaluate L args.number args.sheet.now args.facts.now (length args.out.now)) args.facts.now c.evaluate_by.ensures

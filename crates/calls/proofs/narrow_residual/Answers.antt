@@ -1,0 +1,11 @@
+-- `calls::narrow_residual` meets its contract: that of the call without a table. Assumes nothing.
+use Rattle.model.specs.Calls as model
+use Rattle.model.specs.Partial.{permits_first}
+use lib.ListN.{length}
+use Rattle.calls.proofs.Levels.{without_table}
+use Rattle.calls.proofs.narrow_residual.Goals as goal
+
+pub returns : goal.returns
+returns c =
+    let args = c.args in
+    without_table (λ L. model.narrow_residual L permits_first args.number args.words.now args.facts.now (length args.out.now)) args.facts.now c.narrow_residual_by.ensures

@@ -1,0 +1,10 @@
+-- `condition::eval_arm` meets its contract: a Has by its first word, any other condition by the walk. Assumes nothing.
+use Rattle.condition.proofs.Evaluating.{eval_end, eval_has_word}
+use Rattle.condition.proofs.eval_arm.Goals as goal
+
+pub returns-then-words-at : goal.returns-then-words-at
+returns-then-words-at c = rw c.answer.ensures (eval_end _ _ _ _ _ _ c.if-words-at.true)
+
+pub returns-then-word-eq-HAS : goal.returns-then-word-eq-HAS
+returns-then-word-eq-HAS c =
+    eval_has_word _ _ _ _ _ _ _ c.if-words-at.false c.if-word-eq-HAS.true c.eval_has.ensures

@@ -1,0 +1,19 @@
+-- `evaluate::stored_deny` meets its contract: by whether its words end early. Assumes nothing.
+use native.Mathlib.Omega.{arith}
+use Rattle.condition.specs.Listing.{lent}
+use Rattle.evaluate.proofs.Evaluating.{deny_short, deny_stored}
+use Rattle.evaluate.proofs.stored_deny.Goals as goal
+
+pub returns-then-none-at-lt3 : goal.returns-then-none-at-lt3
+returns-then-none-at-lt3 c =
+    λ g hidden denied o depth T entries seen buf deep. rw c.denied.ensures (deny_short g T _ _ depth c.requires deep hidden denied o (lent _ entries seen) buf _ (omega arith) (omega arith))
+
+pub returns-then-none-at : goal.returns-then-none-at
+returns-then-none-at c =
+    λ g hidden denied o depth T entries seen buf deep. rw c.denied-then-none-at.ensures
+    (deny_short g T _ _ depth c.requires deep hidden denied o (lent _ entries seen) buf _ (omega arith) (omega (arith, c.if-none-at.true, c.entry_words-size.ensures)))
+
+pub returns : goal.returns
+returns c =
+    λ g hidden denied o depth T entries seen buf deep. rw c.denied_by.ensures
+    (deny_stored g T _ _ depth c.requires deep hidden denied o (lent _ entries seen) buf _ _ (omega (arith, c.entry_words-size.ensures)))

@@ -1,0 +1,1 @@
+-- No lemmas of its own.

@@ -1,0 +1,6 @@
+-- `input::read_full`: what was read so far lies in the buffer.
+use Rattle.std.proofs.Common.{◌≤◌, length}
+use Rattle.input.proofs.read_full.Given as goal
+
+abbrev pub invariant-loop : goal.invariant-loop
+invariant-loop g l = l.count ≤ length l.buf

@@ -1,0 +1,75 @@
+-- `policy_model::policy_step` meets its contract: by the head of the word. Assumes nothing.
+use mathlib.Core.Path.{◌≡◌, sym, ◌∙◌, ap}
+use Prim.Native.Nat.{◌+◌, ◌-◌}
+use borrow.Author.Rules.{rules}
+use lib.ListN.{drop}
+use Rattle.laws.specs.Size.{words}
+use Rattle.policy_model.specs.declared.PolicyHead.{PolicyHead}
+use Rattle.policy_model.specs.declared.PolicyHead.TheVariants.{Permit, Deny, Grant, All, Any, OrElse, PermitWithTrace, DenyWithTrace, BadKind, BadField}
+use Rattle.policy_model.specs.Answers.{checked}
+use Rattle.policy_model.specs.Heads.{within_most, policy_node}
+use Rattle.policy_model.proofs.Policies.{node_by, Asked, no_policy, too_deep, by_head, not_within, after_all, after_any, after_or_else, after_permit_lem, after_deny_lem, whole_node}
+use Rattle.policy_model.proofs.policy_step.Goals as goal
+use Rattle.policy_model.proofs.policy_step.Goals.{Else-not-within}
+
+pub returns-then-words-at : goal.returns-then-words-at
+returns-then-words-at c =
+    let from = c.args in
+    no_policy from.most from.words.now _ from.depth from.residual c.if-words-at.true
+
+pub returns-then-depth-eq0 : goal.returns-then-depth-eq0
+returns-then-depth-eq0 c =
+    let from = c.args in
+    too_deep from.most from.words.now from.at from.depth from.residual _ _ c.if-words-at.false c.if-depth-eq0.true c.head_by_kind.ensures c.deep_policy.ensures
+
+pub returns-then-not-within : goal.returns-then-not-within
+returns-then-not-within c =
+    not_within _ _ _ _ _ _ c.if-words-at.false c.if-depth-eq0.false c.policy_head-head.ensures (sym c.if-not-within.true ∙ c.within.ensures)
+
+abbrev Matching : Type 0
+Matching = Else-not-within
+
+by_the_head : (c : Matching) (h : PolicyHead) → c.policy_head-head.result ≡ h →
+    checked words c.args.at (node_by c.args.most c.args.residual (c.args.depth - 1) h (drop (c.args.at + 1) c.args.words.now))
+    ≡ Asked c.args.most c.args.words.now c.args.at c.args.depth c.args.residual
+by_the_head c h e =
+    by_head _ _ _ _ _ h c.if-words-at.false c.if-depth-eq0.false (sym e ∙ c.policy_head-head.ensures)
+    (sym c.if-not-within.false ∙ c.within.ensures ∙ ap (within_most c.args.most) e)
+
+pub returns-in-Permit : goal.returns-in-Permit
+unfolding checked policy_node
+returns-in-Permit c = (by_the_head (goal.at.returns-in-Permit c).Else-not-within (Permit _) c.in-Permit.is, search rules, search rules)
+
+pub returns-in-Deny : goal.returns-in-Deny
+unfolding checked policy_node
+returns-in-Deny c = (by_the_head (goal.at.returns-in-Deny c).Else-not-within Deny c.in-Deny.is, search rules, search rules)
+
+pub returns-in-Grant : goal.returns-in-Grant
+unfolding policy_node
+returns-in-Grant c =
+    whole_node _ _ _ _ _ _ _ c.if-words-at.false (c.check_grant.ensures _ _ ∙ by_the_head (goal.at.returns-in-Grant c).Else-not-within (Grant _ _ _) c.in-Grant.is) c.step_of.ensures
+
+pub returns-in-All : goal.returns-in-All
+returns-in-All c = (after_all _ _ _ _ _ ∙ by_the_head (goal.at.returns-in-All c).Else-not-within (All _) c.in-All.is, search rules, search rules)
+
+pub returns-in-Any : goal.returns-in-Any
+returns-in-Any c = (after_any _ _ _ _ _ ∙ by_the_head (goal.at.returns-in-Any c).Else-not-within (Any _) c.in-Any.is, search rules, search rules)
+
+pub returns-in-OrElse : goal.returns-in-OrElse
+returns-in-OrElse c = (after_or_else _ _ _ _ ∙ by_the_head (goal.at.returns-in-OrElse c).Else-not-within OrElse c.in-OrElse.is, search rules, search rules)
+
+pub returns-in-PermitWithTrace : goal.returns-in-PermitWithTrace
+returns-in-PermitWithTrace c =
+    whole_node _ _ _ _ _ _ _ c.if-words-at.false (c.check_permit_with_trace.ensures _ ∙ after_permit_lem _ _ _ _ _ _ ∙ by_the_head (goal.at.returns-in-PermitWithTrace c).Else-not-within (PermitWithTrace _ _) c.in-PermitWithTrace.is) c.step_of-in-PermitWithTrace.ensures
+
+pub returns-in-DenyWithTrace : goal.returns-in-DenyWithTrace
+returns-in-DenyWithTrace c =
+    whole_node _ _ _ _ _ _ _ c.if-words-at.false (c.check_deny_with_trace.ensures _ _ _ ∙ after_deny_lem _ _ _ _ _ _ _ ∙ by_the_head (goal.at.returns-in-DenyWithTrace c).Else-not-within (DenyWithTrace _ _ _) c.in-DenyWithTrace.is) c.step_of-in-DenyWithTrace.ensures
+
+pub returns-in-BadKind : goal.returns-in-BadKind
+unfolding checked policy_node
+returns-in-BadKind c = by_the_head (goal.at.returns-in-BadKind c).Else-not-within BadKind c.in-BadKind.is
+
+pub returns-in-BadField : goal.returns-in-BadField
+unfolding checked policy_node
+returns-in-BadField c = by_the_head (goal.at.returns-in-BadField c).Else-not-within BadField c.in-BadField.is

@@ -1,0 +1,7 @@
+-- `policy_model::with_word` meets its contract: field after field. Assumes nothing.
+use Rattle.policy_model.proofs.Quads.{four_seen}
+use Rattle.policy_model.proofs.with_word.Goals as goal
+
+pub returns : goal.returns
+returns c =
+    four_seen _ _ _ _ _ _ c.with_field-first.ensures c.with_field-second.ensures c.with_field-third.ensures c.with_field.ensures

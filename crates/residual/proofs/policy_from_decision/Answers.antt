@@ -1,0 +1,45 @@
+-- `residual::policy_from_decision` meets its contract: a permit with nothing but its outcome and one by a plain grant are laid at once; any other decision
+-- by whether its facts can be counted and whether there is room. Assumes nothing.
+use mathlib.Core.Path.{sym, ◌∙◌}
+use native.Mathlib.Omega.{arith}
+use Rattle.policy_model.specs.PlainLaws.{plain_inside}
+use Rattle.clause.proofs.AnswerLaws.{few_facts, is_countable, not_countable}
+use Rattle.residual.proofs.Laying.{node_long, node_no_room, node_written}
+use Rattle.residual.proofs.Short.{node_bare, node_on_fact}
+use borrow.Author.Rules.{rules}
+use Rattle.std.proofs.Common.{ap, not}
+use Rattle.residual.proofs.policy_from_decision.Goals as goal
+
+pub returns-then-words-at : goal.returns-then-words-at
+returns-then-words-at c =
+    node_bare (c.from_one_node.ensures c.if-from_one_node.true) c.if-words-at.true c.lay_bare.ensures
+
+pub bounds-words-at : goal.bounds-words-at
+bounds-words-at c =
+    plain_inside _ _ (sym c.plain_grant.ensures ∙ c.if-plain_grant.true)
+
+pub returns-then-plain_grant : goal.returns-then-plain_grant
+returns-then-plain_grant c =
+    node_on_fact (c.from_one_node.ensures c.if-from_one_node.true) (sym c.plain_grant.ensures ∙ c.if-plain_grant.true) c.lay_on_fact.ensures
+
+pub returns-then-not-countable : goal.returns-then-not-countable
+returns-then-not-countable c =
+    node_long (omega (arith, c.obligations-2-1.given)) c.obligations-held.ensures c.clause_facts-count.ensures _ (not_countable _ c.countable.ensures (ap not c.if-not-countable.true))
+
+pub decision_words-size-requires : goal.decision_words-size-requires
+decision_words-size-requires c = (
+  omega (arith, c.obligations-held.ensures.few),
+  omega (arith, few_facts c.args.decision.permit c.obligations-held.result c.clause_facts-count.result (is_countable _ c.countable.ensures (ap not c.if-not-countable.false))),
+)
+
+pub returns-then-out-size : goal.returns-then-out-size
+returns-then-out-size c =
+    node_no_room (omega (arith, c.obligations-2-1.given)) c.obligations-held.ensures c.clause_facts-count.ensures (is_countable _ c.countable.ensures (ap not c.if-not-countable.false)) _ _ c.decision_words-size.ensures c.if-out-size.true
+
+pub write_decision-requires : goal.write_decision-requires
+write_decision-requires c =
+    (is_countable _ c.countable.ensures (ap not c.if-not-countable.false), omega (arith, c.obligations-held.ensures.few, c.obligations-2-1.given), search rules, omega (arith, c.decision_words-size.ensures, c.if-out-size.false))
+
+pub returns : goal.returns
+returns c =
+    node_written (omega (arith, c.obligations-2-1.given)) c.obligations-held.ensures c.clause_facts-count.ensures (is_countable _ c.countable.ensures (ap not c.if-not-countable.false)) _ _ _ c.write_decision.ensures

@@ -1,0 +1,2 @@
+-- Laws about the definitions, each by itself.
+pub mod Guarantee

@@ -1,0 +1,6 @@
+-- `vierskof::vierskof_evaluate` meets its contract: that of the call. Assumes nothing.
+use Rattle.vierskof.proofs.Writing.{writes}
+use Rattle.vierskof.proofs.vierskof_evaluate.Goals as goal
+
+pub returns : goal.returns
+returns c = writes c.evaluate.ensures c.written.ensures

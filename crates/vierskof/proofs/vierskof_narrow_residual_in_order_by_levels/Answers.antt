@@ -1,0 +1,6 @@
+-- `vierskof::vierskof_narrow_residual_in_order_by_levels` meets its contract: that of the call. Assumes nothing.
+use Rattle.vierskof.proofs.Writing.{writes}
+use Rattle.vierskof.proofs.vierskof_narrow_residual_in_order_by_levels.Goals as goal
+
+pub returns : goal.returns
+returns c = writes c.narrow_residual_by_levels.ensures c.written.ensures

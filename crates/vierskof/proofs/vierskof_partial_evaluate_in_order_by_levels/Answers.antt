@@ -1,0 +1,6 @@
+-- `vierskof::vierskof_partial_evaluate_in_order_by_levels` meets its contract: that of the call. Assumes nothing.
+use Rattle.vierskof.proofs.Writing.{writes}
+use Rattle.vierskof.proofs.vierskof_partial_evaluate_in_order_by_levels.Goals as goal
+
+pub returns : goal.returns
+returns c = writes c.partial_evaluate_by_levels.ensures c.written.ensures

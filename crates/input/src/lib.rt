@@ -1,28 +1,24 @@
 // What the programs read.
 #![tactic(auto)]
 
-ghost use Rattle.std.specs.Prelude.{◌≤◌, length, IfOk};
+ghost use Rattle.std.specs.Prelude.{◌≤◌, ◌<◌, length, take, IfOk};
+ghost use Rattle.std.specs.Io.KnownBytes.{Consumes, IsAtEnd};
 
-use std::io::{self, ErrorKind, Read};
+use std::io::{self, Read};
 
-// Reads to the front of the buffer until it is full or the input ends, and returns how many bytes. A read that a signal broke off is made again.
+// Reads to the front of the buffer until it is full or the input ends, and returns how many bytes.
 pub fn read_full<R: Read>(input: &mut R, buf: &mut [u8]) -> io::Result<usize>
-    ensures { IfOk result (λ n. n ≤ length buf.new) }
+    ensures bound { IfOk result (λ n. n ≤ length buf.new) }
+    ensures bytes { IfOk result (λ n. Consumes (R.remaining input.old) (R.remaining input.new) (take n buf.new)) }
+    ensures end { IfOk result (λ n. n < length buf.new → IsAtEnd (R.remaining input.new)) }
 {
     let mut count = 0;
-    for _ in 0..u64::MAX {
-        if count >= buf.len() {
-            break;
+    while count < buf.len() {
+        let n = input.read(&mut buf[count..])?;
+        if n == 0 {
+            return Ok(count);
         }
-        match input.read(&mut buf[count..]) {
-            Ok(0) => break,
-            Ok(n) => count += n,
-            Err(error) => {
-                if error.kind() != ErrorKind::Interrupted {
-                    return Err(error);
-                }
-            }
-        }
+        count += n;
     }
     Ok(count)
 }

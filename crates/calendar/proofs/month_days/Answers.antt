@@ -9,8 +9,6 @@ use lib.ListN.{get_or-eq_default}
 use borrow.Author.Tests.{ne_eqb}
 use Rattle.model.specs.Calendar.{leap, months}
 use Rattle.calendar.proofs.Parts.{month_table}
-use mathlib.Core.Path.{sym, ◌∙◌}
-use borrow.Author.Tests.{ne_eqb}
 use Rattle.calendar.proofs.month_days.Goals as goal
 
 pub returns-then-month-gt12 : goal.returns-then-month-gt12

@@ -1,6 +1,10 @@
--- `input::read_full`: what was read so far lies in the buffer.
-use Rattle.std.proofs.Common.{◌≤◌, length}
+-- `input::read_full`: what was read so far lies at the front of the buffer, and each turn reads more of it.
+use Rattle.std.proofs.Common.{◌≤◌, ◌-◌, length, take}
+use Rattle.std.specs.Io.KnownBytes.{Consumes}
 use Rattle.input.proofs.read_full.Given as goal
 
-abbrev pub invariant-loop : goal.invariant-loop
-invariant-loop g l = l.count ≤ length l.buf
+abbrev pub invariant-loop-count : goal.invariant-loop-count
+invariant-loop-count g l = (l.count ≤ length l.buf) × Consumes (g.R.Read.remaining l.initial.input) (g.R.Read.remaining l.input) (take l.count l.buf)
+
+abbrev pub decreases-loop-count : goal.decreases-loop-count
+decreases-loop-count g l = length l.buf - l.count

@@ -1,1 +1,0 @@
--- No lemmas of its own.

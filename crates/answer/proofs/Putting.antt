@@ -1,10 +1,10 @@
 -- A Resolved record that is measured and then written, or refused with 11. Assumes nothing.
 use mathlib.Core.Path.{◌≡◌, refl, ◌∙◌, ap}
 use mathlib.Core.Bool.{Bool, true, false}
-use mathlib.Core.List.{List, ◌++◌}
+use mathlib.Core.List.{List, ◌++◌, map}
 use Prim.Native.Nat.{ℕ, ◌+◌, ◌-◌, ◌/◌, ◌≤◌, ◌<◌}
 use native.Mathlib.Omega.{arith}
-use lib.ListN.{length, take, drop, length-map, length-take}
+use lib.ListN.{length, take, drop, length-map}
 use Rattle.model.specs.Facts.{Table}
 use Rattle.model.specs.Outcome.{product_sets}
 use Rattle.model.specs.Decision.{Decision as Decided}
@@ -24,7 +24,8 @@ use Rattle.decision.specs.Answers.{Held}
 use Rattle.clause.specs.Clauses.{decision_size, countable}
 use Rattle.clause.specs.Answers.{Gathered, ClauseFacts, DecisionWritten}
 use Rattle.clause.proofs.AnswerLaws.{gathered, decision_size_lem, decision_short, node_small, few_facts}
-use Rattle.answer.specs.declared.Answer.TheVariants.{Written, Refused}
+use Rattle.std.specs.Prelude.{Ok, Err}
+use Rattle.refusal.specs.declared.Refusal.TheVariants.{Room}
 use Rattle.answer.specs.Answers.{Put}
 use Rattle.answer.proofs.Writing.{words_of, no_room, long_list, written_record}
 use Rattle.decision.specs.Room.{list_room}
@@ -42,28 +43,26 @@ size_is {W} {T} {buf} {d} g count l e =
 pub size_small : (permit : Bool) (held named : ℕ) → held ≤ list_room → countable permit held named ≡ true → decision_size permit held named ≤ 2100
 size_small permit held named h k = node_small permit held named h (few_facts permit held named k)
 
--- No list has more entries than there are.
-pub put_nothing : {W : List ℕ} {T : Table} {buf : List ℕ} {d : Decision} {entries : List ℕ} {count : ℕ} {out : List ℕ} → length entries < count → Put W T buf d entries count out out (Refused 11)
-put_nothing {entries = entries} {count} h =
-    record { put = λ l s e q. let z : ⊥ = omega (arith, h, e, ap length q, length-map l entry_field, length-take count entries) in absurd z }
+same_length : {entries : List ℕ} (l : Consulted) → entries ≡ map entry_field l → length entries ≡ length l
+same_length l e = ap length e ∙ length-map l entry_field
 
-module _ {W : List ℕ} {T : Table} {buf : List ℕ} {d : Decision} {os : List ℕ} {held : ℕ} {fs : List ℕ} {named : ℕ} {entries : List ℕ} {count : ℕ} {out : List ℕ}
+module _ {W : List ℕ} {T : Table} {buf : List ℕ} {d : Decision} {os : List ℕ} {held : ℕ} {fs : List ℕ} {named : ℕ} {entries out : List ℕ}
     (h : Held W d buf os held) (wide : list_room ≤ length os) (f : ClauseFacts W T d.clause fs named) where
-  pub put_long : countable d.permit held named ≡ false → Put W T buf d entries count out out (Refused 11)
-  put_long k = record { put = λ l s e q. long_list (length out) (record_of (decision_of W T buf d) l) out (decision_short (gathered s h wide f) ∙ k) }
+  pub put_long : countable d.permit held named ≡ false → Put W T buf d entries out out (Err Room)
+  put_long k = record { put = λ l s e. long_list (length out) (record_of (decision_of W T buf d) l) out (decision_short (gathered s h wide f) ∙ k) }
 
-  pub put_no_room : (size : ℕ) → size ≡ decision_size d.permit held named → length out < 1 + (count + 1) / 2 + size → Put W T buf d entries count out out (Refused 11)
-  put_no_room size z k = record { put = λ l s e q. no_room (length out) (record_of (decision_of W T buf d) l) out (omega (arith, size_is (gathered s h wide f) count l e)) }
+  pub put_no_room : (size : ℕ) → size ≡ decision_size d.permit held named → length out < 1 + (length entries + 1) / 2 + size → Put W T buf d entries out out (Err Room)
+  put_no_room size z k = record { put = λ l s e. no_room (length out) (record_of (decision_of W T buf d) l) out (omega (arith, size_is (gathered s h wide f) (length entries) l (same_length l e))) }
 
-  pub put_written : {mid tail : List ℕ} {front rest : ℕ} (size : ℕ) → size ≡ decision_size d.permit held named → countable d.permit held named ≡ true → count ≤ 1024 → 1 + (count + 1) / 2 + size ≤ length out →
-      packing.Written (front_words true (take count entries)) out mid front → DecisionWritten W d os held fs named (take (length mid - front) (drop front mid)) tail rest →
-      Put W T buf d entries count out (take front mid ++ (tail ++ drop (length mid - front) (drop front mid))) (Written (front + rest))
+  pub put_written : {mid tail : List ℕ} {front rest : ℕ} (size : ℕ) → size ≡ decision_size d.permit held named → countable d.permit held named ≡ true → length entries ≤ 1024 → 1 + (length entries + 1) / 2 + size ≤ length out →
+      packing.Written (front_words true (entries)) out mid front → DecisionWritten W d os held fs named (take (length mid - front) (drop front mid)) tail rest →
+      Put W T buf d entries out (take front mid ++ (tail ++ drop (length mid - front) (drop front mid))) (Ok (front + rest))
   put_written {mid} {tail} {front} {rest} size z k few room p w =
       record {
-        put = λ l s e q.
+        put = λ l s e.
             let g = gathered s h wide f in
-            let whole = written_same (written_lent p (w.written T buf (decision_of W T buf d) refl g)) (record_words_lem (record_of (decision_of W T buf d) l) true (take count entries) refl q) in
-            let n = size_is g count l e in
+            let whole = written_same (written_lent p (w.written T buf (decision_of W T buf d) refl g)) (record_words_lem (record_of (decision_of W T buf d) l) true entries refl e) in
+            let n = size_is g (length entries) l (same_length l e) in
             let small = size_small d.permit held named h.few k in
             written_record (length out) (front + rest) (record_of (decision_of W T buf d) l) out (take front mid ++ (tail ++ drop (length mid - front) (drop front mid)))
             (omega (arith, whole.number)) (omega (arith, whole.number)) (decision_short g ∙ k) whole;

@@ -1,5 +1,5 @@
 -- What the calls answer and leave in the output: document 01's number and word count for each case.
-use Rattle.std.specs.Prelude.{◌≡◌, Bool, cond, List, ◌++◌, map, ℕ, ◌*◌, ◌≤◌, leb, length, take, drop}
+use Rattle.std.specs.Prelude.{◌≡◌, Bool, cond, List, ◌++◌, map, ℕ, ◌*◌, ◌≤◌, leb, length, take, drop, Result, Ok, Err}
 use Rattle.model.specs.Facts.{Table}
 use Rattle.model.specs.Fields.{pack}
 use Rattle.model.specs.Policy.{Policy}
@@ -14,26 +14,30 @@ use Rattle.laws.proofs.FieldLaws.{Holds}
 use Rattle.laws.proofs.ReadForm.{Named}
 use Rattle.decision.specs.declared.Decision.{Decision}
 use Rattle.decision.specs.Meaning.{decision_of, Sound}
-use Rattle.answer.specs.declared.Answer.{Answer}
-use Rattle.answer.specs.declared.Answer.TheVariants.{Written, Refused}
+use Rattle.refusal.specs.declared.Refusal.{Refusal}
+use Rattle.refusal.specs.Numbers.{by_number}
+
+-- What a function answers: how many words it wrote, or its refusal.
+abbrev pub Answer : Type 0
+Answer = Result ℕ Refusal
 
 -- The number is 0 where words were written, and their count 0 where the call is refused.
-abbrev pub number_of : Answer → ℕ
-number_of (Written n) = 0
-number_of (Refused n) = n
+abbrev pub number_of : Result ℕ ℕ → ℕ
+number_of (Ok n) = 0
+number_of (Err n) = n
 
-abbrev pub written_of : Answer → ℕ
-written_of (Written n) = n
-written_of (Refused n) = 0
+abbrev pub written_of : Result ℕ ℕ → ℕ
+written_of (Ok n) = n
+written_of (Err n) = 0
 
--- The answer to what the model's call gives.
-abbrev pub answer_of : model.Answer → Answer
-answer_of (model.refusal n) = Refused n
-answer_of (model.wrote ws) = Written (length ws)
+-- The answer to what the model's call gives, its refusal a number.
+abbrev pub answer_of : model.Answer → Result ℕ ℕ
+answer_of (model.refusal n) = Err n
+answer_of (model.wrote ws) = Ok (length ws)
 
 -- The answer, and the output afterwards, are those of the model's call.
 pub record Answered (a : model.Answer) (before after : List ℕ) (r : Answer) : Type 0 where
-  pub answer_is : r ≡ answer_of a
+  pub answer_is : by_number r ≡ answer_of a
   pub output_is : after ≡ model.afterwards a before
 
 -- The words as they stand; 11 when the output is shorter.
@@ -41,9 +45,8 @@ abbrev pub copied : List ℕ → ℕ → model.Answer
 copied ws room = cond (leb (length ws) room) (model.wrote ws) (model.refusal 11)
 
 -- A Resolved record was written: that of the decision and the consulted list which the walk left, whatever they stand for.
-pub record Put (W : List ℕ) (T : Table) (buf : List ℕ) (d : Decision) (entries : List ℕ) (count : ℕ) (before after : List ℕ) (r : Answer) : Type 0 where
-  pub put : (l : Consulted) → Sound W buf d → count ≡ length l → take count entries ≡ map entry_field l →
-      Answered (write (length before) (record { body = resolved (decision_of W T buf d); log = l })) before after r
+pub record Put (W : List ℕ) (T : Table) (buf : List ℕ) (d : Decision) (entries : List ℕ) (before after : List ℕ) (r : Answer) : Type 0 where
+  pub put : (l : Consulted) → Sound W buf d → entries ≡ map entry_field l → Answered (write (length before) (record { body = resolved (decision_of W T buf d); log = l })) before after r
 
 -- The record that a call wrote carries the number afterwards, whatever the call.
 pub record Numbered (number : ℕ) (written after : List ℕ) (answer r : Answer) : Type 0 where

@@ -1,4 +1,4 @@
-// What a call answers: a record of words that was written, or a numbered refusal that leaves the output as it was.
+// What a call answers: a record of words that was written, or a refusal that leaves the output as it was.
 #![tactic(auto)]
 
 ghost use Rattle.std.specs.Prelude.{◌^◌, ◌≤◌, ◌<◌, length};
@@ -10,43 +10,35 @@ ghost use Rattle.answer.specs.Answers.{Answered, Put, Numbered, copied};
 
 use decision::Decision;
 use policy_model::{COUNTS, KIND};
+use refusal::Refusal;
 
-// How many words were written, or the number of the refusal.
-#[derive(Drop)]
-pub enum Answer {
-    Written(usize),
-    Refused(u32),
-}
+// How many words were written, or why none were.
+pub type Answer = Result<usize, Refusal>;
 
-// Writes the Resolved record of a decision and the consulted entries in use, if there is room for it. Its length is known before a word changes.
+// Writes the Resolved record of a decision and the consulted entries, if there is room for it. Its length is known before a word changes.
 pub fn put_record(
     words: &[u32],
     decision: Decision,
     facts: &[u8],
     entries: &[u16],
-    listed: usize,
     buf: &[u8],
     named: &mut [u16],
     out: &mut [u32],
 ) -> Answer
     requires { Few decision × RoomToUnite 1 buf.now × (length entries.now ≤ fact_count) × RoomToName words.now named.old }
-    ensures { Put words.now (table_of facts.now) buf.now decision entries.now listed out.old out.new result }
+    ensures { Put words.now (table_of facts.now) buf.now decision entries.now out.old out.new result }
 {
-    // No walk leaves more in use than it was lent, but of words that don't read none says so.
-    if entries.len() < listed {
-        return Answer::Refused(11);
-    }
     let mut obligations = [0u8; decision::LIST_ROOM];
     let held = decision::obligations(words, decision, buf, &mut obligations);
     let count = clause::clause_facts(words, decision.clause, facts, named);
     if !clause::countable(decision.permit, held, count) {
-        return Answer::Refused(11);
+        return Err(Refusal::Room);
     }
     let size = clause::decision_words(decision.permit, held, count);
-    if out.len() < 1 + (listed + 1) / 2 + size {
-        return Answer::Refused(11);
+    if out.len() < 1 + (entries.len() + 1) / 2 + size {
+        return Err(Refusal::Room);
     }
-    let front = record::write_front(true, entries, listed, out);
+    let front = record::write_front(true, entries, entries.len(), out);
     let rest = clause::write_decision(
         words,
         decision,
@@ -56,7 +48,7 @@ pub fn put_record(
         count,
         &mut out[front..],
     );
-    Answer::Written(front + rest)
+    Ok(front + rest)
 }
 
 // Writes a record as it stands, if there is room for it.
@@ -64,9 +56,10 @@ pub fn copy_record(words: &[u32], out: &mut [u32]) -> Answer
     ensures { Answered (copied words.now (length out.old)) out.old out.new result }
 {
     if out.len() < words.len() {
-        return Answer::Refused(11);
+        return Err(Refusal::Room);
     }
-    Answer::Written(packing::copy_words(words, 0, words.len(), out))
+    out[..words.len()].copy_from_slice(words);
+    Ok(words.len())
 }
 
 // Puts a sheet's number into the lead of the record that was written, if one was.
@@ -74,19 +67,12 @@ pub fn under_number(answer: Answer, number: u32, out: &mut [u32]) -> Answer
     requires { number < 2 ^ sheet_bits }
     ensures { Numbered number out.old out.new answer result }
 {
-    match answer {
-        Answer::Refused(cause) => Answer::Refused(cause),
-        Answer::Written(words) => {
-            // no call writes a record of no words
-            if words == 0 {
-                return Answer::Written(words);
-            }
-            if out.len() == 0 {
-                return Answer::Written(words);
-            }
-            let lead = out[0];
-            out[0] = lead / KIND * KIND + (number * COUNTS + lead % COUNTS);
-            Answer::Written(words)
+    let words = answer?;
+    // no call writes a record of no words
+    if words != 0 {
+        if let Some(lead) = out.first_mut() {
+            *lead = *lead / KIND * KIND + (number * COUNTS + *lead % COUNTS);
         }
     }
+    Ok(words)
 }

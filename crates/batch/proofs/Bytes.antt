@@ -1,10 +1,11 @@
 -- The bytes of words, one word after the other. Assumes nothing.
 use mathlib.Core.Path.{◌≡◌, refl, sym, ◌∙◌, ap}
 use mathlib.Core.List.{List, [], ◌∷◌, ◌++◌, append_assoc, append-nil}
-use Prim.Native.Nat.{ℕ, suc, ◌+◌, ◌*◌, ◌/◌, ◌%◌, ◌≤◌, ◌<◌}
+use Prim.Native.Nat.{ℕ, suc, ◌+◌, ◌*◌, ◌/◌, ◌%◌, ◌^◌, ◌≤◌, ◌<◌}
 use native.Mathlib.Omega.{arith}
-use lib.ListN.{length, take, drop, get_or, set, length-append, length-drop, take-append-drop}
-use lib.Seq.{take-suc, take-take, take-append-le, take_at, length-take-le, sets, sets-eq}
+use lib.ListN.{length, take, drop, get_or, length-append, length-drop, take-append-drop}
+use lib.Seq.{take-suc, take-take, take-append-le, take_at, length-take-le}
+use Rattle.std.specs.Int.{w32, to_be_bytes}
 use Rattle.model.specs.Fields.{split}
 use Rattle.model.specs.Batch.{bytes_of, table_in}
 
@@ -58,18 +59,9 @@ bytes_of_lem w =
     ap (λ v. w / 16777216 ∷ w % 16777216 / 65536 ∷ v / 256 ∷ w % 16777216 % 65536 % 256 / 1 ∷ []) third
     ∙ ap (λ v. w / 16777216 ∷ w % 16777216 / 65536 ∷ w % 65536 / 256 ∷ v ∷ []) (let last : w % 16777216 % 65536 % 256 / 1 ≡ w % 256 = omega arith in last)
 
--- A run of stores, as the code makes them.
-pub stores : (l : List ℕ) (at a b c d : ℕ) → set (set (set (set l at a) (at + 1) b) (at + 2) c) (at + 3) d ≡ sets l at (a ∷ b ∷ c ∷ d ∷ [])
-stores l at a b c d =
-    let one : at + 1 ≡ suc at = omega arith in
-    let two : at + 2 ≡ suc (suc at) = omega arith in
-    let three : at + 3 ≡ suc (suc (suc at)) = omega arith in
-    ap (λ j. set (set (set (set l at a) j b) (at + 2) c) (at + 3) d) one
-    ∙ ap (λ j. set (set (set (set l at a) (suc at) b) j c) (at + 3) d) two
-    ∙ ap (λ j. set (set (set (set l at a) (suc at) b) (suc (suc at)) c) j d) three
-
-pub word_put : (l : List ℕ) (at w : ℕ) → at + 4 ≤ length l →
-    sets l at (w / 16777216 ∷ w % 16777216 / 65536 ∷ w % 65536 / 256 ∷ w % 256 ∷ []) ≡ take at l ++ (split 8 4 w ++ drop (at + 4) l)
-word_put l at w h =
-    let bs = w / 16777216 ∷ w % 16777216 / 65536 ∷ w % 65536 / 256 ∷ w % 256 ∷ [] in
-    sets-eq bs l at h ∙ append_assoc (take at l) bs (drop (at + 4) l) ∙ ap (λ b. take at l ++ (b ++ drop (at + 4) l)) (sym (bytes_of_lem w))
+pub word_bytes : (w : ℕ) → w < 2 ^ 32 → to_be_bytes w32 w ≡ split 8 4 w
+word_bytes w h =
+    let first : w / 16777216 % 256 ≡ w / 16777216 = omega arith in
+    let second : w / 65536 % 256 ≡ w % 16777216 / 65536 = omega arith in
+    let third : w / 256 % 256 ≡ w % 65536 / 256 = omega arith in
+    (λ i. first i ∷ second i ∷ third i ∷ w % 256 ∷ []) ∙ sym (bytes_of_lem w)

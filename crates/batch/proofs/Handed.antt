@@ -1,4 +1,4 @@
--- The sheets handed over from a word on, and a turn of each loop over them. Assumes nothing.
+-- The sheets handed over, and a turn of each loop over them. Assumes nothing.
 use mathlib.Core.Path.{◌≡◌, refl, sym, ◌∙◌, ap}
 use mathlib.Core.Bool.{cond}
 use mathlib.Core.Option.{Option, none, some}
@@ -6,8 +6,7 @@ use mathlib.Core.List.{List, [], ◌∷◌}
 use Prim.Native.Nat.{ℕ, zero, suc, ◌+◌, ◌-◌, ◌/◌, ◌%◌, ◌^◌, ◌≤◌, ◌<◌}
 use native.Mathlib.Omega.{arith}
 use lib.Dec.{eqb, leb}
-use lib.ListN.{length, take, drop, get_or, length-drop, drop_of_length-le}
-use lib.Seq.{drop-cons, drop-drop}
+use lib.ListN.{length, take, drop, length-drop}
 use borrow.Author.Tests.{le-leb, lt-leb, eq-eqb, ne_eqb}
 use Rattle.model.specs.Writing.{sheet_bits}
 use Rattle.model.specs.Batch.{Handed, and_then, handed_by, handed_over, sheet_of}
@@ -26,32 +25,18 @@ by_any (suc n) (suc m) (w ∷ ws) h k =
     ap (λ o. cond (leb c (length ws)) (and_then (handed (w / 2 ^ sheet_bits) (take c ws)) o) none)
     (by_any n m (drop c ws) (omega (arith, length-drop c ws)) (omega (arith, length-drop c ws)))
 
--- ---- the sheet whose lead stands there and those after it, none where it ends early, or no more
-module _ (ws : List ℕ) (at lead count : ℕ) (l : at < length ws) (i : lead ≡ get_or ws at 0) (n : count ≡ lead % 2 ^ sheet_bits) where
-  from : handed_over (drop at ws) ≡ handed_over (lead ∷ drop (at + 1) ws)
-  from =
-      let one : suc at ≡ at + 1 = omega arith in
-      ap handed_over (drop-cons ws at 0 l ∙ ap (λ j. get_or ws at 0 ∷ drop j ws) one ∙ ap (λ w. w ∷ drop (at + 1) ws) (sym i))
+-- ---- the sheet whose lead stands first and those after it, none where it ends early
+module _ (lead : ℕ) (ws : List ℕ) where
+  abbrev Count : ℕ
+  Count = lead % 2 ^ sheet_bits
 
-  pub next_sheet : at + 1 + count ≤ length ws → handed_over (drop at ws) ≡ and_then (handed (lead / 2 ^ sheet_bits) (take count (drop (at + 1) ws))) (handed_over (drop (at + 1 + count) ws))
+  pub next_sheet : Count ≤ length ws → handed_over (lead ∷ ws) ≡ and_then (handed (lead / 2 ^ sheet_bits) (take Count ws)) (handed_over (drop Count ws))
   next_sheet h =
-      let rest = drop (at + 1) ws in
-      let long = length-drop (at + 1) ws in
-      from
-      ∙ ap (λ c. cond (leb c (length rest)) (and_then (handed (lead / 2 ^ sheet_bits) (take c rest)) (handed_by (length rest) (drop c rest))) none) (sym n)
-      ∙ ap (λ b. cond b (and_then (handed (lead / 2 ^ sheet_bits) (take count rest)) (handed_by (length rest) (drop count rest))) none) (le-leb count (length rest) (omega arith))
-      ∙ ap (and_then (handed (lead / 2 ^ sheet_bits) (take count rest)))
-      (by_any (length rest) (length (drop count rest)) (drop count rest) (omega (arith, length-drop count rest)) (omega arith) ∙ ap handed_over (drop-drop count (at + 1) ws))
+      ap (λ b. cond b (and_then (handed (lead / 2 ^ sheet_bits) (take Count ws)) (handed_by (length ws) (drop Count ws))) none) (le-leb Count (length ws) h)
+      ∙ ap (and_then (handed (lead / 2 ^ sheet_bits) (take Count ws))) (by_any (length ws) (length (drop Count ws)) (drop Count ws) (omega (arith, length-drop Count ws)) (omega arith))
 
-  pub cut_short : length ws - (at + 1) < count → handed_over (drop at ws) ≡ none
-  cut_short h =
-      let rest = drop (at + 1) ws in
-      let long = length-drop (at + 1) ws in
-      let c = lead % 2 ^ sheet_bits in
-      from ∙ ap (λ b. cond b (and_then (handed (lead / 2 ^ sheet_bits) (take c rest)) (handed_by (length rest) (drop c rest))) none) (lt-leb c (length rest) (omega arith))
-
-pub no_sheet_lem : (ws : List ℕ) (at : ℕ) → length ws ≤ at → handed_over (drop at ws) ≡ some []
-no_sheet_lem ws at h = ap handed_over (drop_of_length-le ws h)
+  pub cut_short : length ws < Count → handed_over (lead ∷ ws) ≡ none
+  cut_short h = ap (λ b. cond b (and_then (handed (lead / 2 ^ sheet_bits) (take Count ws)) (handed_by (length ws) (drop Count ws))) none) (lt-leb Count (length ws) h)
 
 -- ---- whether the list is whole
 pub whole_after : (h : Handed) (o : Option (List Handed)) → is_whole (and_then h o) ≡ is_whole o

@@ -4,4 +4,3 @@ mod Bytes
 mod Running
 mod Requests
 mod Deciding
-mod Judged

@@ -13,9 +13,11 @@ use Rattle.model.specs.Register.{Entry, in_force}
 use Rattle.model.specs.Batch as model
 use Rattle.model.specs.Batch.{Handed, handed_over, Request, request_words, request_of, requests_of, request_count, nodes_of, record_of, reply_number, records_of, numbers_of, answers, output_after, replies_after, of_entry, reply, replies}
 use Rattle.laws.proofs.BatchLaws.{decided_within, decided_fits, decided_few}
-use Rattle.batch.specs.declared.Reply.{Reply}
-use Rattle.batch.specs.declared.Batch.TheVariants as batch
-use Rattle.batch.specs.Answers.{is_whole, reply_meant, number_of, nodes_in, words_in, Replies, Runs}
+use Rattle.std.specs.Prelude.{Option as Maybe, Result, Ok}
+use Rattle.refusal.specs.declared.Refusal.{Refusal}
+use Rattle.refusal.specs.Numbers.{by_number}
+use Rattle.batch.specs.declared.Decided.{Decided}
+use Rattle.batch.specs.Answers.{Reply, is_whole, reply_meant, number_of, taken as takes, Replies, Runs}
 
 -- ---- a reply's number, nodes and words are the model's
 number_meant : (r : model.Reply) → number_of (reply_meant r) ≡ reply_number r
@@ -23,21 +25,21 @@ number_meant model.no_sheet = refl
 number_meant (model.refused n) = refl
 number_meant (model.decided ws nodes) = refl
 
-nodes_meant : (r : model.Reply) → nodes_in (reply_meant r) ≡ nodes_of r
+nodes_meant : (r : model.Reply) → (takes (reply_meant r)).nodes ≡ nodes_of r
 nodes_meant model.no_sheet = refl
 nodes_meant (model.refused n) = refl
 nodes_meant (model.decided ws nodes) = refl
 
-words_meant : (r : model.Reply) → words_in (reply_meant r) ≡ length (record_of r)
+words_meant : (r : model.Reply) → (takes (reply_meant r)).words ≡ length (record_of r)
 words_meant model.no_sheet = refl
 words_meant (model.refused n) = refl
 words_meant (model.decided ws nodes) = refl
 
 -- What a reply takes is there, and its words are few.
 pub record Fits (left room : ℕ) (r : Reply) : Type 0 where
-  pub nodes : nodes_in r ≤ left
-  pub words : words_in r ≤ room
-  pub few : words_in r ≤ record_words
+  pub nodes : (takes r).nodes ≤ left
+  pub words : (takes r).words ≤ room
+  pub few : (takes r).words ≤ record_words
 
 module _ (L : Outcomes) (es : List Entry) (left room : ℕ) (q : Request) where
   fits_by : (hs : List Handed) (r : Reply) → r ≡ reply_meant (reply L es hs left room q) → Fits left room r
@@ -45,14 +47,14 @@ module _ (L : Outcomes) (es : List Entry) (left room : ℕ) (q : Request) where
       let a = reply L es hs left room q in
       let s = of_entry (in_force q.group q.day es) hs in
       record {
-        nodes = omega (arith, ap nodes_in e, nodes_meant a, decided_within L s q.facts left room);
-        words = omega (arith, ap words_in e, words_meant a, decided_fits L s q.facts left room);
-        few = omega (arith, ap words_in e, words_meant a, decided_few L s q.facts left room);
+        nodes = omega (arith, ap (λ x. (takes x).nodes) e, nodes_meant a, decided_within L s q.facts left room);
+        words = omega (arith, ap (λ x. (takes x).words) e, words_meant a, decided_fits L s q.facts left room);
+        few = omega (arith, ap (λ x. (takes x).words) e, words_meant a, decided_few L s q.facts left room);
       }
 
-  pub fits : (o : Option (List Handed)) → is_whole o ≡ true → {before after : List ℕ} {r : Reply} → ((hs : List Handed) → o ≡ some hs → Replies (reply L es hs left room q) before after r) → Fits left room r
+  pub fits : (o : Option (List Handed)) → is_whole o ≡ true → {before after : List ℕ} {r : Result (Maybe Decided) Refusal} → ((hs : List Handed) → o ≡ some hs → Replies (reply L es hs left room q) before after r) → Fits left room (by_number r)
   fits none e f = let z : ◌≡◌ {A = ℕ} 0 1 = cc in absurd (omega arith)
-  fits (some hs) e {r = r} f = fits_by hs r (f hs refl).reply_is
+  fits (some hs) e {r = r} f = fits_by hs (by_number r) (f hs refl).reply_is
 
 -- ---- what stands after a turn
 numbers_next : (places : List ℕ) (i v : ℕ) (vs : List ℕ) (n : ℕ) → i < length places →
@@ -162,25 +164,25 @@ module _ (L : Outcomes) (es : List Entry) (hs : List Handed) (requests out : Lis
     exactly = rw (← later) by_later
 
     -- After the turn that gave this reply: what was left of the output was lent, and comes back in its place.
-    pub next : {part : List ℕ} {r : Reply} (number nodes words : ℕ) → Replies (reply L es hs left (length Lent) (request_of (drop (i * request_words) requests))) Lent part r →
-        number ≡ number_of r → nodes ≡ nodes_in r → words ≡ words_in r → let out' = take used out ++ (part ++ drop (length out - used) (drop used out)) in
-        Sofar all (ToCome L es hs requests out' (left - nodes) (used + words) (i + 1)) places₀ out₀ (set places i number) out' (used + words) (i + 1)
-    next {part} {r} number nodes words lent p n w =
+    pub next : {part : List ℕ} {r : Result (Maybe Decided) Refusal} (number : ℕ) (took : Decided) → Replies (reply L es hs left (length Lent) (request_of (drop (i * request_words) requests))) Lent part r →
+        number ≡ number_of (by_number r) → took ≡ takes (by_number r) → let out' = take used out ++ (part ++ drop (length out - used) (drop used out)) in
+        Sofar all (ToCome L es hs requests out' (left - took.nodes) (used + took.words) (i + 1)) places₀ out₀ (set places i number) out' (used + took.words) (i + 1)
+    next {part} {r} number took lent p t =
         let long = length-drop used out in
         let all-lent : Lent ≡ drop used out = take_all (length out - used) (drop used out) (omega arith) in
         let none_kept : drop (length out - used) (drop used out) ≡ [] = drop_of_length-le (drop used out) {i = length out - used} (omega arith) in
         let a = subst (λ x. Replies (reply L es hs left (length x) (request_of (drop (i * request_words) requests))) x part r) all-lent lent in
         let p' : number ≡ reply_number Now = p ∙ ap number_of a.reply_is ∙ number_meant Now in
         let o' : take used out ++ (part ++ drop (length out - used) (drop used out)) ≡ After = ap (λ x. take used out ++ (part ++ x)) none_kept ∙ ap (λ x. take used out ++ x) (append-nil part ∙ a.output_is) in
-        let n' : nodes ≡ nodes_of Now = n ∙ ap nodes_in a.reply_is ∙ nodes_meant Now in
-        let w' : words ≡ length (record_of Now) = w ∙ ap words_in a.reply_is ∙ words_meant Now in
+        let n' : took.nodes ≡ nodes_of Now = ap (λ (d : Decided). d.nodes) t ∙ ap (λ x. (takes x).nodes) a.reply_is ∙ nodes_meant Now in
+        let w' : took.words ≡ length (record_of Now) = ap (λ (d : Decided). d.words) t ∙ ap (λ x. (takes x).words) a.reply_is ∙ words_meant Now in
         rw (p', o', n', w') exactly
 
 -- After the last turn.
-pub finished : {all to_come_lem : List model.Reply} {places₀ out₀ places out : List ℕ} {used i : ℕ} → Sofar all to_come_lem places₀ out₀ places out used i → to_come_lem ≡ [] → Runs (answers all) places₀ places out₀ out (batch.Written used)
+pub finished : {all to_come_lem : List model.Reply} {places₀ out₀ places out : List ℕ} {used i : ℕ} → Sofar all to_come_lem places₀ out₀ places out used i → to_come_lem ≡ [] → Runs (answers all) places₀ places out₀ out (Ok used)
 finished {places = places} {out = out} {used = used} {i = i} s e =
     record {
-      batch_is = ap batch.Written (omega (arith, s.words, ap (λ rs. length (records_of rs)) e));
+      batch_is = ap Ok (omega (arith, s.words, ap (λ rs. length (records_of rs)) e));
       replies_are = sym (s.numbers ∙ ap (λ rs. take i places ++ replies_after (answers rs) (drop i places)) e ∙ take-append-drop i places);
       output_is = sym (s.records ∙ ap (λ rs. take used out ++ output_after (answers rs) (drop used out)) e ∙ take-append-drop used out);
     }

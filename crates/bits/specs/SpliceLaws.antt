@@ -1,5 +1,5 @@
 -- Bits that were put one after the other, and the bytes that they make.
-use Rattle.std.specs.Prelude.{◌≡◌, refl, ◌⊎◌, Bool, true, false, List, [], ◌∷◌, ◌++◌, ℕ, zero, suc, ◌+◌, ◌-◌, ◌*◌, ◌/◌, ◌%◌, ◌^◌, ◌≤◌, ◌<◌, ltb, length, take, drop, get_or, set, replicate}
+use Rattle.std.specs.Prelude.{◌≡◌, refl, ◌⊎◌, Bool, true, false, List, [], ◌∷◌, ◌++◌, ℕ, zero, suc, ◌+◌, ◌-◌, ◌*◌, ◌/◌, ◌%◌, ◌^◌, ◌≤◌, ◌<◌, ltb, length, take, drop, get_or, replicate}
 use Rattle.std.proofs.Common.{sym, ◌∙◌, ap, ap₂, subst, inl, inr, append_assoc, append-nil, mod-lt, mod-eq_of_lt, mul_assoc, add-mul, mul-le-mul_right, suc-mul, arith, ltb-true, ltb-false, pow_pos, pow-add, shl_lt, shl_exact, shr_lt, length-append, length-drop, drop_of_length-le, take_at, take-take, take-add, take_all, length-take-le, drop-cons}
 use Rattle.std.proofs.Math.Pow.{high}
 use Rattle.std.proofs.lemmas.Nat.{shl-shr}
@@ -9,10 +9,7 @@ use Rattle.std.proofs.Math.Seq.{take-append-add}
 use Rattle.model.specs.Fields.{split, words_for}
 use Rattle.model.specs.Bits.{bits_of, run_of, bytes_of}
 use Rattle.laws.specs.FieldAt.{Narrow}
-use Rattle.laws.proofs.ShiftLaws.{split_place}
 use Rattle.laws.proofs.BitLaws.{length_bits_lem, length_run, same_bytes}
-use Rattle.packing.specs.Written.{Written}
-use Rattle.packing.specs.WrittenLaws.{written_front, written_long}
 use Rattle.bits.specs.RunLaws.{bits_parted, bits_none, run_append, run_drop, run_take, run_split}
 use Rattle.bits.specs.WindowLaws.{power}
 use Rattle.bits.specs.Splice.{low, whole, fill, Stored, Spliced}
@@ -233,30 +230,3 @@ module _ (out : List ℕ) (at w v b : ℕ) (is : b ≡ get_or out (at / 8) 0) (s
       let l : length tail ≡ length out - j = s.long ∙ length-take-le (length out - j) (drop j out) (omega arith) in
       subst (λ x. Spliced out (take j out ++ x) at (low w v) (at + w)) (sym (ap (λ x. tail ++ x) none ∙ append-nil tail))
       (put_spliced out at w v byte narrow room tail (s.first ∙ ap (λ x. take k (split 8 4 x)) window_is) l)
-
--- ---- the bytes of a number
-pub stored_fewer : {count window : ℕ} {before after : List ℕ} → Stored 4 window before after → count ≤ 4 → Stored count window before after
-stored_fewer {count} {window} {before} {after} s h =
-    record {
-      first = sym (take-take count 4 after h) ∙ ap (take count) s.first ∙ take-take count 4 (split 8 4 window) h;
-      long = s.long;
-    }
-
-pub stored_written : {count window : ℕ} {before after : List ℕ} → Written (take count (split 8 4 window)) before after count → count ≤ length before → Stored count window before after
-stored_written s room = record { first = written_front s; long = written_long s room }
-
--- Four stores, one after the other.
-pub stored_four : (w : ℕ) (out : List ℕ) → w < 2 ^ 32 → 4 ≤ length out → Stored 4 w out (set (set (set (set out 0 (w / 16777216)) 1 (w / 65536 % 256)) 2 (w / 256 % 256)) 3 (w % 256))
-stored_four w [] h room = absurd (omega arith)
-stored_four w (x ∷ []) h room = absurd (omega arith)
-stored_four w (x ∷ y ∷ []) h room = absurd (omega arith)
-stored_four w (x ∷ y ∷ z ∷ []) h room = absurd (omega arith)
-stored_four w (x ∷ y ∷ z ∷ u ∷ out) h room =
-    record {
-      first =
-          ap (λ l. (w / 16777216) ∷ l)
-          (ap₂ (λ a l. a ∷ l) (sym (split_place 8 4 1 w h (omega arith)))
-          (ap₂ (λ a l. a ∷ l) (sym (split_place 8 4 2 w h (omega arith)))
-          (ap (λ a. a ∷ []) (let e : w % 256 ≡ w / 1 % 256 = omega arith in e ∙ sym (split_place 8 4 3 w h (omega arith))))));
-      long = refl;
-    }

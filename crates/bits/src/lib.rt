@@ -25,7 +25,7 @@ pub const OUTCOME_BITS: u32 = 16;
 
 pub const MARK_BITS: u32 = 16;
 
-// The bits of a node without lists after its kind: a fact, a count, an outcome, or none.
+// The bits of a node without lists after its kind: a fact, a count, an outcome, or none. A kind is a number: it is a field of document 01's form.
 pub fn plain_bits(kind: u32) -> u32
     ensures is { result ≡ plain_width kind }
     ensures few { result ≤ 16 }
@@ -64,59 +64,27 @@ pub fn denied_bits(word: u32) -> u32
 }
 
 // A byte, 0 past the end.
-fn byte_at(bytes: &[u8], at: usize) -> u64
-    ensures is { result ≡ get_or bytes.now at 0 }
-    ensures small { result < 256 }
+fn byte_at(bytes: &[u8], at: usize) -> u8
+    ensures { result ≡ get_or bytes.now at 0 }
 {
-    if bytes.len() <= at {
-        return 0;
-    }
-    bytes[at] as u64
-}
-
-// A byte that is there.
-fn byte_in(bytes: &[u8], at: usize) -> u64
-    requires { at < length bytes.now }
-    ensures is { result ≡ get_or bytes.now at 0 }
-    ensures small { result < 256 }
-{
-    bytes[at] as u64
-}
-
-// Four bytes as one number, where all are there.
-fn four_at(bytes: &[u8], at: usize) -> u64
-    requires { at + 3 < length bytes.now }
-    ensures is { result ≡ window (drop at bytes.now) }
-    ensures bytes { Bytes4 (drop at bytes.now) }
-{
-    byte_in(bytes, at) * 16777216
-        + byte_in(bytes, at + 1) * 65536
-        + byte_in(bytes, at + 2) * 256
-        + byte_in(bytes, at + 3)
-}
-
-// The same with 0 past the end.
-fn last_at(bytes: &[u8], at: usize) -> u64
-    requires { at < 2 ^ 62 }
-    ensures is { result ≡ window (drop at bytes.now) }
-    ensures bytes { Bytes4 (drop at bytes.now) }
-{
-    byte_at(bytes, at) * 16777216
-        + byte_at(bytes, at + 1) * 65536
-        + byte_at(bytes, at + 2) * 256
-        + byte_at(bytes, at + 3)
+    bytes.get(at).copied().unwrap_or(0)
 }
 
 // Four bytes as one number, 0 past the end: one test where all are there, as they nearly always are.
-fn window_at(bytes: &[u8], at: usize) -> u64
+fn window_at(bytes: &[u8], at: usize) -> u32
     requires { at < 2 ^ 62 }
     ensures is { result ≡ window (drop at bytes.now) }
     ensures bytes { Bytes4 (drop at bytes.now) }
 {
     if at + 3 < bytes.len() {
-        return four_at(bytes, at);
+        return u32::from_be_bytes([bytes[at], bytes[at + 1], bytes[at + 2], bytes[at + 3]]);
     }
-    last_at(bytes, at)
+    u32::from_be_bytes([
+        byte_at(bytes, at),
+        byte_at(bytes, at + 1),
+        byte_at(bytes, at + 2),
+        byte_at(bytes, at + 3),
+    ])
 }
 
 // The field of `width` bits that begins at bit `at`, with 0 bits past the end. It lies in at most four bytes.
@@ -126,41 +94,28 @@ pub fn bits_at(bytes: &[u8], at: usize, width: u32) -> u32
     ensures fits { result < 2 ^ width }
 {
     let skipped = (at % 8) as u32;
-    ((window_at(bytes, at / 8) >> (32 - skipped - width)) % (1u64 << width)) as u32
+    ((u64::from(window_at(bytes, at / 8)) >> (32 - skipped - width)) % (1 << width)) as u32
 }
 
-// Stores a number's four bytes.
-fn put_four(window: u64, out: &mut [u8])
-    requires { (window < 2 ^ 32) × (4 ≤ length out.old) }
-    ensures { Stored 4 window out.old out.new }
-{
-    out[0] = (window / 16777216) as u8;
-    out[1] = (window / 65536 % 256) as u8;
-    out[2] = (window / 256 % 256) as u8;
-    out[3] = (window % 256) as u8;
-}
-
-// Stores the first `count` of them.
-fn put_few(window: u64, count: usize, out: &mut [u8])
-    requires { (window < 2 ^ 32) × (count ≤ 4) × (count ≤ length out.old) }
+// Stores the first `count` of a number's four bytes, apart from the common case: the copy is a call, which that one would save its registers for.
+#[cold]
+#[inline(never)]
+fn put_few(window: u32, count: usize, out: &mut [u8])
+    requires { (count ≤ 4) × (count ≤ length out.old) }
     ensures { Stored count window out.old out.new }
 {
-    let mut i = 0;
-    while i < count {
-        out[i] = ((window >> (24 - 8 * i)) % 256) as u8;
-        i += 1;
-    }
+    out[..count].copy_from_slice(&window.to_be_bytes()[..count]);
 }
 
 // The same, but all four where there is room, as there nearly always is: the end of a loop of 1 to 4 turns is mispredicted.
-fn put_bytes(window: u64, count: usize, out: &mut [u8])
-    requires { (window < 2 ^ 32) × (count ≤ 4) × (count ≤ length out.old) }
+fn put_bytes(window: u32, count: usize, out: &mut [u8])
+    requires { (count ≤ 4) × (count ≤ length out.old) }
     ensures { Stored count window out.old out.new }
 {
     if out.len() < 4 {
         put_few(window, count, out);
     } else {
-        put_four(window, out);
+        out[..4].copy_from_slice(&window.to_be_bytes());
     }
 }
 
@@ -172,9 +127,9 @@ pub fn put_bits(out: &mut [u8], at: usize, width: u32, value: u32) -> usize
 {
     let skipped = (at % 8) as u32;
     let count = (skipped + width + 7) / 8;
-    let kept = (byte_at(out, at / 8) >> (8 - skipped)) << (8 - skipped);
-    let field = (value as u64 % (1u64 << width)) << (32 - width);
+    let kept = (u64::from(byte_at(out, at / 8)) >> (8 - skipped)) << (8 - skipped);
+    let field = (u64::from(value) % (1 << width)) << (32 - width);
     let window = (kept << 24) + (field >> skipped);
-    put_bytes(window, count as usize, &mut out[at / 8..]);
+    put_bytes(window as u32, count as usize, &mut out[at / 8..]);
     at + width as usize
 }

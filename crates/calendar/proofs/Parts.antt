@@ -1,14 +1,14 @@
 -- The calendar's tables, and the days of whole years without a sum. Assumes nothing.
 use mathlib.Core.Path.{◌≡◌, refl, sym, ◌∙◌, ap, subst}
-use mathlib.Core.Bool.{Bool, true, false, cond, not, ◌&&◌, ◌||◌, and-false, or-false}
+use mathlib.Core.Bool.{Bool, true, false, cond, not, ◌&&◌, ◌||◌}
 use mathlib.Core.List.{List, [], ◌∷◌}
 use Prim.Native.Nat.{ℕ, zero, suc, ◌+◌, ◌-◌, ◌*◌, ◌/◌, ◌%◌, ◌≤◌, ◌<◌}
 use native.Mathlib.Omega.{arith}
-use borrow.Author.Tests.{eqb-true, eqb-false, ltb-true, ltb-false, eq-eqb, ne_eqb, le-ltb}
+use borrow.Author.Tests.{eqb-true, eqb-false, ltb-true, ltb-false}
 use lib.Dec.{eqb, ltb}
 use lib.ListN.{get_or, take}
 use Rattle.model.specs.Required.{total}
-use Rattle.model.specs.Calendar.{Date, leap, months, month_days, first_year, last_year, exists, years_days, day_number, before, leap_day, anniversary_in}
+use Rattle.model.specs.Calendar.{Date, leap, months, month_days, first_year, last_year, exists, years_days, day_number}
 use Rattle.laws.proofs.CalendarLaws.{real, small}
 
 abbrev pub days_of : List ℕ
@@ -186,30 +186,3 @@ counted d h =
       few = omega (arith, years_closed n (omega (arith, r.to_last)), r.to_last);
       little = omega (arith, table, s.before_month, s.day_high);
     }
-
--- ---- dates in order, and anniversaries
-module _ (a b : Date) where
-  pub by_year : (a.year ≡ b.year → ⊥) → ltb a.year b.year ≡ before a b
-  by_year h = rw (ne_eqb _ _ h, or-false)
-
-  pub by_month : a.year ≡ b.year → (a.month ≡ b.month → ⊥) → ltb a.month b.month ≡ before a b
-  by_month y h = rw (le-ltb a.year b.year (omega arith), eq-eqb _ _ y, ne_eqb _ _ h, or-false)
-
-  pub by_day : a.year ≡ b.year → a.month ≡ b.month → ltb a.day b.day ≡ before a b
-  by_day y m = rw (le-ltb a.year b.year (omega arith), eq-eqb _ _ y, le-ltb a.month b.month (omega arith), eq-eqb _ _ m)
-
-module _ (d : Date) (y : ℕ) where
-  pub moved : d.month ≡ 2 → d.day ≡ 29 → leap y ≡ false → record { year = y; month = 3; day = 1 } ≡ anniversary_in d y
-  moved m n l = rw (eq-eqb d.month 2 m, eq-eqb d.day 29 n, l)
-
-  same_day : (leap_day d && not (leap y)) ≡ false → record { year = y; month = d.month; day = d.day } ≡ anniversary_in d y
-  same_day h = ap (λ b. cond b (record { year = y; month = 3; day = 1 }) (record { year = y; month = d.month; day = d.day })) (sym h)
-
-  pub other_month : (d.month ≡ 2 → ⊥) → record { year = y; month = d.month; day = d.day } ≡ anniversary_in d y
-  other_month h = same_day (rw (ne_eqb d.month 2 h))
-
-  pub other_day : (d.day ≡ 29 → ⊥) → record { year = y; month = d.month; day = d.day } ≡ anniversary_in d y
-  other_day h = same_day (rw (ne_eqb d.day 29 h, and-false))
-
-  pub leap_year : leap y ≡ true → record { year = y; month = d.month; day = d.day } ≡ anniversary_in d y
-  leap_year h = same_day (rw (h, and-false))

@@ -9,8 +9,9 @@ use borrow.Author.Tests.{le-leb, lt-leb, leb-true}
 use lib.Dec.{leb}
 use Rattle.model.specs.Reading.{Parsed, refuse, got}
 use Rattle.model.specs.Calls as model
-use Rattle.answer.specs.declared.Answer.{Answer}
-use Rattle.answer.specs.Answers.{Answered}
+use Rattle.std.specs.Prelude.{Ok, Err, IsErrAnd}
+use Rattle.refusal.specs.declared.Refusal.{Refusal}
+use Rattle.answer.specs.Answers.{Answer, Answered}
 use Rattle.calls.specs.Judged.{judged, of_number}
 
 -- ---- the causes, of 1 to `most` words
@@ -71,3 +72,8 @@ module _ {A : Type 0} (long : Bool) (fault : Option ℕ) (right : Bool) (q : Par
 
 pub few_words_lem : (n most : ℕ) → (leb 1 n && leb n most) ≡ true → n ≤ most
 few_words_lem n most e = leb-true n most ((and-eq-true_iff (leb 1 n) (leb n most)).0 e).1
+
+-- A refusal is passed on as it is.
+pub passed_on : {a : model.Answer} {before after : List ℕ} (r : Answer) (cause : Refusal) → IsErrAnd r (λ e. e ≡ cause) → Answered a before after (Err cause) → Answered a before after r
+passed_on (Ok n) cause h k = absurd h
+passed_on {a} {before} {after} (Err e) cause h k = subst (λ x. Answered a before after (Err x)) (sym h) k

@@ -9,7 +9,8 @@ use borrow.Author.Tests.{le-leb, eqb-true}
 use lib.Dec.{leb}
 use lib.ListN.{length, drop}
 use lib.Seq.{drop-drop}
-use Rattle.model.specs.Facts.{Table, table_fault}
+use Rattle.std.specs.Prelude.{Err}
+use Rattle.model.specs.Facts.{Table, TableKind, table_fault}
 use Rattle.model.specs.Outcome.{product_sets}
 use Rattle.model.specs.Decision.{Decision, permits, denies}
 use Rattle.model.specs.Policy.{Policy}
@@ -30,15 +31,15 @@ use Rattle.laws.proofs.ReadForm.{ok_record}
 use Rattle.laws.proofs.Canon.{same_record}
 use Rattle.laws.proofs.Deeper.{follows_got}
 use Rattle.laws.proofs.Wider.{record_among}
-use Rattle.policy_model.specs.Answers.{Lead, lead_of, record_lead}
-use Rattle.policy_model.specs.declared.RecordCheck.TheVariants.{Resolved, Pending}
+use Rattle.policy_model.specs.Answers.{Lead, lead_of}
+use Rattle.refusal.specs.declared.Refusal.{Refusal}
+use Rattle.refusal.specs.declared.Refusal.TheVariants.{Contradiction}
+use Rattle.refusal.specs.Numbers.{number_of}
 use Rattle.policy_model.proofs.Records.{record_parts, lead_is_lem}
 use Rattle.evaluate.proofs.Nodes.{held_at}
-use Rattle.answer.specs.declared.Answer.{Answer}
-use Rattle.answer.specs.declared.Answer.TheVariants.{Refused}
-use Rattle.answer.specs.Answers.{Answered, Makes, Numbered, copied}
+use Rattle.answer.specs.Answers.{Answer, Answered, Makes, Numbered, copied}
 use Rattle.contradiction.specs.Contradicted.{Contradicted}
-use Rattle.calls.specs.Judged.{kind_of, read_record_by, judged_record}
+use Rattle.calls.specs.Judged.{read_record_by, judged_record}
 use Rattle.calls.proofs.Judging.{judged_got, by_judged, few_words_lem}
 
 -- A Resolved record that was read is written as it stands: its lists are short, and it has the length of a record.
@@ -81,18 +82,18 @@ unfolding lead_of
 refused_by n (refuse m) e = ap refuse (let h : m ≡ n = cc in h)
 refused_by n (got x ws) e = let z : ◌≡◌ {A = ℕ} 0 1 = cc in let b : ⊥ = omega arith in absurd b
 
-module _ (g : Option OutcomeTable) (few : outcome_count g ≤ 65536) (known : Bool) (number : ℕ) (ws facts : List ℕ) where
+module _ (g : Option OutcomeTable) (kind : TableKind) (number : ℕ) (ws facts : List ℕ) where
   -- What is known of a record that was judged fine.
-  read_record_lem : (x : Record Outcome) (vs : List ℕ) → judged_record g known number ws facts ≡ got x vs → (record_length ws ≡ true) × (sheet_number ws ≡ number) × (read_record ws ≡ got x vs)
-  read_record_lem x vs e =
-      let read = judged_got (record_length ws) (table_fault (kind_of known) facts) (has_number ws number) (read_record_by g ws) x vs e in
+  read_record_lem : outcome_count g ≤ 65536 → (x : Record Outcome) (vs : List ℕ) → judged_record g kind number ws facts ≡ got x vs → (record_length ws ≡ true) × (sheet_number ws ≡ number) × (read_record ws ≡ got x vs)
+  read_record_lem few x vs e =
+      let read = judged_got (record_length ws) (table_fault kind facts) (has_number ws number) (read_record_by g ws) x vs e in
       (read.0, eqb-true (sheet_number ws) number read.1, follows_got (record_among (outcome_count g) ws few) read.2)
 
-  pub record_few : (l : Lead) → got l [] ≡ lead_of (judged_record g known number ws facts) → length ws ≤ record_words
-  record_few l e = lead_is_lem (judged_record g known number ws facts) l e (λ x vs e k c p. few_words_lem (length ws) record_words (read_record_lem x vs e).0)
+  pub record_few : outcome_count g ≤ 65536 → (l : Lead) → got l [] ≡ lead_of (judged_record g kind number ws facts) → length ws ≤ record_words
+  record_few few l e = lead_is_lem (judged_record g kind number ws facts) l e (λ x vs e k c p. few_words_lem (length ws) record_words (read_record_lem few x vs e).0)
 
-  pub record_number : (l : Lead) → got l [] ≡ lead_of (judged_record g known number ws facts) → number < 2 ^ sheet_bits
-  record_number l e = lead_is_lem (judged_record g known number ws facts) l e (λ x vs e k c p. omega (arith, (read_record_lem x vs e).1))
+  pub record_number : outcome_count g ≤ 65536 → (l : Lead) → got l [] ≡ lead_of (judged_record g kind number ws facts) → number < 2 ^ sheet_bits
+  record_number few l e = lead_is_lem (judged_record g kind number ws facts) l e (λ x vs e k c p. omega (arith, (read_record_lem few x vs e).1))
 
   -- What was found of the entries that stand in the words was found of the record that is read.
   pub entries_found : {P : Table} {count : ℕ} {found : Bool} → Contradicted P ws count found → (x : Record Outcome) (vs : List ℕ) → read_record ws ≡ got x vs → count ≡ length x.log → found ≡ any_contradicted P x.log
@@ -111,27 +112,27 @@ module _ (g : Option OutcomeTable) (few : outcome_count g ≤ 65536) (known : Bo
     Wrote x = model.unless_contradicted (against x.log) (Made x)
 
     abbrev Call : model.Answer
-    Call = model.unless_long (record_length ws) (model.unless_fault (table_fault (kind_of known) facts) (model.on_read (read_record_by g ws) (λ x. model.unless_other (has_number ws number) (Wrote x))))
+    Call = model.unless_long (record_length ws) (model.unless_fault (table_fault kind facts) (model.on_read (read_record_by g ws) (λ x. model.unless_other (has_number ws number) (Wrote x))))
 
-    pub record_refused : (n : ℕ) → refuse n ≡ lead_of (judged_record g known number ws facts) → Answered Call out out (Refused n)
-    record_refused n e =
-        by_judged (record_length ws) (table_fault (kind_of known) facts) (has_number ws number) (read_record_by g ws) Wrote (refuse n) (refused_by n (judged_record g known number ws facts) e)
+    pub record_refused : (cause : Refusal) → refuse (number_of cause) ≡ lead_of (judged_record g kind number ws facts) → Answered Call out out (Err cause)
+    record_refused cause e =
+        by_judged (record_length ws) (table_fault kind facts) (has_number ws number) (read_record_by g ws) Wrote (refuse (number_of cause)) (refused_by (number_of cause) (judged_record g kind number ws facts) e)
         (record { answer_is = refl; output_is = refl })
 
     -- By the record that was read, and by what was found of its entries.
-    module _ {after : List ℕ} {r : Answer} (kind count at : ℕ) (found : Bool) (e : got (record { kind = kind; consulted = count; tree = at }) [] ≡ lead_of (judged_record g known number ws facts))
+    module _ (few : outcome_count g ≤ 65536) {after : List ℕ} {r : Answer} (lead count at : ℕ) (found : Bool) (e : got (record { kind = lead; consulted = count; tree = at }) [] ≡ lead_of (judged_record g kind number ws facts))
         (entries : (x : Record Outcome) (vs : List ℕ) → read_record ws ≡ got x vs → count ≡ length x.log → found ≡ against x.log) where
       answered : ((body : ReducedPolicy Outcome) (l : Consulted) (vs : List ℕ) → record_length ws ≡ true → sheet_number ws ≡ number → read_record ws ≡ got (record { body = body; log = l }) vs →
-          kind ≡ lead_kind body → count ≡ length l → at ≡ 1 + pairs l → Answered (model.unless_contradicted found (Made (record { body = body; log = l }))) out after r) → Answered Call out after r
+          lead ≡ lead_kind body → count ≡ length l → at ≡ 1 + pairs l → Answered (model.unless_contradicted found (Made (record { body = body; log = l }))) out after r) → Answered Call out after r
       answered f =
-          lead_is_lem (judged_record g known number ws facts) (record { kind = kind; consulted = count; tree = at }) e (λ x vs e k c p.
-          let read = read_record_lem x vs e in
-          by_judged (record_length ws) (table_fault (kind_of known) facts) (has_number ws number) (read_record_by g ws) Wrote (got x vs) e
+          lead_is_lem (judged_record g kind number ws facts) (record { kind = lead; consulted = count; tree = at }) e (λ x vs e k c p.
+          let read = read_record_lem few x vs e in
+          by_judged (record_length ws) (table_fault kind facts) (has_number ws number) (read_record_by g ws) Wrote (got x vs) e
           (subst (λ b. Answered (model.unless_contradicted b (Made x)) out after r) (entries x vs read.2 c) (f x.body x.log vs read.0 read.1 read.2 k c p)))
 
-    pub record_contradicted : (kind count at : ℕ) → got (record { kind = kind; consulted = count; tree = at }) [] ≡ lead_of (judged_record g known number ws facts) →
-        ((x : Record Outcome) (vs : List ℕ) → read_record ws ≡ got x vs → count ≡ length x.log → true ≡ against x.log) → Answered Call out out (Refused 17)
-    record_contradicted kind count at e entries = answered kind count at true e entries (λ body l vs long right q k c p. record { answer_is = refl; output_is = refl })
+    pub record_contradicted : outcome_count g ≤ 65536 → (lead count at : ℕ) → got (record { kind = lead; consulted = count; tree = at }) [] ≡ lead_of (judged_record g kind number ws facts) →
+        ((x : Record Outcome) (vs : List ℕ) → read_record ws ≡ got x vs → count ≡ length x.log → true ≡ against x.log) → Answered Call out out (Err Contradiction)
+    record_contradicted few lead count at e entries = answered few lead count at true e entries (λ body l vs long right q k c p. record { answer_is = refl; output_is = refl })
 
     module _ (back : (d : Decision Outcome) (l : Consulted) → from (resolved d) l ≡ record { body = resolved d; log = l }) where
       body_copied : {after : List ℕ} {r : Answer} → Answered (copied ws (length out)) out after r → (body : ReducedPolicy Outcome) (l : Consulted) (vs : List ℕ) → record_length ws ≡ true → sheet_number ws ≡ number →
@@ -140,9 +141,9 @@ module _ (g : Option OutcomeTable) (few : outcome_count g ≤ 65536) (known : Bo
           subst (λ x. Answered x out after r) (sym (ap (λ x. model.under number (write (length out) x)) (back d l) ∙ came_back number ws (length out) d l vs long right q)) h
       body_copied h (pending t) l vs long right q k = let z : ⊥ = omega arith in absurd z
 
-      pub record_copied : {after : List ℕ} {r : Answer} (count at : ℕ) → record_lead (Resolved count at) ≡ lead_of (judged_record g known number ws facts) →
+      pub record_copied : outcome_count g ≤ 65536 → {after : List ℕ} {r : Answer} (lead count at : ℕ) → lead ≡ 14 → got (record { kind = lead; consulted = count; tree = at }) [] ≡ lead_of (judged_record g kind number ws facts) →
           ((x : Record Outcome) (vs : List ℕ) → read_record ws ≡ got x vs → count ≡ length x.log → false ≡ against x.log) → Answered (copied ws (length out)) out after r → Answered Call out after r
-      record_copied count at e entries h = answered 14 count at false e entries (λ body l vs long right q k c p. body_copied h body l vs long right q k)
+      record_copied few lead count at is e entries h = answered few lead count at false e entries (λ body l vs long right q k c p. body_copied h body l vs long right q (sym is ∙ k))
 
     module _ (made : Policy Outcome → Consulted → Record Outcome) (forth : (t : Policy Outcome) (l : Consulted) → from (pending t) l ≡ made t (once l)) where
       body_made : {written : List ℕ} {a : Answer} {count at : ℕ} → Makes made ws count at out written a → (body : ReducedPolicy Outcome) (l : Consulted) (vs : List ℕ) →
@@ -151,7 +152,7 @@ module _ (g : Option OutcomeTable) (few : outcome_count g ≤ 65536) (known : Bo
       body_made m (resolved d) l vs q k c p = let z : ⊥ = omega arith in absurd z
       body_made {written} {a} m (pending t) l vs q k c p = subst (λ x. Answered (write (length out) x) out written a) (sym (forth t l)) (tree_made m t l vs q c p)
 
-      pub record_made : {written after : List ℕ} {a r : Answer} (count at : ℕ) → record_lead (Pending count at) ≡ lead_of (judged_record g known number ws facts) →
+      pub record_made : outcome_count g ≤ 65536 → {written after : List ℕ} {a r : Answer} (lead count at : ℕ) → lead ≡ 15 → got (record { kind = lead; consulted = count; tree = at }) [] ≡ lead_of (judged_record g kind number ws facts) →
           ((x : Record Outcome) (vs : List ℕ) → read_record ws ≡ got x vs → count ≡ length x.log → false ≡ against x.log) → Makes made ws count at out written a →
           Numbered number written after a r → Answered Call out after r
-      record_made count at e entries m u = answered 15 count at false e entries (λ body l vs long right q k c p. u.numbers (write (length out) (from body l)) out (body_made m body l vs q k c p))
+      record_made few lead count at is e entries m u = answered few lead count at false e entries (λ body l vs long right q k c p. u.numbers (write (length out) (from body l)) out (body_made m body l vs q (sym is ∙ k) c p))

@@ -2,7 +2,7 @@
 -- judged by the outcome table (request 14); and then, by request 6, the number (16).
 use Rattle.std.specs.Prelude.{Bool, true, false, List, ℕ}
 use Rattle.std.proofs.Math.Option.{Option, none, some}
-use Rattle.model.specs.Facts.{TableKind, partial_facts, known_facts, table_fault}
+use Rattle.model.specs.Facts.{TableKind, table_fault}
 use Rattle.model.specs.Policy.{Policy}
 use Rattle.model.specs.Record.{Record}
 use Rattle.model.specs.Reading.{Parsed, refuse, got, sheet_length, record_length, read_sheet, read_record}
@@ -22,10 +22,6 @@ of_number right (refuse n) = refuse n
 of_number true (got a ws) = got a ws
 of_number false (got a ws) = refuse 16
 
-abbrev pub kind_of : Bool → TableKind
-kind_of true = known_facts
-kind_of false = partial_facts
-
 -- What words read as by a table or without one.
 abbrev pub read_sheet_by : Option OutcomeTable → List ℕ → Parsed (Policy Outcome)
 read_sheet_by g = read_sheet (outcomes_of g).value
@@ -33,8 +29,8 @@ read_sheet_by g = read_sheet (outcomes_of g).value
 abbrev pub read_record_by : Option OutcomeTable → List ℕ → Parsed (Record Outcome)
 read_record_by g = read_record (outcomes_of g).value
 
-abbrev pub judged_sheet : Option OutcomeTable → Bool → ℕ → List ℕ → List ℕ → Parsed (Policy Outcome)
-judged_sheet g known number sheet facts = judged (sheet_length sheet) (table_fault (kind_of known) facts) (of_number (is_sheet_number number) (read_sheet_by g sheet))
+abbrev pub judged_sheet : Option OutcomeTable → TableKind → ℕ → List ℕ → List ℕ → Parsed (Policy Outcome)
+judged_sheet g kind number sheet facts = judged (sheet_length sheet) (table_fault kind facts) (of_number (is_sheet_number number) (read_sheet_by g sheet))
 
-abbrev pub judged_record : Option OutcomeTable → Bool → ℕ → List ℕ → List ℕ → Parsed (Record Outcome)
-judged_record g known number words facts = judged (record_length words) (table_fault (kind_of known) facts) (of_number (has_number words number) (read_record_by g words))
+abbrev pub judged_record : Option OutcomeTable → TableKind → ℕ → List ℕ → List ℕ → Parsed (Record Outcome)
+judged_record g kind number words facts = judged (record_length words) (table_fault kind facts) (of_number (has_number words number) (read_record_by g words))

@@ -1,5 +1,4 @@
 pub mod Lists
 pub mod Nodes
 pub mod Writing
-pub mod Counting
 pub mod AnswerLaws

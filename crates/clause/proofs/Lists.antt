@@ -1,13 +1,12 @@
 -- A list of facts that is copied field by field is the list that reads there. Assumes nothing.
 use mathlib.Core.Path.{◌≡◌, refl, sym, ◌∙◌, ap}
-use mathlib.Core.List.{List, [], ◌++◌, map-id}
-use Prim.Native.Nat.{ℕ, ◌+◌, ◌-◌, ◌≤◌, ◌<◌}
+use mathlib.Core.List.{List, ◌++◌, map-id}
+use Prim.Native.Nat.{ℕ, ◌-◌, ◌≤◌, ◌<◌}
 use native.Mathlib.Omega.{arith}
-use borrow.Author.Count.{below_more}
-use lib.ListN.{length, take, drop, set, get_or, length-drop, length-set}
-use lib.Seq.{length-take-le, get_or-take, get_or-set_same, get_or-set_other, ext_get_or}
+use lib.ListN.{length, take, drop, get_or, length-drop}
+use lib.Seq.{length-take-le, get_or-take, ext_get_or}
 use Rattle.model.specs.Fields.{words_for, pack}
-use Rattle.model.specs.Writing.{entry_bits, most_listed}
+use Rattle.model.specs.Writing.{entry_bits}
 use Rattle.model.specs.Reading.{read_list, listed}
 use Rattle.laws.specs.FieldAt.{field_at}
 use Rattle.laws.proofs.FieldAtLaws.{fact_field}
@@ -22,22 +21,6 @@ pub record Loading (words : List ℕ) (at count : ℕ) (before after : List ℕ)
   pub fields : (k : ℕ) → k < i → get_or after k 0 ≡ field_at entry_bits (drop at words) k
 
 module _ (words : List ℕ) (at count : ℕ) where
-  pub load_none : (out : List ℕ) → Loading words at count out out 0
-  load_none out = record { within = omega arith; long = refl; fields = λ k h. absurd (omega arith) }
-
-  pub load_more : (before mid : List ℕ) (i v : ℕ) → count ≤ length before → Loading words at count before mid i → i < count → v ≡ field_at entry_bits (drop at words) i →
-      Loading words at count before (set mid i v) (i + 1)
-  load_more before mid i v room l h e =
-      let here : i < length mid = omega (arith, l.long) in
-      record {
-        within = omega arith;
-        long = length-set mid i v ∙ l.long;
-        fields =
-            below_more (λ k. get_or (set mid i v) k 0 ≡ field_at entry_bits (drop at words) k) i
-            (λ k below. get_or-set_other mid i k v 0 (λ same. let z : ⊥ = omega arith in z) ∙ l.fields k below)
-            (get_or-set_same mid i v 0 here ∙ e);
-      }
-
   pub load_all : (before after : List ℕ) (i : ℕ) → count ≤ length before → Loading words at count before after i → count ≤ i → FactsListed words at count after count
   load_all before after i room l h =
       let there : count ≤ length after = omega (arith, l.long) in
@@ -55,29 +38,13 @@ module _ (words : List ℕ) (at count : ℕ) where
             (both_hold (read_list listed entry_bits count (drop at words)) (ok_facts count (drop at words)) (same_list_lem (λ f. f) listed same_listed entry_bits 1 count (drop at words) refl));
       }
 
-  -- Nothing is copied: the list is too long for a node, or the words end before it, or in it.
-  module _ (out : List ℕ) where
-    pub list_long : most_listed < count → FactsListed words at count out 0
-    list_long h = record { within = omega arith; front = λ few. absurd (omega arith) }
-
-    pub list_past : length words < at → FactsListed words at count out 0
-    list_past h =
-        record {
-          within = omega arith;
-          front = λ few.
-              weaker (read_list listed entry_bits count (drop at words))
-              (λ fs vs r.
-              let none : length fs ≡ 0 = r.1 ∙ omega (arith, r.2, length-drop at words) in
-              ext_get_or 0 [] fs (sym none) (λ k below. absurd (omega arith)))
-              (ok_facts count (drop at words));
-        }
-
-    pub list_cut : length words - at < words_for 2 count → FactsListed words at count out 0
-    list_cut h =
-        record {
-          within = omega arith;
-          front = λ few.
-              weaker (read_list listed entry_bits count (drop at words))
-              (λ fs vs r. let z : ⊥ = omega (arith, r.2, length-drop at words) in absurd z)
-              (ok_facts count (drop at words));
-        }
+  -- Nothing is copied: the words end in the list.
+  pub list_cut : (out : List ℕ) → length words - at < words_for 2 count → FactsListed words at count out 0
+  list_cut out h =
+      record {
+        within = omega arith;
+        front = λ few.
+            weaker (read_list listed entry_bits count (drop at words))
+            (λ fs vs r. let z : ⊥ = omega (arith, r.2, length-drop at words) in absurd z)
+            (ok_facts count (drop at words));
+      }

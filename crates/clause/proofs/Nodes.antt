@@ -1,6 +1,7 @@
 -- The clause of a node that reads, by its head and its words: a grant's, a stored decision's, and none. Assumes nothing.
 use mathlib.Core.Path.{◌≡◌, refl, sym, ◌∙◌, ap, ap₂, subst}
 use mathlib.Core.Bool.{Bool, true, false}
+use mathlib.Core.Option.{none, some}
 use mathlib.Core.List.{List, [], ◌∷◌, ◌++◌, map-id}
 use Prim.Native.Nat.{ℕ, suc, ◌+◌, ◌/◌, ◌%◌, ◌≤◌, ◌<◌}
 use native.Mathlib.Omega.{arith}
@@ -10,6 +11,8 @@ use types.Run.{OneOf, miss}
 use lib.Dec.{ltb}
 use lib.ListN.{length, take, drop, get_or}
 use lib.Seq.{length-take-le, drop_at, drop-drop, get_or-drop}
+use Rattle.std.specs.Bool.{then_some}
+use Rattle.std.specs.Prelude as prelude
 use Rattle.model.specs.Fields.{words_for, pack}
 use Rattle.model.specs.Facts.{Table}
 use Rattle.model.specs.Condition.{Condition, eval_condition}
@@ -34,7 +37,7 @@ use Rattle.decision.proofs.Nodes.{node_there, no_clause}
 use Rattle.decisive.specs.declared.Named.{Named}
 use Rattle.decisive.specs.Naming.{eval_of, Decisive}
 use Rattle.decisive.specs.NamingLaws.{told}
-use Rattle.record.specs.Nodes.{mark_in}
+use Rattle.record.specs.Nodes.{mark_in, denied_of}
 use Rattle.record.specs.NodeLaws.{mark_in_read}
 use Rattle.clause.specs.declared.Clause.{Clause}
 use Rattle.clause.specs.Clauses.{denial_of, clause_by}
@@ -77,7 +80,7 @@ pub record PermitThere (o n : ℕ) (ws : List ℕ) (d : Decided Outcome) (us : L
 
 pub record DenyThere (hidden denied : Bool) (o : ℕ) (ws : List ℕ) (d : Decided Outcome) (us : List ℕ) : Type 0 where
   pub facts : List ℕ
-  pub is : d ≡ denies (clause_by (get_or ws 0 0 / 65536) (get_or ws 0 0 % 65536) hidden denied o facts)
+  pub is : d ≡ denies (clause_by (get_or ws 0 0 / 65536) (get_or ws 0 0 % 65536) hidden (denied_by denied o) facts)
   pub few : get_or ws 1 0 ≤ most_listed
   pub read : read_list listed entry_bits (get_or ws 1 0) (drop 2 ws) ≡ got facts us
 
@@ -242,15 +245,15 @@ module _ (words : List ℕ) (at : ℕ) (r : Clause) where
   with_facts_lem : (d : Denial Outcome) (fs : List ℕ) → d ≡ denial_of r fs → d ≡ denial_of r d.facts
   with_facts_lem d fs e = e ∙ ap (denial_of r) (sym (ap (λ (q : Denial Outcome). q.facts) e))
 
-  clause_none : ((fs : List ℕ) → denial_of r fs ≡ clause_by 0 0 false false 0 fs) → (d : Denial Outcome) → generic_deny ≡ d → d ≡ denial_of r d.facts
+  clause_none : ((fs : List ℕ) → denial_of r fs ≡ clause_by 0 0 false none fs) → (d : Denial Outcome) → generic_deny ≡ d → d ≡ denial_of r d.facts
   clause_none c d e = with_facts_lem d [] (sym e ∙ sym (c []))
 
-  pub clause_past : length words ≤ at → ((fs : List ℕ) → denial_of r fs ≡ clause_by 0 0 false false 0 fs) → ClauseIs words at r
+  pub clause_past : length words ≤ at → ((fs : List ℕ) → denial_of r fs ≡ clause_by 0 0 false none fs) → ClauseIs words at r
   clause_past h c = record { is = λ T _. clause_none c (clause_at words T at) (sym (no_clause words T at h)) }
 
   module _ (here : at < length words) where
     pub clause_other : (h : PolicyHead) → h ≡ policy_head (get_or words at 0) true → OneOf nameless (tag_of the_type h) →
-        ((fs : List ℕ) → denial_of r fs ≡ clause_by 0 0 false false 0 fs) → ClauseIs words at r
+        ((fs : List ℕ) → denial_of r fs ≡ clause_by 0 0 false none fs) → ClauseIs words at r
     clause_other h head k c =
         record {
           is = λ T.
@@ -259,7 +262,7 @@ module _ (words : List ℕ) (at : ℕ) (r : Clause) where
         }
 
     pub clause_grant : (hidden : Bool) (n o marks : ℕ) → Grant hidden n o ≡ policy_head (get_or words at 0) true → marks ≡ get_or words (at + 1) 0 →
-        ((fs : List ℕ) → denial_of r fs ≡ clause_by (marks / 65536) (marks % 65536) hidden true o fs) → ClauseIs words at r
+        ((fs : List ℕ) → denial_of r fs ≡ clause_by (marks / 65536) (marks % 65536) hidden (some o) fs) → ClauseIs words at r
     unfolding policy_node
     clause_grant hidden n o marks head e c =
         let second : get_or (drop (at + 1) words) 0 0 ≡ marks = word_later words at 0 (at + 1) (omega arith) ∙ sym e in
@@ -269,12 +272,12 @@ module _ (words : List ℕ) (at : ℕ) (r : Clause) where
               (weaker (grant_node condition_below hidden n o (drop (at + 1) words))
               (λ t us g.
               let fs = named (eval_condition T g.condition) in
-              with_facts_lem (clause_of T t) fs (ap (clause_of T) g.is ∙ ap (λ w. clause_by (w / 65536) (w % 65536) hidden true o fs) second ∙ sym (c fs)))
+              with_facts_lem (clause_of T t) fs (ap (clause_of T) g.is ∙ ap (λ w. clause_by (w / 65536) (w % 65536) hidden (some o) fs) second ∙ sym (c fs)))
               (grant_there condition_below hidden n o (drop (at + 1) words)));
         }
 
     pub clause_permit : (n o marks : ℕ) → PermitWithTrace n o ≡ policy_head (get_or words at 0) true → marks ≡ get_or words (at + 1) 0 →
-        ((fs : List ℕ) → denial_of r fs ≡ clause_by (marks / 65536) 0 false false 0 fs) → ClauseIs words at r
+        ((fs : List ℕ) → denial_of r fs ≡ clause_by (marks / 65536) 0 false none fs) → ClauseIs words at r
     unfolding policy_node
     clause_permit n o marks head e c =
         let second : get_or (drop (at + 1) words) 0 0 ≡ marks = word_later words at 0 (at + 1) (omega arith) ∙ sym e in
@@ -282,17 +285,23 @@ module _ (words : List ℕ) (at : ℕ) (r : Clause) where
           is = λ T.
               clause_has words at T (PermitWithTrace n o) (λ d. d ≡ denial_of r d.facts) here head
               (then_holds (permit_trace_node n o (drop (at + 1) words)) _ (permit_there n o (drop (at + 1) words))
-              (λ d us g. fine (with_facts_lem (clause_of_d d) g.facts (ap clause_of_d g.is ∙ ap (λ w. clause_by (w / 65536) 0 false false 0 g.facts) second ∙ sym (c g.facts)))));
+              (λ d us g. fine (with_facts_lem (clause_of_d d) g.facts (ap clause_of_d g.is ∙ ap (λ w. clause_by (w / 65536) 0 false none g.facts) second ∙ sym (c g.facts)))));
         }
 
-    pub clause_deny : (hidden denied : Bool) (o marks : ℕ) → DenyWithTrace hidden denied o ≡ policy_head (get_or words at 0) true → marks ≡ get_or words (at + 1) 0 →
-        ((fs : List ℕ) → denial_of r fs ≡ clause_by (marks / 65536) (marks % 65536) hidden denied o fs) → ClauseIs words at r
+    -- The denied outcome, from the flag and the field that its head has of it.
+    stated : (denied : Bool) (o : ℕ) → denied_of (then_some denied o) ≡ denied_by denied o
+    stated true o = refl
+    stated false o = refl
+
+    pub clause_deny : (hidden denied : Bool) (o marks : ℕ) (x : prelude.Option ℕ) → DenyWithTrace hidden denied o ≡ policy_head (get_or words at 0) true → marks ≡ get_or words (at + 1) 0 →
+        x ≡ then_some denied o → ((fs : List ℕ) → denial_of r fs ≡ clause_by (marks / 65536) (marks % 65536) hidden (denied_of x) fs) → ClauseIs words at r
     unfolding policy_node
-    clause_deny hidden denied o marks head e c =
+    clause_deny hidden denied o marks x head e f c =
         let second : get_or (drop (at + 1) words) 0 0 ≡ marks = word_later words at 0 (at + 1) (omega arith) ∙ sym e in
         record {
           is = λ T.
               clause_has words at T (DenyWithTrace hidden denied o) (λ d. d ≡ denial_of r d.facts) here head
               (then_holds (deny_trace_node hidden denied o (drop (at + 1) words)) _ (deny_there hidden denied o (drop (at + 1) words))
-              (λ d us g. fine (with_facts_lem (clause_of_d d) g.facts (ap clause_of_d g.is ∙ ap (λ w. clause_by (w / 65536) (w % 65536) hidden denied o g.facts) second ∙ sym (c g.facts)))));
+              (λ d us g. fine (with_facts_lem (clause_of_d d) g.facts (ap clause_of_d g.is ∙ ap (λ w. clause_by (w / 65536) (w % 65536) hidden (denied_by denied o) g.facts) second
+              ∙ ap (λ q. clause_by (marks / 65536) (marks % 65536) hidden q g.facts) (sym (ap denied_of f ∙ stated denied o)) ∙ sym (c g.facts)))));
         }

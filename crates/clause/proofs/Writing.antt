@@ -2,8 +2,9 @@
 use mathlib.Core.Path.{◌≡◌, sym, ◌∙◌, ap, ap₂}
 use mathlib.Core.Bool.{true, false, cond}
 use mathlib.Core.List.{List}
-use Prim.Native.Nat.{ℕ, ◌+◌}
-use lib.ListN.{take}
+use Prim.Native.Nat.{ℕ, ◌+◌, ◌≤◌}
+use lib.ListN.{length, take}
+use lib.Seq.{length-take-le}
 use Rattle.model.specs.Fields.{words_for}
 use Rattle.model.specs.Facts.{Table}
 use Rattle.model.specs.Decision.{Denial, permits, denies}
@@ -28,11 +29,11 @@ module _ (words : List ℕ) (d : Decision) (os : List ℕ) (held : ℕ) (fs : Li
       ∙ ap₂ (λ xs ys. permits (record { outcome = d.outcome; obligations = xs; label = (clause_at words T d.clause).label; facts = ys })) (g.obligations e) g.facts
       ∙ sym (ap (λ b. cond b (permits (permit_in words T buf d)) (denies (clause_at words T d.clause))) e)
 
-  pub permit_written : d.permit ≡ true → r ≡ 2 + words_for 4 held + words_for 2 count → Written (decision_words (permit_of d.outcome clause.label (take held os) (take count fs))) before after r →
-      DecisionWritten words d os held fs count before after r
-  permit_written e n w =
+  pub permit_written : d.permit ≡ true → held ≤ length os → count ≤ length fs → r ≡ 2 + words_for 4 (length (take held os)) + words_for 2 (length (take count fs)) →
+      Written (decision_words (permit_of d.outcome clause.label (take held os) (take count fs))) before after r → DecisionWritten words d os held fs count before after r
+  permit_written e h k n w =
       record {
-        number = n ∙ sym (ap (λ b. decision_size b held count) e);
+        number = n ∙ ap₂ (λ x y. 2 + words_for 4 x + words_for 2 y) (length-take-le held os h) (length-take-le count fs k) ∙ sym (ap (λ b. decision_size b held count) e);
         written = λ T buf D is g. written_same w (ap decision_words (permit_same e T buf g ∙ is));
       }
 
@@ -43,10 +44,10 @@ module _ (words : List ℕ) (d : Decision) (os : List ℕ) (held : ℕ) (fs : Li
       ∙ ap denies (sym (c.is T g.clause))
       ∙ sym (ap (λ b. cond b (permits (permit_in words T buf d)) (denies (clause_at words T d.clause))) e)
 
-  pub deny_written : d.permit ≡ false → r ≡ 3 + words_for 2 count → Written (decision_words (deny_of clause.denied clause.hidden clause.label clause.reason (take count fs))) before after r →
-      DecisionWritten words d os held fs count before after r
-  deny_written e n w =
+  pub deny_written : d.permit ≡ false → count ≤ length fs → r ≡ 3 + words_for 2 (length (take count fs)) →
+      Written (decision_words (deny_of clause.denied clause.hidden clause.label clause.reason (take count fs))) before after r → DecisionWritten words d os held fs count before after r
+  deny_written e k n w =
       record {
-        number = n ∙ sym (ap (λ b. decision_size b held count) e);
+        number = n ∙ ap (λ y. 3 + words_for 2 y) (length-take-le count fs k) ∙ sym (ap (λ b. decision_size b held count) e);
         written = λ T buf D is g. written_same w (ap decision_words (deny_same e T buf g ∙ is));
       }

@@ -1,11 +1,12 @@
 -- A clause of the code as the model's clause, and how many words a decision's node takes. Document 01, "Policies" and "What a call receives".
 use Rattle.std.specs.Prelude.{Bool, true, false, ◌&&◌, List, ℕ, ◌+◌, leb}
+use Rattle.std.proofs.Math.Option.{Option}
 use Rattle.model.specs.Fields.{words_for}
 use Rattle.model.specs.Decision.{Denial}
 use Rattle.model.specs.Writing.{most_listed, most_held}
 use Rattle.model.specs.Reading.{shape_of}
 use Rattle.model.specs.Products.{Outcome}
-use Rattle.policy_model.specs.Heads.{bit_of, denied_by}
+use Rattle.policy_model.specs.Heads.{bit_of}
 use Rattle.record.specs.Nodes.{mark_of, mark_in, denied_of}
 use Rattle.clause.specs.declared.Clause.{Clause}
 
@@ -14,9 +15,8 @@ abbrev pub denial_of : Clause → List ℕ → Denial Outcome
 denial_of c fs = record { denied = denied_of c.denied; facts = fs; label = mark_of c.label; reason = mark_of c.reason; shape = shape_of (bit_of c.hidden) }
 
 -- The same by the fields of its node: label and reason as 16 bits each, the shape, and the denied outcome, if present.
-abbrev pub clause_by : ℕ → ℕ → Bool → Bool → ℕ → List ℕ → Denial Outcome
-clause_by label reason hidden denied outcome fs =
-    record { denied = denied_by denied outcome; facts = fs; label = mark_in label; reason = mark_in reason; shape = shape_of (bit_of hidden) }
+abbrev pub clause_by : ℕ → ℕ → Bool → Option ℕ → List ℕ → Denial Outcome
+clause_by label reason hidden denied fs = record { denied = denied; facts = fs; label = mark_in label; reason = mark_in reason; shape = shape_of (bit_of hidden) }
 
 -- A permit's node with n obligations and m facts, and a deny's with m facts.
 abbrev pub decision_size : Bool → ℕ → ℕ → ℕ

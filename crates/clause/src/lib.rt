@@ -5,6 +5,7 @@
 ghost use Rattle.std.specs.Prelude.{◌≡◌, true, List, ℕ, ◌+◌, ◌*◌, ◌^◌, ◌≤◌, ◌<◌, min, length};
 ghost use Rattle.model.specs.Facts.{table_of};
 ghost use Rattle.model.specs.Writing.{most_listed};
+ghost use Rattle.record.specs.Nodes.{denied_of};
 ghost use Rattle.clause.specs.Room.{RoomToName};
 ghost use Rattle.clause.specs.Clauses.{clause_by, denial_of, decision_size};
 ghost use Rattle.clause.specs.Clauses.{countable as countable_of};
@@ -12,22 +13,18 @@ ghost use Rattle.clause.specs.Answers.{FactsListed, ClauseFacts, ClauseIs, Decis
 
 use decision::Decision;
 use policy_model::PolicyHead;
-use record::{Denied, Mark};
 
 // What a node gives a decision but for facts: label, reason, shape and the outcome that was denied.
 #[derive(Drop)]
 struct Clause {
-    pub label: Mark,
-    pub reason: Mark,
+    pub label: Option<u16>,
+    pub reason: Option<u16>,
     pub hidden: bool,
-    pub denied: Denied,
+    pub denied: Option<u16>,
 }
 
 // A node's count of obligations has seven bits.
 const MOST_HELD: usize = policy_model::OBLIGATION_COUNTS as usize - 1;
-
-// The levels that a grant leaves to its condition.
-const CONDITION_LEVELS: usize = policy_model::LEVELS - 1;
 
 // Writes the list of `count` facts at `at` to the front of `out`, and returns how many there are: none where no node lists so many, or the words end.
 fn load_facts(words: &[u32], at: usize, count: usize, out: &mut [u16]) -> usize
@@ -43,10 +40,8 @@ fn load_facts(words: &[u32], at: usize, count: usize, out: &mut [u16]) -> usize
     if words.len() - at < policy_model::entry_words(count as u32) {
         return 0;
     }
-    let mut i = 0;
-    while i < count {
+    for i in 0..count {
         out[i] = packing::unpack_entry(words, at, i);
-        i += 1;
     }
     count
 }
@@ -61,28 +56,17 @@ pub fn clause_facts(words: &[u32], at: usize, facts: &[u8], out: &mut [u16]) -> 
         return 0;
     }
     match policy_model::policy_head(words[at], true) {
-        PolicyHead::Grant {
-            hidden: _,
-            obligations: _,
-            outcome: _,
-        } => {
+        PolicyHead::Grant { .. } => {
             let start = at + grant::before_condition_in(words, at) as usize;
-            let named = decisive::decisive_arm(words, start, CONDITION_LEVELS, facts, out);
+            let named = decisive::decisive_arm(words, start, grant::CONDITION_LEVELS, facts, out);
             named.count
         }
-        PolicyHead::PermitWithTrace {
-            obligations,
-            outcome: _,
-        } => {
+        PolicyHead::PermitWithTrace { obligations, .. } => {
             let start = at + 2 + policy_model::obligation_words(obligations);
             let count = policy_model::word_at(words, at + 1) % policy_model::HALF;
             load_facts(words, start, count as usize, out)
         }
-        PolicyHead::DenyWithTrace {
-            hidden: _,
-            denied: _,
-            outcome: _,
-        } => load_facts(
+        PolicyHead::DenyWithTrace { .. } => load_facts(
             words,
             at + 3,
             policy_model::word_at(words, at + 2) as usize,
@@ -93,17 +77,14 @@ pub fn clause_facts(words: &[u32], at: usize, facts: &[u8], out: &mut [u16]) -> 
 }
 
 // A clause from a label and a reason of 16 bits each, the shape, and the denied outcome, if present.
-fn clause_of(label: u32, reason: u32, hidden: bool, denied: bool, outcome: u16) -> Clause
-    ensures { (fs : List ℕ) → denial_of result fs ≡ clause_by label reason hidden denied outcome fs }
+fn clause_of(label: u32, reason: u32, hidden: bool, denied: Option<u16>) -> Clause
+    ensures { (fs : List ℕ) → denial_of result fs ≡ clause_by label reason hidden (denied_of denied) fs }
 {
     Clause {
-        label: Mark::of(label),
-        reason: Mark::of(reason),
+        label: record::mark(label),
+        reason: record::mark(reason),
         hidden,
-        denied: Denied {
-            present: denied,
-            outcome,
-        },
+        denied,
     }
 }
 
@@ -113,7 +94,7 @@ fn clause_at(words: &[u32], at: usize) -> Clause
     ensures { ClauseIs words.now at result }
 {
     if words.len() <= at {
-        return clause_of(0, 0, false, false, 0);
+        return clause_of(0, 0, false, None);
     }
     let marks = policy_model::word_at(words, at + 1);
     let label = marks / policy_model::HALF;
@@ -121,19 +102,16 @@ fn clause_at(words: &[u32], at: usize) -> Clause
     match policy_model::policy_head(words[at], true) {
         PolicyHead::Grant {
             hidden,
-            obligations: _,
             outcome,
-        } => clause_of(label, reason, hidden, true, outcome),
-        PolicyHead::PermitWithTrace {
-            obligations: _,
-            outcome: _,
-        } => clause_of(label, 0, false, false, 0),
+            ..
+        } => clause_of(label, reason, hidden, Some(outcome)),
+        PolicyHead::PermitWithTrace { .. } => clause_of(label, 0, false, None),
         PolicyHead::DenyWithTrace {
             hidden,
             denied,
             outcome,
-        } => clause_of(label, reason, hidden, denied, outcome),
-        _ => clause_of(0, 0, false, false, 0),
+        } => clause_of(label, reason, hidden, denied.then_some(outcome)),
+        _ => clause_of(0, 0, false, None),
     }
 }
 
@@ -141,13 +119,7 @@ fn clause_at(words: &[u32], at: usize) -> Clause
 pub fn countable(permit: bool, held: usize, count: usize) -> bool
     ensures { result ≡ countable_of permit held count }
 {
-    if count > policy_model::MOST_LISTED {
-        return false;
-    }
-    if permit {
-        return held <= MOST_HELD;
-    }
-    true
+    count <= policy_model::MOST_LISTED && (!permit || held <= MOST_HELD)
 }
 
 // How many words a decision's node takes, with so many obligations and so many facts.
@@ -181,10 +153,8 @@ pub fn write_decision(
         return record::write_permit_with_trace(
             decision.outcome,
             clause.label,
-            obligations,
-            held,
-            named,
-            count,
+            &obligations[..held],
+            &named[..count],
             out,
         );
     }
@@ -193,8 +163,7 @@ pub fn write_decision(
         clause.hidden,
         clause.label,
         clause.reason,
-        named,
-        count,
+        &named[..count],
         out,
     )
 }

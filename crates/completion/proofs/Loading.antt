@@ -13,8 +13,8 @@ use Rattle.model.specs.Writing.{entry_bits, seen_in, entry_field}
 use Rattle.laws.specs.FieldAt.{field_at}
 use Rattle.laws.proofs.FieldAtLaws.{no_entry, EntryIn, entry_at, entries_there}
 use Rattle.laws.proofs.ReadForm.{Named}
-use Rattle.condition.specs.Listing.{Lent, Consults, Recorded}
-use Rattle.condition.proofs.Listing.{consults_none, consults_then, consults_as}
+use Rattle.consulted.specs.Listing.{Lent, Consults, Recorded}
+use Rattle.consulted.proofs.Listing.{consults_none, consults_then, consults_as}
 use Rattle.completion.specs.Answers.{LoadsConsulted}
 
 -- ---- one entry more
@@ -25,13 +25,11 @@ once_end l (x ∷ es) e = once_end (consult l x.fact x.seen) es e
 -- The first i entries are listed.
 pub record Loading (words : List ℕ) (count : ℕ) (s t : Lent) (i : ℕ) : Type 0 where
   pub within : i ≤ count
-  pub entries_long : length t.entries ≡ length s.entries
-  pub seen_long : length t.seen ≡ length s.seen
   pub log : (es : Consulted) (rest : List ℕ) → Named es → count ≡ length es → pack entry_bits (map entry_field es) ++ rest ≡ drop 1 words → Consults (λ l. once_from l (take i es)) s t
 
 module _ (words : List ℕ) (count : ℕ) (s : Lent) where
   pub load_none : Loading words count s s 0
-  load_none = record { within = omega arith; entries_long = refl; seen_long = refl; log = λ es rest n e were. consults_none }
+  load_none = record { within = omega arith; log = λ es rest n e were. consults_none }
 
   entry_listed : (t u : Lent) (i b f : ℕ) (p : Presence) (es : Consulted) → i < length es → EntryIn b (get_or es i no_entry) → f ≡ b % 1024 → p ≡ seen_in (b / 16384) →
       Recorded f p t u → Consults (λ l. once_from l (take i es)) s t → Consults (λ l. once_from l (take (i + 1) es)) s u
@@ -43,12 +41,10 @@ module _ (words : List ℕ) (count : ℕ) (s : Lent) where
       (consults_then k r.log)
 
   pub load_more : (t u : Lent) (i b f : ℕ) (p : Presence) → i < count → Loading words count s t i → b ≡ field_at entry_bits (drop 1 words) i → f ≡ b % 1024 → p ≡ seen_in (b / 16384) →
-      Recorded f p t u → length u.entries ≡ length t.entries → length u.seen ≡ length t.seen → Loading words count s u (i + 1)
-  load_more t u i b f p h k eb ef ep r le ls =
+      Recorded f p t u → Loading words count s u (i + 1)
+  load_more t u i b f p h k eb ef ep r =
       record {
         within = omega arith;
-        entries_long = le ∙ k.entries_long;
-        seen_long = ls ∙ k.seen_long;
         log = λ es rest n c were.
             let here : i < length es = omega arith in
             entry_listed t u i b f p es here (entry_at es rest (drop 1 words) i b n here were eb) ef ep r (k.log es rest n c were);

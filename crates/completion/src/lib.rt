@@ -2,46 +2,41 @@
 // of a Pending record its entries; of a sheet none.
 #![tactic(auto)]
 
-ghost use Rattle.std.specs.Prelude.{◌+◌, ◌≤◌, min, length};
+ghost use Rattle.std.specs.Prelude.{◌≤◌, length};
 ghost use Rattle.outcome.specs.Carried.{carried};
-ghost use Rattle.model.specs.Facts.{table_of};
-ghost use Rattle.model.specs.Reading.{levels, sheet_words, record_words};
-ghost use Rattle.condition.specs.Listing.{lent};
+ghost use Rattle.model.specs.Facts.{fact_count, table_of};
+ghost use Rattle.model.specs.Reading.{record_words};
+ghost use Rattle.consulted.specs.Listing.{held};
 ghost use Rattle.answer.specs.Answers.{Makes};
-ghost use Rattle.decision.specs.Room.{RoomToUnite};
-ghost use Rattle.clause.specs.Room.{RoomToName};
-ghost use Rattle.completion.specs.Answers.{LoadsConsulted, completed_after};
-ghost use Rattle.completion.specs.Room.{RoomToList, few_words, short_words};
+ghost use Rattle.completion.specs.Answers.{LoadsConsulted, InUse, completed_after};
+ghost use Rattle.completion.specs.Room.{RoomToWalk};
 
 use answer::Answer;
+use consulted::Consulted;
+use outcome::OutcomeTable;
 use policy_model::{LEVELS, RECORD_WORDS, SHEET_WORDS};
 
-// Lists the `consulted` entries of a record, once each, the first one kept, and returns how many are in use.
-pub fn load_consulted(
-    words: &[u32],
-    consulted: usize,
-    entries: &mut [u16],
-    seen: &mut [u64],
-) -> usize
-    ensures { LoadsConsulted words.now consulted (lent 0 entries.old seen.old) (lent result entries.new seen.new) }
+// Lists the `count` entries of a record, once each, the first one kept.
+pub fn load_consulted(words: &[u32], count: usize, consulted: &mut Consulted<'_>)
+    ensures { LoadsConsulted words.now count (held consulted.old) (held consulted.new) }
 {
-    let mut listed = 0;
-    let mut i = 0;
-    while i < consulted {
+    for i in 0..count {
         if words.len() <= 1 + i / 2 {
-            return listed;
+            return;
         }
         let field = packing::unpack_entry(words, 1, i) as u32;
-        listed = condition::record(
-            entries,
-            seen,
-            listed,
-            field % policy_model::FACTS,
-            facts::entry_presence(field),
-        );
-        i += 1;
+        consulted.record(field % policy_model::FACTS, facts::entry_presence(field));
     }
-    listed
+}
+
+// The entries in use. No walk leaves more than it was lent, nor more than there are facts, but of words that don't read none says so.
+pub fn in_use<'a>(consulted: &'a Consulted<'_>) -> &'a [u16]
+    ensures few { length result.now ≤ fact_count }
+    ensures listed { InUse (held consulted.now) result.now }
+{
+    let most = consulted.entries.len().min(ENTRIES);
+    let length = consulted.length.min(most);
+    &consulted.entries[..length]
 }
 
 // A consulted list has each fact once, and the set of those that it has a bit for each.
@@ -49,186 +44,89 @@ pub const ENTRIES: usize = policy_model::FACTS as usize;
 
 pub const SEEN: usize = ENTRIES / 64;
 
-// How many words are few, and short: the lists that are lent for them are short as well, since to clear long ones would take longer than to decide.
+// How many words are few, and short: the lists that are lent for them are short as well, since to clear long ones would take longer than to decide. They have
+// two facts for a word at most.
 pub const FEW: usize = 7;
 
+pub const FEW_FACTS: usize = 2 * FEW;
+
 pub const SHORT: usize = 64;
+
+pub const SHORT_FACTS: usize = 2 * SHORT;
 
 // United obligations take room for each level of a tree and for the arm below it. A tree of few words has no more levels than words.
 pub const UNITED: usize = decision::OBLIGATION_ROOM * (LEVELS + 1);
 
 pub const UNITED_FEW: usize = decision::OBLIGATION_ROOM * (FEW + 1);
 
-// Decides the policy at `tree` in words that were checked, of at most `depth` levels, after the `consulted` entries. Lent are `entries` for the facts that are consulted, two for a word at most, `buf` for united obligations, and `named` for the facts of the
-// clause that decides.
-fn complete_with(
+// Decides the policy at `tree` in words that were checked, of at most `DEPTH` levels, after the `count` entries. `LISTED` facts may be consulted, `BYTES`
+// take united obligations, and `NAMED` facts the clause that decides. Every page of its stack is touched when it is called, so it keeps a frame of its own.
+#[inline(never)]
+fn complete_in<const DEPTH: usize, const LISTED: usize, const BYTES: usize, const NAMED: usize>(
     words: &[u32],
-    consulted: usize,
+    count: usize,
     tree: usize,
     facts: &[u8],
-    outcome_levels: u16,
-    outcomes: &[u8],
-    depth: usize,
-    entries: &mut [u16],
-    buf: &mut [u8],
-    named: &mut [u16],
+    outcomes: Option<OutcomeTable<'_>>,
     out: &mut [u32],
 ) -> Answer
-    requires { (length words.now ≤ record_words) × (depth ≤ levels) × (min levels (length words.now) ≤ depth) × RoomToUnite (depth + 1) buf.old × RoomToName words.now named.old × RoomToList words.now entries.old }
-    ensures { Makes (completed_after (carried outcome_levels outcomes.now) (table_of facts.now)) words.now consulted tree out.old out.new result }
+    requires { RoomToWalk (length words.now) DEPTH LISTED BYTES NAMED }
+    ensures { Makes (completed_after (carried outcomes.entry) (table_of facts.now)) words.now count tree out.old out.new result }
 {
+    let mut entries = [0u16; LISTED];
     let mut seen = [0u64; SEEN];
-    let listed = load_consulted(words, consulted, entries, &mut seen);
+    let mut buf = [0u8; BYTES];
+    let mut named = [0u16; NAMED];
+    let mut consulted = Consulted {
+        entries: &mut entries,
+        seen: &mut seen,
+        length: 0,
+    };
+    load_consulted(words, count, &mut consulted);
     let eval = evaluate::eval_policy(
         words,
         tree,
-        depth,
+        DEPTH,
         facts,
-        outcome_levels,
         outcomes,
-        entries,
-        &mut seen,
-        listed,
-        buf,
+        &mut consulted,
+        &mut buf,
     );
     answer::put_record(
         words,
         eval.decision,
         facts,
-        entries,
-        eval.count,
-        buf,
-        named,
-        out,
-    )
-}
-
-// The same of few words.
-fn complete_few(
-    words: &[u32],
-    consulted: usize,
-    tree: usize,
-    facts: &[u8],
-    outcome_levels: u16,
-    outcomes: &[u8],
-    out: &mut [u32],
-) -> Answer
-    requires { length words.now ≤ few_words }
-    ensures { Makes (completed_after (carried outcome_levels outcomes.now) (table_of facts.now)) words.now consulted tree out.old out.new result }
-{
-    let mut entries = [0u16; 2 * FEW];
-    let mut buf = [0u8; UNITED_FEW];
-    let mut named = [0u16; 2 * FEW];
-    complete_with(
-        words,
-        consulted,
-        tree,
-        facts,
-        outcome_levels,
-        outcomes,
-        FEW,
-        &mut entries,
-        &mut buf,
+        in_use(&consulted),
+        &buf,
         &mut named,
         out,
     )
 }
 
-// The same of short words.
-pub fn complete_short(
+// The same with as much room as so many words take.
+pub fn complete(
     words: &[u32],
-    consulted: usize,
+    count: usize,
     tree: usize,
     facts: &[u8],
-    outcome_levels: u16,
-    outcomes: &[u8],
-    out: &mut [u32],
-) -> Answer
-    requires { length words.now ≤ short_words }
-    ensures { Makes (completed_after (carried outcome_levels outcomes.now) (table_of facts.now)) words.now consulted tree out.old out.new result }
-{
-    if words.len() <= FEW {
-        return complete_few(words, consulted, tree, facts, outcome_levels, outcomes, out);
-    }
-    let mut entries = [0u16; 2 * SHORT];
-    let mut buf = [0u8; UNITED];
-    let mut named = [0u16; 2 * SHORT];
-    complete_with(
-        words,
-        consulted,
-        tree,
-        facts,
-        outcome_levels,
-        outcomes,
-        LEVELS,
-        &mut entries,
-        &mut buf,
-        &mut named,
-        out,
-    )
-}
-
-// The same of as many words as a sheet has.
-fn complete_middling(
-    words: &[u32],
-    consulted: usize,
-    tree: usize,
-    facts: &[u8],
-    outcome_levels: u16,
-    outcomes: &[u8],
-    out: &mut [u32],
-) -> Answer
-    requires { length words.now ≤ sheet_words }
-    ensures { Makes (completed_after (carried outcome_levels outcomes.now) (table_of facts.now)) words.now consulted tree out.old out.new result }
-{
-    let mut entries = [0u16; ENTRIES];
-    let mut buf = [0u8; UNITED];
-    let mut named = [0u16; SHEET_WORDS];
-    complete_with(
-        words,
-        consulted,
-        tree,
-        facts,
-        outcome_levels,
-        outcomes,
-        LEVELS,
-        &mut entries,
-        &mut buf,
-        &mut named,
-        out,
-    )
-}
-
-// The same of any. Every page of its stack is touched when it is called, so the calls see to short words apart from it.
-pub fn complete_long(
-    words: &[u32],
-    consulted: usize,
-    tree: usize,
-    facts: &[u8],
-    outcome_levels: u16,
-    outcomes: &[u8],
+    outcomes: Option<OutcomeTable<'_>>,
     out: &mut [u32],
 ) -> Answer
     requires { length words.now ≤ record_words }
-    ensures { Makes (completed_after (carried outcome_levels outcomes.now) (table_of facts.now)) words.now consulted tree out.old out.new result }
+    ensures { Makes (completed_after (carried outcomes.entry) (table_of facts.now)) words.now count tree out.old out.new result }
 {
-    if words.len() <= SHEET_WORDS {
-        return complete_middling(words, consulted, tree, facts, outcome_levels, outcomes, out);
+    match words.len() {
+        0..=FEW => complete_in::<FEW, FEW_FACTS, UNITED_FEW, FEW_FACTS>(
+            words, count, tree, facts, outcomes, out,
+        ),
+        0..=SHORT => complete_in::<LEVELS, SHORT_FACTS, UNITED, SHORT_FACTS>(
+            words, count, tree, facts, outcomes, out,
+        ),
+        0..=SHEET_WORDS => complete_in::<LEVELS, ENTRIES, UNITED, SHEET_WORDS>(
+            words, count, tree, facts, outcomes, out,
+        ),
+        _ => complete_in::<LEVELS, ENTRIES, UNITED, RECORD_WORDS>(
+            words, count, tree, facts, outcomes, out,
+        ),
     }
-    let mut entries = [0u16; ENTRIES];
-    let mut buf = [0u8; UNITED];
-    let mut named = [0u16; RECORD_WORDS];
-    complete_with(
-        words,
-        consulted,
-        tree,
-        facts,
-        outcome_levels,
-        outcomes,
-        LEVELS,
-        &mut entries,
-        &mut buf,
-        &mut named,
-        out,
-    )
 }

@@ -26,10 +26,10 @@ use Rattle.policy_model.specs.Heads.{condition_heads, condition_head, condition_
 use Rattle.policy_model.specs.HeadLaws.{condition_node_lem, condition_deep}
 use Rattle.condition.specs.declared.ConditionEval.{ConditionEval}
 use Rattle.condition.specs.declared.Node.TheVariants.{Value}
-use Rattle.condition.specs.Listing.{Lent, Recorded}
-use Rattle.condition.specs.Evaluating.{is_satisfied, EvaluatesC, EvaluatesHas}
+use Rattle.consulted.specs.Listing.{Lent, Recorded}
+use Rattle.condition.specs.Evaluating.{is_satisfied, answer_of, EvaluatesC, EvaluatesHas}
 use Rattle.condition.specs.Walking.{node_of}
-use Rattle.condition.proofs.Listing.{consults_as, consults_none}
+use Rattle.consulted.proofs.Listing.{consults_as, consults_none}
 
 -- ---- reading at a position
 read_none : (depth : ℕ) → read_condition depth [] ≡ refuse 6
@@ -56,7 +56,7 @@ pub leaves : (depth : ℕ) (ws : List ℕ) → Holds (λ c vs. drop (words_c c) 
 leaves depth ws = weaker (read_condition depth ws) (λ c vs e. ap (drop (words_c c)) (sym e) ∙ drop_at (encode_c c) vs (words_c c) (length_encode_c c)) (same_c depth ws)
 
 -- ---- values
-has_value : (f : ℕ) (p : Presence) → is_present p ≡ is_satisfied (eval_has f p)
+pub has_value : (f : ℕ) (p : Presence) → is_present p ≡ is_satisfied (eval_has f p)
 has_value f absent = refl
 has_value f present = refl
 has_value f unknown = refl
@@ -92,13 +92,13 @@ module _ (T : Table) (words : List ℕ) (at d : ℕ) (s : Lent) (r : ConditionEv
   eval_value BadField v is e i = record { says = by_head words at d BadField lt e nothing }
 
 -- ---- a Has
-pub has_answer : (T : Table) (f end : ℕ) (s : Lent) (r : ConditionEval) (t : Lent) → r.satisfied ≡ is_present (T f) → r.next ≡ end → Recorded f (T f) s t → EvaluatesHas T f end s r t
-has_answer T f end s r t v n a = record { says = record { satisfied_is = v ∙ has_value f (T f); next_is = n; log = consults_as (λ l. refl) a.log } }
+pub has_answer : (T : Table) (f : ℕ) (s : Lent) (v : Bool) (t : Lent) → v ≡ is_present (T f) → Recorded f (T f) s t → EvaluatesHas T f s v t
+has_answer T f s v t e a = record { satisfied_is = e ∙ has_value f (T f); log = consults_as (λ l. refl) a.log }
 
-pub eval_has_lem : (T : Table) (words : List ℕ) (at d : ℕ) (s : Lent) (r : ConditionEval) (t : Lent) → at < length words → (f : ℕ) → Has f ≡ condition_head (get_or words at 0) →
-    EvaluatesHas T f (at + 1) s r t → EvaluatesC T words at (suc d) s r t
+pub eval_has_lem : (T : Table) (words : List ℕ) (at d : ℕ) (s : Lent) (v : Bool) (t : Lent) → at < length words → (f : ℕ) → Has f ≡ condition_head (get_or words at 0) →
+    EvaluatesHas T f s v t → EvaluatesC T words at (suc d) s (answer_of v (at + 1)) t
 unfolding condition_node
-eval_has_lem T words at d s r t lt f e a = record { says = by_head words at d (Has f) lt e (fine a.says) }
+eval_has_lem T words at d s v t lt f e a = record { says = by_head words at d (Has f) lt e (fine (record { satisfied_is = a.satisfied_is; next_is = refl; log = a.log })) }
 
 -- A word that one division shows to be a Has.
 has_word : (w : ℕ) → w / 1024 ≡ 524288 → Has (w % 1024) ≡ condition_head w
@@ -109,10 +109,10 @@ has_word w e =
     let b : ltb (w % 1024) 1024 ≡ true = lt-ltb (w % 1024) 1024 (omega arith) in
     rw (k, f, b) refl
 
-pub eval_has_word : (T : Table) (words : List ℕ) (at depth : ℕ) (s : Lent) (r : ConditionEval) (t : Lent) → at < length words → get_or words at 0 / 1024 ≡ 524288 →
-    EvaluatesHas T (get_or words at 0 % 1024) (at + 1) s r t → EvaluatesC T words at depth s r t
-eval_has_word T words at zero s r t lt e a = record { says = no_levels (drop at words) }
-eval_has_word T words at (suc d) s r t lt e a = eval_has_lem T words at d s r t lt (get_or words at 0 % 1024) (has_word (get_or words at 0) e) a
+pub eval_has_word : (T : Table) (words : List ℕ) (at depth : ℕ) (s : Lent) (v : Bool) (t : Lent) → at < length words → get_or words at 0 / 1024 ≡ 524288 →
+    EvaluatesHas T (get_or words at 0 % 1024) s v t → EvaluatesC T words at depth s (answer_of v (at + 1)) t
+eval_has_word T words at zero s v t lt e a = record { says = no_levels (drop at words) }
+eval_has_word T words at (suc d) s v t lt e a = eval_has_lem T words at d s v t lt (get_or words at 0 % 1024) (has_word (get_or words at 0) e) a
 
 -- ---- the fact of a Has is below 1,024, and a list has below 4,096 arms
 abbrev Below : ConditionHead → Type 0
@@ -141,9 +141,3 @@ below_by (suc (suc (suc (suc (suc (suc k)))))) r = tt
 pub below_head : (h : ConditionHead) (w : ℕ) → h ≡ condition_head w → Below h
 unfolding condition_head
 below_head h w e = subst Below (sym e) (below_by (kind_of w) (rest_of w))
-
--- ---- a loop: what was lent is s, and is u now; what answers for what is left answers for the whole
-pub record Going (Left Whole : ConditionEval → Lent → Type 0) (s u : Lent) : Type 0 where
-  pub entries_long : length u.entries ≡ length s.entries
-  pub seen_long : length u.seen ≡ length s.seen
-  pub goes : (r : ConditionEval) (t : Lent) → Left r t → Whole r t

@@ -1,4 +1,3 @@
 -- Laws that several proofs cite.
-pub mod Listing
 pub mod Evaluating
 pub mod Walking

@@ -3,6 +3,7 @@ use mathlib.Core.Path.{◌≡◌, refl, sym, ap, ◌∙◌}
 use mathlib.Core.Bool.{Bool, true, false, not, cond, beq}
 use mathlib.Core.List.{List, [], ◌∷◌}
 use Prim.Native.Nat.{ℕ, zero, suc, ◌+◌, ◌-◌, ◌%◌, ◌≤◌, ◌<◌}
+use Rattle.std.specs.Prelude.{Option, None, Some}
 use native.Mathlib.Numerals.{add-one}
 use native.Mathlib.Omega.{arith}
 use borrow.Author.Tests.{leb-true, leb-false, le-leb, lt-leb}
@@ -24,10 +25,10 @@ use Rattle.condition.specs.declared.ConditionEval.{ConditionEval}
 use Rattle.condition.specs.declared.Node.TheVariants.{Value, Open}
 use Rattle.condition.specs.declared.Node.TheVariants as node
 use Rattle.condition.specs.declared.AfterArm.TheVariants.{Closed, More}
-use Rattle.condition.specs.Listing.{Lent, Consults}
+use Rattle.consulted.specs.Listing.{Lent, Consults}
 use Rattle.condition.specs.Evaluating.{is_satisfied, answer_of, EvaluatesC, EvaluatesHas}
 use Rattle.condition.specs.Walking.{node_of, OpenNode, not_node, arms_node, open_of, opens, list_value, list_read, value_on, read_on, Known, Unread, Settles}
-use Rattle.condition.proofs.Listing.{consults_none, consults_then, consults_as}
+use Rattle.consulted.proofs.Listing.{consults_none, consults_then, consults_as}
 use Rattle.condition.proofs.Evaluating.{no_levels, no_words, by_head, leaves, flip_value, eval_value, eval_has_lem, below_head}
 
 -- ---- a list rule by its first arm and the others
@@ -221,10 +222,15 @@ opens_last above level = rw add-one refl
 opens_put : (above : List ℕ) (n level : ℕ) → level < length above → opens (set above level n) (level + 1) ≡ open_of n ∷ opens above level
 opens_put above n level h = rw (opens_last (set above level n) level, get_or-set_same above level n 0 h, opens_below above level n level (omega arith)) refl
 
--- What is asked where the walk stands with a: its value is known, or a condition is to be read.
-abbrev pub Standing : Bool → Table → List ℕ → ℕ → List ℕ → ℕ → ConditionEval → Lent → ConditionEval → Lent → Type 0
-Standing true T words depth above level a s r t = Known T words s r t (depth - level) (opens above level) a.satisfied a.next (λ l. l)
-Standing false T words depth above level a s r t = Unread T words s r t (depth - level) (opens above level) a.next
+-- What is asked where the walk stands before `next`: the value there is known, or a condition is to be read.
+abbrev pub Standing : Option Bool → Table → List ℕ → ℕ → List ℕ → ℕ → ℕ → Lent → ConditionEval → Lent → Type 0
+Standing (Some v) T words depth above level next s r t = Known T words s r t (depth - level) (opens above level) v next (λ l. l)
+Standing None T words depth above level next s r t = Unread T words s r t (depth - level) (opens above level) next
+
+-- A known value is one step of the measure.
+abbrev pub known_step : Option Bool → ℕ
+known_step (Some v) = 1
+known_step None = 0
 
 -- ---- the turns of the loop
 pub has_head : (h : ConditionHead) (f : ℕ) → node.Has f ≡ node_of h → Has f ≡ h
@@ -278,15 +284,15 @@ module _ (T : Table) (words : List ℕ) (depth : ℕ) (above : List ℕ) where
         pub node_value : (w : Bool) → Value w ≡ node_of (condition_head (get_or words at 0)) →
             Known T words s r t (depth - level) (opens above level) w (at + 1) (λ l. l) → Unread T words s r t (depth - level) (opens above level) at
         node_value w e k =
-            let a : ConditionEval = answer_of w (at + 1) 0 in
+            let a : ConditionEval = answer_of w (at + 1) in
             rw levels (at_once T words r t (opens above level) (suc (depth - (level + 1))) at
             (eval_value T words at (depth - (level + 1)) s a lt refl (condition_head (get_or words at 0)) w e refl refl) (rw levels at k))
 
-        pub node_has : (f : ℕ) (a : ConditionEval) (u : Lent) → node.Has f ≡ node_of (condition_head (get_or words at 0)) → EvaluatesHas T f (at + 1) s a u →
-            Known T words u r t (depth - level) (opens above level) a.satisfied a.next (λ l. l) → Unread T words s r t (depth - level) (opens above level) at
-        node_has f a u e h k =
+        pub node_has : (f : ℕ) (v : Bool) (u : Lent) → node.Has f ≡ node_of (condition_head (get_or words at 0)) → EvaluatesHas T f s v u →
+            Known T words u r t (depth - level) (opens above level) v (at + 1) (λ l. l) → Unread T words s r t (depth - level) (opens above level) at
+        node_has f v u e h k =
             rw levels (at_once T words r t (opens above level) (suc (depth - (level + 1))) at
-            (eval_has_lem T words at (depth - (level + 1)) s a u lt f (has_head (condition_head (get_or words at 0)) f e) h) (rw levels at k))
+            (eval_has_lem T words at (depth - (level + 1)) s v u lt f (has_head (condition_head (get_or words at 0)) f e) h) (rw levels at k))
 
         pub node_open : (n : ℕ) → level < length above → Open n ≡ node_of (condition_head (get_or words at 0)) →
             Unread T words s r t (depth - (level + 1)) (opens (set above level n) (level + 1)) (at + 1) → Unread T words s r t (depth - level) (opens above level) at

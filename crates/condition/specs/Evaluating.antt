@@ -8,14 +8,14 @@ use Rattle.model.specs.Reading.{read_condition}
 use Rattle.laws.proofs.FieldLaws.{Holds}
 use Rattle.laws.specs.Size.{words_c}
 use Rattle.condition.specs.declared.ConditionEval.{ConditionEval}
-use Rattle.condition.specs.Listing.{Lent, Consults}
+use Rattle.consulted.specs.Listing.{Lent, Consults}
 
 abbrev pub is_satisfied : model.ConditionEval → Bool
 is_satisfied (model.satisfied fs) = true
 is_satisfied (model.unsatisfied fs) = false
 
-abbrev pub answer_of : Bool → ℕ → ℕ → ConditionEval
-answer_of value next count = record { satisfied = value; next = next; count = count }
+abbrev pub answer_of : Bool → ℕ → ConditionEval
+answer_of value next = record { satisfied = value; next = next }
 
 -- The answer to what has this value, takes the words up to `end` and consults as `read` does.
 pub record Evaluated (value : Bool) (end : ℕ) (read : Consulted → Consulted) (s : Lent) (r : ConditionEval) (t : Lent) : Type 0 where
@@ -27,6 +27,7 @@ pub record Evaluated (value : Bool) (end : ℕ) (read : Consulted → Consulted)
 pub record EvaluatesC (T : Table) (words : List ℕ) (at depth : ℕ) (s : Lent) (r : ConditionEval) (t : Lent) : Type 0 where
   pub says : Holds (λ c rest. Evaluated (is_satisfied (eval_condition T c)) (at + words_c c) (read_c T c) s r t) (read_condition depth (drop at words))
 
--- The same of a Has that ends at `end`.
-pub record EvaluatesHas (T : Table) (f end : ℕ) (s : Lent) (r : ConditionEval) (t : Lent) : Type 0 where
-  pub says : Evaluated (is_satisfied (eval_condition T (has f))) end (read_c T (has f)) s r t
+-- The same of a Has, whose value is v.
+pub record EvaluatesHas (T : Table) (f : ℕ) (s : Lent) (v : Bool) (t : Lent) : Type 0 where
+  pub satisfied_is : v ≡ is_satisfied (eval_condition T (has f))
+  pub log : Consults (read_c T (has f)) s t

@@ -14,7 +14,7 @@ use Rattle.condition.specs.declared.Node.{Node}
 use Rattle.condition.specs.declared.Node.TheVariants.{Value, Has, Open}
 use Rattle.condition.specs.declared.AfterArm.{AfterArm}
 use Rattle.condition.specs.declared.AfterArm.TheVariants.{Closed, More}
-use Rattle.condition.specs.Listing.{Lent}
+use Rattle.consulted.specs.Listing.{Lent}
 use Rattle.condition.specs.Evaluating.{is_satisfied, Evaluated}
 
 -- ---- nodes

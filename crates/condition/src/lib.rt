@@ -1,96 +1,35 @@
 // Conditions, after gatekeep's evaluate.rs: whether a condition is satisfied, with the facts that were consulted listed on the way.
-// The list is lent: `entries`, of which the first `count` are in use, and `seen`, the set of the facts that are listed.
 #![tactic(auto)]
 
 ghost use Rattle.std.specs.Prelude.{◌≡◌, ◌^◌, ◌<◌, ◌≤◌};
 ghost use Rattle.model.specs.Facts.{fact_count, table_of};
 ghost use Rattle.model.specs.Writing.{count_bits};
 ghost use Rattle.model.specs.Reading.{levels};
-ghost use Rattle.facts.specs.Answers.{presence_of};
-ghost use Rattle.fact_set.specs.Sets.{Contained};
 ghost use Rattle.policy_model.specs.Heads.{condition_head};
-ghost use Rattle.condition.specs.Listing.{lent, Recorded};
-ghost use Rattle.condition.specs.Evaluating.{answer_of, EvaluatesC, EvaluatesHas};
+ghost use Rattle.consulted.specs.Listing.{held};
+ghost use Rattle.condition.specs.Evaluating.{EvaluatesC, EvaluatesHas};
 ghost use Rattle.condition.specs.Walking.{list_node, node_of, Settles};
 
+use consulted::Consulted;
 use facts::Presence;
 use policy_model::ConditionHead;
 
-// Whether a condition is satisfied, the position after its words, and how many entries are in use.
+// Whether a condition is satisfied, and the position after its words.
 #[derive(Drop)]
 pub struct ConditionEval {
     pub satisfied: bool,
     pub next: usize,
-    pub count: usize,
 }
 
-fn answer(satisfied: bool, next: usize, count: usize) -> ConditionEval
-    ensures { result ≡ answer_of satisfied next count }
-{
-    ConditionEval {
-        satisfied,
-        next,
-        count,
-    }
-}
-
-// Lists the fact with its presence, unless it is listed `already` or the entries are full, and returns how many are in use then.
-fn record_unless(
-    already: bool,
-    entries: &mut [u16],
-    seen: &mut [u64],
-    count: usize,
-    fact: u32,
-    presence: Presence,
-) -> usize
-    requires { (fact < fact_count) × Contained fact seen.old already }
-    ensures { Recorded fact (presence_of presence) (lent count entries.old seen.old) (lent result entries.new seen.new) }
-{
-    if entries.len() <= count {
-        return count;
-    }
-    let length = consulted::noted(entries, count, already, facts::entry(fact, presence));
-    if !already {
-        fact_set::insert(seen, fact);
-    }
-    length
-}
-
-// The same, by whether the set of the facts that are listed has it.
-pub fn record(
-    entries: &mut [u16],
-    seen: &mut [u64],
-    count: usize,
-    fact: u32,
-    presence: Presence,
-) -> usize
+// Whether a Has is satisfied: on Present. Its fact is consulted: where it is listed already, that changes nothing.
+pub fn eval_has(fact: u32, facts: &[u8], consulted: &mut Consulted<'_>) -> bool
     requires { fact < fact_count }
-    ensures { Recorded fact (presence_of presence) (lent count entries.old seen.old) (lent result entries.new seen.new) }
+    ensures { EvaluatesHas (table_of facts.now) fact (held consulted.old) result (held consulted.new) }
 {
-    let already = fact_set::contains(seen, fact);
-    record_unless(already, entries, seen, count, fact, presence)
-}
-
-// A Has, whose words end at `next`: satisfied on Present. Its fact is consulted: where it is listed already, that changes nothing.
-pub fn eval_has(
-    fact: u32,
-    next: usize,
-    facts: &[u8],
-    entries: &mut [u16],
-    seen: &mut [u64],
-    count: usize,
-) -> ConditionEval
-    requires { fact < fact_count }
-    ensures { EvaluatesHas (table_of facts.now) fact next (lent count entries.old seen.old) result (lent result.count entries.new seen.new) }
-{
-    let already = fact_set::contains(seen, fact);
-    if already {
-        return answer(facts::present(facts, fact), next, count);
+    if !consulted.lists(fact) {
+        consulted.record(fact, Presence::of(facts, fact));
     }
-    let satisfied = facts::present(facts, fact);
-    let presence = Presence::of(facts, fact);
-    let listed = record_unless(already, entries, seen, count, fact, presence);
-    answer(satisfied, next, listed)
+    facts::present(facts, fact)
 }
 
 // A node that is open is a number: how many of its arms come after the one that is read, and so much more for an Any; a Not is the other.
@@ -166,59 +105,60 @@ fn after_arm(words: &[u32], node: u16, value: bool, next: usize) -> AfterArm
     AfterArm::More(more)
 }
 
-// The condition at `at`, of at most `depth` levels. The first `level` numbers of `above` are the nodes that are open, the innermost last. `known` says
-// whether `sofar` is the answer to the condition that ends at its `next`, or a condition is still to be read there.
+// The condition at `at`, of at most `depth` levels. The first `level` numbers of `above` are the nodes that are open, the innermost last. `value` is that of
+// the condition that ends at `next`, or none where a condition is still to be read there.
 fn eval_condition(
     words: &[u32],
     at: usize,
     depth: usize,
     facts: &[u8],
-    entries: &mut [u16],
-    seen: &mut [u64],
-    count: usize,
+    consulted: &mut Consulted<'_>,
 ) -> ConditionEval
     requires { depth ≤ levels }
-    ensures { EvaluatesC (table_of facts.now) words.now at depth (lent count entries.old seen.old) result (lent result.count entries.new seen.new) }
+    ensures { EvaluatesC (table_of facts.now) words.now at depth (held consulted.old) result (held consulted.new) }
 {
     let mut above = [0u16; policy_model::LEVELS];
     let mut level = 0;
-    let mut known = false;
-    let mut sofar = answer(false, at, count);
+    let mut value: Option<bool> = None;
+    let mut next = at;
     loop {
-        let next = sofar.next;
-        if known {
-            if level == 0 {
-                return sofar;
+        match value {
+            Some(satisfied) => {
+                if level == 0 {
+                    return ConditionEval { satisfied, next };
+                }
+                let inner = level - 1;
+                match after_arm(words, above[inner], satisfied, next) {
+                    AfterArm::Closed {
+                        value: of,
+                        next: end,
+                    } => {
+                        value = Some(of);
+                        next = end;
+                        level = inner;
+                    }
+                    AfterArm::More(node) => {
+                        above[inner] = node;
+                        value = None;
+                    }
+                }
             }
-            let inner = level - 1;
-            match after_arm(words, above[inner], sofar.satisfied, next) {
-                AfterArm::Closed { value, next: end } => {
-                    sofar = answer(value, end, sofar.count);
-                    level = inner;
+            None => {
+                if words.len() <= next || depth <= level {
+                    return ConditionEval {
+                        satisfied: false,
+                        next,
+                    };
                 }
-                AfterArm::More(node) => {
-                    above[inner] = node;
-                    known = false;
+                match node_of(words[next]) {
+                    Node::Value(of) => value = Some(of),
+                    Node::Has(fact) => value = Some(eval_has(fact, facts, consulted)),
+                    Node::Open(node) => {
+                        above[level] = node;
+                        level += 1;
+                    }
                 }
-            }
-        } else {
-            if words.len() <= next || depth <= level {
-                return sofar;
-            }
-            match node_of(words[next]) {
-                Node::Value(value) => {
-                    sofar = answer(value, next + 1, sofar.count);
-                    known = true;
-                }
-                Node::Has(fact) => {
-                    sofar = eval_has(fact, next + 1, facts, entries, seen, sofar.count);
-                    known = true;
-                }
-                Node::Open(node) => {
-                    above[level] = node;
-                    level += 1;
-                    sofar.next = next + 1;
-                }
+                next += 1;
             }
         }
     }
@@ -230,26 +170,23 @@ pub fn eval_arm(
     at: usize,
     depth: usize,
     facts: &[u8],
-    entries: &mut [u16],
-    seen: &mut [u64],
-    count: usize,
+    consulted: &mut Consulted<'_>,
 ) -> ConditionEval
     requires { depth ≤ levels }
-    ensures { EvaluatesC (table_of facts.now) words.now at depth (lent count entries.old seen.old) result (lent result.count entries.new seen.new) }
+    ensures { EvaluatesC (table_of facts.now) words.now at depth (held consulted.old) result (held consulted.new) }
 {
     if words.len() <= at {
-        return answer(false, at, count);
+        return ConditionEval {
+            satisfied: false,
+            next: at,
+        };
     }
     let word = words[at];
     if word / policy_model::FACTS == policy_model::HAS {
-        return eval_has(
-            word % policy_model::FACTS,
-            at + 1,
-            facts,
-            entries,
-            seen,
-            count,
-        );
+        return ConditionEval {
+            satisfied: eval_has(word % policy_model::FACTS, facts, consulted),
+            next: at + 1,
+        };
     }
-    eval_condition(words, at, depth, facts, entries, seen, count)
+    eval_condition(words, at, depth, facts, consulted)
 }

@@ -1,12 +1,20 @@
-// The consulted list, after gatekeep's `Consulted`: its entries, and how many are in use. The entries are lent, as 2 KiB by value would be copied for each fact that is read.
+// The consulted list, after gatekeep's `Consulted`: its entries, how many are in use, and the set of the facts that are listed. Entries and set are lent,
+// as 2 KiB by value would be copied for each fact that is read.
 #![tactic(auto)]
 
 ghost use Rattle.std.specs.Prelude.{◌≡◌, ◌<◌, length as long};
-ghost use Rattle.consulted.specs.Lists.{entries_with, length_with, list_with};
+ghost use Rattle.model.specs.Facts.{fact_count};
+ghost use Rattle.facts.specs.Answers.{presence_of};
+ghost use Rattle.fact_set.specs.Sets.{Contained};
+ghost use Rattle.consulted.specs.Lists.{entries_with, length_with};
+ghost use Rattle.consulted.specs.Listing.{held, Recorded};
+
+use facts::Presence;
 
 #[derive(Drop)]
 pub struct Consulted<'a> {
     pub entries: &'a mut [u16],
+    pub seen: &'a mut [u64],
     pub length: usize,
 }
 
@@ -23,21 +31,26 @@ pub fn recorded(entries: &mut [u16], length: usize, already: bool, entry: u16) -
 }
 
 impl<'a> Consulted<'a> {
-    // The same of a list that is lent.
-    pub fn record(&mut self, already: bool, entry: u16)
-        requires { self.old.length < long self.old.entries.now }
-        ensures { self.new ≡ list_with self.old already entry }
+    // Whether the fact is listed.
+    pub fn lists(&self, fact: u32) -> bool
+        ensures { Contained fact self.now.seen.now result }
     {
-        self.length = recorded(&mut *self.entries, self.length, already, entry);
+        fact_set::contains(&*self.seen, fact)
     }
-}
 
-// The same with plain parameters: the list is a local, and is lent to `record`. Whoever calls it needs no proof by hand.
-pub fn noted(entries: &mut [u16], length: usize, already: bool, entry: u16) -> usize
-    requires { length < long entries.old }
-    ensures { (result ≡ length_with length already) × (entries.new ≡ entries_with entries.old length already entry) }
-{
-    let mut list = Consulted { entries, length };
-    list.record(already, entry);
-    list.length
+    // Lists the fact with its presence, unless it is listed already or the entries are full.
+    pub fn record(&mut self, fact: u32, presence: Presence)
+        requires { fact < fact_count }
+        ensures { Recorded fact (presence_of presence) (held self.old) (held self.new) }
+    {
+        if self.entries.len() <= self.length {
+            return;
+        }
+        let already = self.lists(fact);
+        let entry = facts::entry(fact, presence);
+        self.length = recorded(&mut *self.entries, self.length, already, entry);
+        if !already {
+            fact_set::insert(&mut *self.seen, fact);
+        }
+    }
 }

@@ -1,12 +1,12 @@
 -- The entries of a record, looked at one after the other. Assumes nothing.
-use mathlib.Core.Path.{◌≡◌, refl, sym, ◌∙◌, ap, ap₂}
+use mathlib.Core.Path.{◌≡◌, sym, ◌∙◌, ap, ap₂}
 use mathlib.Core.Bool.{true, false, ◌||◌}
 use mathlib.Core.List.{List, ◌∷◌, ◌++◌, map}
 use Prim.Native.Nat.{ℕ, ◌+◌, ◌/◌, ◌%◌, ◌≤◌, ◌<◌}
 use native.Mathlib.Numerals.{add-one}
 use native.Mathlib.Omega.{arith}
 use lib.ListN.{length, drop, get_or}
-use lib.Seq.{drop-cons, drop-length}
+use lib.Seq.{drop-cons}
 use Rattle.model.specs.Fields.{pack}
 use Rattle.model.specs.Facts.{Presence, Table}
 use Rattle.model.specs.Consulted.{Consulted, contradicts, any_contradicted}
@@ -21,9 +21,6 @@ module _ (P : Table) (words : List ℕ) (count : ℕ) where
   pub record Undecided (i : ℕ) : Type 0 where
     pub within : i ≤ count
     pub others : (es : Consulted) (rest : List ℕ) → Named es → count ≡ length es → pack entry_bits (map entry_field es) ++ rest ≡ drop 1 words → any_contradicted P (drop i es) ≡ any_contradicted P es
-
-  pub none_seen : Undecided 0
-  none_seen = record { within = omega arith; others = λ es rest n c were. refl }
 
   -- The entry at i: what is found of it, and of those after it.
   module _ (i b : ℕ) (h : i < count) (seen later : Presence) (k : Undecided i) (eb : b ≡ field_at entry_bits (drop 1 words) i) (es-seen : seen ≡ seen_in (b / 16384)) (es-later : later ≡ P (b % 1024)) where
@@ -41,13 +38,6 @@ module _ (P : Table) (words : List ℕ) (count : ℕ) where
 
     pub found : contradicts seen later ≡ true → Contradicted P words count true
     found e = record { says = λ es rest n c were. ap (λ d. d || any_contradicted P (drop (i + 1) es)) (sym e) ∙ one_more es rest n c were }
-
-  pub all_seen : (i : ℕ) → count ≤ i → Undecided i → Contradicted P words count false
-  all_seen i h k =
-      record {
-        says = λ es rest n c were.
-            sym (ap (any_contradicted P) (ap (λ j. drop j es) (let e : i ≡ length es = omega (arith, k.within) in e) ∙ drop-length es)) ∙ k.others es rest n c were;
-      }
 
   -- Words that end before their entries do hold none.
   pub words_end : (i : ℕ) → i < count → length words ≤ 1 + i / 2 → Contradicted P words count false

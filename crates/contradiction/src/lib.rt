@@ -10,8 +10,7 @@ use facts::Presence;
 pub fn contradicted(words: &[u32], consulted: usize, facts: &[u8]) -> bool
     ensures { Contradicted (table_of facts.now) words.now consulted result }
 {
-    let mut i = 0;
-    while i < consulted {
+    for i in 0..consulted {
         if words.len() <= 1 + i / 2 {
             return false;
         }
@@ -20,7 +19,6 @@ pub fn contradicted(words: &[u32], consulted: usize, facts: &[u8]) -> bool
         if facts::entry_presence(field).contradicts(later) {
             return true;
         }
-        i += 1;
     }
     false
 }

@@ -2,13 +2,11 @@
 use mathlib.Core.Path.{◌≡◌, refl, sym, ◌∙◌, ap, ap₂, subst}
 use mathlib.Core.Bool.{Bool, true, false, ◌||◌, or-false, or_assoc}
 use mathlib.Core.List.{List, [], ◌∷◌, ◌++◌}
-use Prim.Native.Nat.{ℕ, zero, suc, ◌+◌, ◌*◌, ◌/◌, ◌%◌, ◌^◌, ◌≤◌, ◌<◌}
+use Prim.Native.Nat.{ℕ, zero, suc, ◌+◌, ◌*◌, ◌/◌, ◌%◌, ◌^◌, ◌<◌}
 use native.Mathlib.Nat.{one-mul, zero-div, pow-suc, mul-mod_left, div-one, div-eq_of_lt, mul-div-mul_right, mod-lt}
 use native.Mathlib.Numerals.{add-one}
 use native.Mathlib.Omega.{arith}
 use lib.Dec.{eqb, eqb-zero-suc, eqb-suc-zero, eqb-suc-suc}
-use lib.ListN.{length, take, drop, get_or}
-use lib.Seq.{take-suc}
 use lib.Pow.{pow-lt, shl_exact}
 use lib.Bits.{bit_or, or_shr, or_mod}
 use Rattle.model.specs.Decision.{held}
@@ -83,39 +81,11 @@ masked_end m os o x y k e =
 pub masked_none : (m : ℕ) → Masked m [] m
 masked_none m = record { is = λ _. refl }
 
--- The fields of a node, and the bytes of a buffer, one after the other.
-pub record MaskingFields (node : List ℕ) (count mask i : ℕ) : Type 0 where
-  pub within : i ≤ count
-  pub so_far : Masked 0 (obligation_fields i (drop 2 node)) mask
+-- One more, where the list is longer by it.
+pub masked_more : (m : ℕ) (os ps : List ℕ) (o x y : ℕ) → ps ≡ os ++ o ∷ [] → Masked m os x → (o < obligation_count → y ≡ bit_or x (2 ^ o)) → Masked m ps y
+masked_more m os ps o x y e k f = subst (λ l. Masked m l y) (sym e) (masked_end m os o x y k f)
 
-pub fields_none : (node : List ℕ) (count : ℕ) → MaskingFields node count 0 0
-unfolding firsts
-fields_none node count = record { within = omega arith; so_far = masked_none 0 }
-
+-- The fields of a node, one after the other.
 pub field_more : (ws : List ℕ) (i v : ℕ) → v ≡ field_at obligation_bits ws i → obligation_fields (i + 1) ws ≡ obligation_fields i ws ++ v ∷ []
 unfolding firsts
 field_more ws i v e = ap (λ n. obligation_fields n ws) (add-one i) ∙ ap (λ z. obligation_fields i ws ++ z ∷ []) (sym e)
-
-pub fields_more : (node : List ℕ) (count x y i v : ℕ) → i < count → v ≡ field_at obligation_bits (drop 2 node) i → MaskingFields node count x i → (v < obligation_count → y ≡ bit_or x (2 ^ v)) → MaskingFields node count y (i + 1)
-fields_more node count x y i v h e k f =
-    let so_far = obligation_fields i (drop 2 node) in
-    let more : obligation_fields (i + 1) (drop 2 node) ≡ so_far ++ v ∷ [] = field_more (drop 2 node) i v e in
-    record { within = omega arith; so_far = record { is = λ b. (masked_end 0 so_far v x y k.so_far f).is (rw more at b) ∙ ap (mask_from 0) (sym more) } }
-
-pub fields_all : (node : List ℕ) (count x i : ℕ) → count ≤ i → MaskingFields node count x i → Masked 0 (obligation_fields count (drop 2 node)) x
-fields_all node count x i h k = let all : i ≡ count = omega (arith, k.within) in subst (λ n. Masked 0 (obligation_fields n (drop 2 node)) x) all k.so_far
-
-pub record MaskingBytes (m : ℕ) (buf : List ℕ) (count mask i : ℕ) : Type 0 where
-  pub within : i ≤ count
-  pub so_far : Masked m (take i buf) mask
-
-pub bytes_none : (m : ℕ) (buf : List ℕ) (count : ℕ) → MaskingBytes m buf count m 0
-bytes_none m buf count = record { within = omega arith; so_far = masked_none m }
-
-pub bytes_more : (m : ℕ) (buf : List ℕ) (count x y i : ℕ) → i < count → count ≤ length buf → MaskingBytes m buf count x i → (get_or buf i 0 < obligation_count → y ≡ bit_or x (2 ^ get_or buf i 0)) → MaskingBytes m buf count y (i + 1)
-bytes_more m buf count x y i h room k f =
-    let more : take (i + 1) buf ≡ take i buf ++ get_or buf i 0 ∷ [] = ap (λ n. take n buf) (add-one i) ∙ take-suc buf i 0 (omega arith) in
-    record { within = omega arith; so_far = record { is = λ b. (masked_end m (take i buf) (get_or buf i 0) x y k.so_far f).is (rw more at b) ∙ ap (mask_from m) (sym more) } }
-
-pub bytes_all : (m : ℕ) (buf : List ℕ) (count x i : ℕ) → count ≤ i → MaskingBytes m buf count x i → Masked m (take count buf) x
-bytes_all m buf count x i h k = let all : i ≡ count = omega (arith, k.within) in subst (λ n. Masked m (take n buf) x) all k.so_far

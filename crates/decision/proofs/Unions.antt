@@ -112,22 +112,9 @@ module _ (mask count o : ℕ) (buf : List ℕ) (few : count ≤ obligation_room)
         omega (arith, length-append (take count buf) (o ∷ []), length-take-le count buf (omega arith)) in
         record { few = few; rest = refl; holds = λ os k h. absurd (clash os k h); grown = λ os k h. absurd (clash os k h) }
 
--- ---- the loops
-pub record Growing (ps : ℕ → List ℕ) (count : ℕ) (before after : List ℕ) (u r : Union) (i : ℕ) : Type 0 where
-  pub within : i ≤ count
-  pub long : length after ≡ length before
-  pub so_far : Grown (ps i) before after u r
-
-pub growing_none : (ps : ℕ → List ℕ) (count : ℕ) (buf : List ℕ) (u : Union) → ps 0 ≡ [] → u.count ≤ obligation_room → Growing ps count buf buf u u 0
-growing_none ps count buf u e few = record { within = omega arith; long = refl; so_far = subst (λ l. Grown l buf buf u u) (sym e) (grown_none buf u few) }
-
-pub growing_more : (ps : ℕ → List ℕ) (count : ℕ) (before mid after : List ℕ) (u v r : Union) (i o : ℕ) → i < count → length after ≡ length mid → ps (i + 1) ≡ ps i ++ o ∷ [] →
-    Growing ps count before mid u v i → Grown (o ∷ []) mid after v r → Growing ps count before after u r (i + 1)
-growing_more ps count before mid after u v r i o h l e g a =
-    record { within = omega arith; long = l ∙ g.long; so_far = subst (λ x. Grown x before after u r) (sym e) (grown_then g.so_far a) }
-
-pub growing_all : (ps : ℕ → List ℕ) (count : ℕ) (before after : List ℕ) (u r : Union) (i : ℕ) → count ≤ i → Growing ps count before after u r i → Grown (ps count) before after u r
-growing_all ps count before after u r i h g = let all : i ≡ count = omega (arith, g.within) in subst (λ n. Grown (ps n) before after u r) all g.so_far
+-- One more, where the list is longer by it.
+pub grown_more : {ps qs before mid after : List ℕ} {u v r : Union} {o : ℕ} → qs ≡ ps ++ o ∷ [] → Grown ps before mid u v → Grown (o ∷ []) mid after v r → Grown qs before after u r
+grown_more {before = before} {after = after} {u = u} {r = r} e g a = subst (λ x. Grown x before after u r) (sym e) (grown_then g a)
 
 -- The bytes from the second room on.
 pub byte_more : (before mid : List ℕ) (i : ℕ) → obligation_room + i < length before → drop obligation_room mid ≡ drop obligation_room before →

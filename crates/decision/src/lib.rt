@@ -2,7 +2,7 @@
 // A walk keeps no lists: a decision names nodes of the lent words by position, and only obligations that a join appended stand in a lent buffer.
 #![tactic(auto)]
 
-ghost use Rattle.std.specs.Prelude.{◌≡◌, true, ◌∷◌, [], ◌≤◌, ◌<◌, ◌^◌, length, take, drop};
+ghost use Rattle.std.specs.Prelude.{◌≡◌, eqb, true, ◌∷◌, [], ◌≤◌, ◌<◌, ◌^◌, length, take, drop};
 ghost use Rattle.std.specs.Int.Bits.{bit_or};
 ghost use Rattle.model.specs.Writing.{obligation_bits, most_held};
 ghost use Rattle.model.specs.Reading.{obligation_count};
@@ -19,7 +19,8 @@ use outcome::Products;
 use policy_model::PolicyHead;
 
 // What was decided. A position is that of a grant or of a stored decision, or the number of words for none.
-#[derive(Clone, Copy)]
+// One flat value and no enum: walks hand it on by copy, and both kinds have a clause.
+#[derive(Clone, Copy, PartialEq, Eq)]
 pub struct Decision {
     pub permit: bool,
     // of a permit; no product on deny
@@ -99,15 +100,9 @@ fn obligation_count(word: u32) -> usize
     ensures { (result ≡ obligation_count_of word) × (result ≤ most_held) }
 {
     match policy_model::policy_head(word, true) {
-        PolicyHead::Grant {
-            hidden: _,
-            obligations,
-            outcome: _,
-        } => obligations as usize,
-        PolicyHead::PermitWithTrace {
-            obligations,
-            outcome: _,
-        } => obligations as usize,
+        PolicyHead::Grant { obligations, .. } | PolicyHead::PermitWithTrace { obligations, .. } => {
+            obligations as usize
+        }
         _ => 0,
     }
 }
@@ -129,10 +124,8 @@ fn load_list(node: &[u32], count: usize, out: &mut [u8])
     requires { (count ≤ most_held) × (count ≤ length out.old) }
     ensures { Listed node.now count out.new }
 {
-    let mut i = 0;
-    while i < count {
+    for i in 0..count {
         out[i] = obligation_at(node, i);
-        i += 1;
     }
 }
 
@@ -156,11 +149,7 @@ pub fn obligations(words: &[u32], decision: Decision, buf: &[u8], out: &mut [u8]
 {
     let own = load_obligations(words, decision.obligations, out);
     let count = decision.united;
-    let mut i = 0;
-    while i < count {
-        out[own + i] = buf[i];
-        i += 1;
-    }
+    out[own..own + count].copy_from_slice(&buf[..count]);
     own + count
 }
 
@@ -187,10 +176,8 @@ fn list_mask(node: &[u32], count: usize) -> u64
     ensures { Masked 0 (obligation_fields count (drop 2 node.now)) result }
 {
     let mut mask: u64 = 0;
-    let mut i = 0;
-    while i < count {
+    for i in 0..count {
         mask = with_bit(mask, obligation_at(node, i));
-        i += 1;
     }
     mask
 }
@@ -205,16 +192,13 @@ fn node_mask(words: &[u32], at: usize) -> u64
     list_mask(&words[at..], obligation_count(words[at]))
 }
 
-// The mask with the first `count` bytes.
-fn bytes_mask(mask: u64, buf: &[u8], count: usize) -> u64
-    requires { count ≤ length buf.now }
-    ensures { Masked mask (take count buf.now) result }
+// The mask with these obligations.
+fn bytes_mask(mask: u64, bytes: &[u8]) -> u64
+    ensures { Masked mask bytes.now result }
 {
     let mut all = mask;
-    let mut i = 0;
-    while i < count {
-        all = with_bit(all, buf[i]);
-        i += 1;
+    for obligation in bytes {
+        all = with_bit(all, *obligation);
     }
     all
 }
@@ -248,10 +232,8 @@ fn append_list(union: Union, node: &[u32], count: usize, buf: &mut [u8]) -> Unio
     ensures { Grown (obligation_fields count (drop 2 node.now)) buf.old buf.new union result }
 {
     let mut all = union;
-    let mut i = 0;
-    while i < count {
+    for i in 0..count {
         all = append(all, obligation_at(node, i), buf);
-        i += 1;
     }
     all
 }
@@ -273,11 +255,9 @@ fn append_bytes(union: Union, more: usize, buf: &mut [u8]) -> Union
     ensures { Grown (take more (drop obligation_room buf.old)) buf.old buf.new union result }
 {
     let mut all = union;
-    let mut i = 0;
-    while i < more {
+    for i in 0..more {
         let obligation = buf[OBLIGATION_ROOM + i];
         all = append(all, obligation, buf);
-        i += 1;
     }
     all
 }
@@ -303,7 +283,7 @@ fn unite(words: &[u32], sofar: Decision, incoming: Decision, buf: &mut [u8]) -> 
     ensures { Both words.now sofar incoming buf.old buf.new result }
 {
     let count = sofar.united;
-    let mask = bytes_mask(node_mask(words, sofar.obligations), buf, count);
+    let mask = bytes_mask(node_mask(words, sofar.obligations), &buf[..count]);
     let union = append_node(Union { mask, count }, words, incoming.obligations, buf);
     let all = append_bytes(union, incoming.united, buf);
     all.count
@@ -315,12 +295,16 @@ pub fn keep(incoming: Decision, buf: &mut [u8]) -> Decision
     ensures { Kept incoming buf.old buf.new result }
 {
     let count = incoming.united;
-    let mut at = 0;
-    while at < count {
-        buf[at] = buf[OBLIGATION_ROOM + at];
-        at += 1;
-    }
+    let (front, later) = buf.split_at_mut(OBLIGATION_ROOM);
+    front[..count].copy_from_slice(&later[..count]);
     incoming
+}
+
+// Whether two outcomes are equal, by the function of their type.
+fn same_outcome(a: u16, b: u16) -> bool
+    ensures { result ≡ eqb a b }
+{
+    Products { bits: a }.same(Products { bits: b })
 }
 
 // Two permits under All, whose outcomes meet in `outcome`. The permit so far has its buffer at the front, the incoming one from the second room on; the result has it at the front.
@@ -335,20 +319,13 @@ pub fn meet(
     ensures few { Few result }
     ensures folds { (g : Option OutcomeTable) → outcome ≡ meet_of g sofar.outcome incoming.outcome → Folded (meet_permit g) words.now buf.old buf.new sofar incoming result }
 {
-    let earlier = Products {
-        bits: sofar.outcome,
-    };
-    let later = Products {
-        bits: incoming.outcome,
-    };
-    let both = Products { bits: outcome };
-    if both.same(earlier) {
-        return sofar;
+    if same_outcome(outcome, sofar.outcome) {
+        return sofar; // also where it equals both
     }
-    if both.same(later) {
+    if same_outcome(outcome, incoming.outcome) {
         return keep(incoming, buf);
     }
-    permitted(both.bits, words.len())
+    permitted(outcome, words.len())
 }
 
 // Two permits under Any, whose outcomes join in `outcome`, with the buffers as in `meet`.
@@ -363,29 +340,19 @@ pub fn join(
     ensures few { Few result }
     ensures folds { (g : Option OutcomeTable) → outcome ≡ join_of g sofar.outcome incoming.outcome → Folded (join_permit g) words.now buf.old buf.new sofar incoming result }
 {
-    let earlier = Products {
-        bits: sofar.outcome,
-    };
-    let later = Products {
-        bits: incoming.outcome,
-    };
-    let either = Products { bits: outcome };
-    let none = words.len();
-    if either.same(earlier) {
-        if either.same(later) {
-            if unobliged(words, incoming) {
-                sofar
-            } else {
-                let united = unite(words, sofar, incoming, buf);
-                with_united(either.bits, sofar.clause, sofar.obligations, united)
-            }
-        } else {
-            sofar
+    if same_outcome(outcome, sofar.outcome) {
+        if !same_outcome(outcome, incoming.outcome) {
+            return sofar;
         }
-    } else if either.same(later) {
-        keep(incoming, buf)
-    } else {
-        let count = unite(words, sofar, incoming, buf);
-        with_united(either.bits, none, sofar.obligations, count)
+        if unobliged(words, incoming) {
+            return sofar;
+        }
+        let united = unite(words, sofar, incoming, buf);
+        return with_united(outcome, sofar.clause, sofar.obligations, united);
     }
+    if same_outcome(outcome, incoming.outcome) {
+        return keep(incoming, buf);
+    }
+    let united = unite(words, sofar, incoming, buf);
+    with_united(outcome, words.len(), sofar.obligations, united)
 }

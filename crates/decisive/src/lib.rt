@@ -52,15 +52,13 @@ fn negated(inner: Named) -> Named
     }
 }
 
-// Moves `count` facts from `from` on down to the start.
+// Moves `count` facts from `from` on down to the start. The library has no `copy_within`, so this is a loop.
 fn slide(out: &mut [u16], from: usize, count: usize)
     requires { from + count ≤ length out.old }
     ensures { take count out.new ≡ take count (drop from out.old) }
 {
-    let mut i = 0;
-    while i < count {
+    for i in 0..count {
         out[i] = out[from + i];
-        i += 1;
     }
 }
 
@@ -129,22 +127,19 @@ fn decisive_arms(
     ensures { DecisiveArms (table_of facts.now) stop at (many cnil ccons (read_condition depth) arms (drop at words.now)) out.new result }
 {
     let mut next = at;
-    let mut left = arms;
     let mut count = 0;
-    while left != 0 {
+    for left in (0..arms).rev() {
         let arm = decisive_arm(words, next, depth, facts, &mut out[count..]);
         next = arm.next;
-        left -= 1;
-        let more = arm.count;
         if arm.satisfied == stop {
-            slide(out, count, more);
+            slide(out, count, arm.count);
             return Named {
                 satisfied: stop,
                 next: policy_model::skip_conditions(words, next, left),
-                count: more,
+                count: arm.count,
             };
         }
-        count += more;
+        count += arm.count;
     }
     Named {
         satisfied: !stop,

@@ -1,10 +1,9 @@
 -- What is said of a required set, of two tables and of two runs. Request 13.
-use Rattle.std.specs.Prelude.{◌≡◌, List, ℕ, ◌-◌, ◌/◌, ◌%◌, ◌<◌, get_or, take}
+use Rattle.std.specs.Prelude.{◌≡◌, Ok, List, ℕ, ◌-◌, ◌/◌, ◌%◌, ◌<◌, get_or, take}
 use Rattle.model.specs.Fields.{bits}
 use Rattle.model.specs.Facts.{fact_count, table_of}
 use Rattle.model.specs.Policy.{Policy}
 use Rattle.laws.specs.Names.{Names}
-use Rattle.answer.specs.declared.Answer.TheVariants.{Written}
 use Rattle.stages.specs.Runs.{Run}
 
 -- A fact's bit in a set of sixteen numbers: fact 0 is the top bit of the first.
@@ -23,5 +22,5 @@ AlikeOn set one two = (f : ℕ) → f < fact_count → bit_of set f ≡ 1 → ta
 -- Two runs returned the same, and left the same words at the front of their outputs; the same output, if it was the same before.
 pub record SameRun (s s' : Run) : Type 0 where
   pub answers : s.answer ≡ s'.answer
-  pub words : (n : ℕ) → s.answer ≡ Written n → take n s.after ≡ take n s'.after
+  pub words : (n : ℕ) → s.answer ≡ Ok n → take n s.after ≡ take n s'.after
   pub outputs : s.before ≡ s'.before → s.after ≡ s'.after

@@ -23,8 +23,8 @@ use Rattle.policy_model.specs.declared.PolicyHead.TheVariants.{All, Any, OrElse}
 use Rattle.policy_model.specs.Heads.{policy_node}
 use Rattle.policy_model.specs.Span.{Skipped}
 use Rattle.policy_model.proofs.Policies.{policy_leaves}
-use Rattle.condition.specs.Listing.{Lent}
-use Rattle.condition.proofs.Listing.{consults_none, consults_then, consults_as}
+use Rattle.consulted.specs.Listing.{Lent}
+use Rattle.consulted.proofs.Listing.{consults_none, consults_then, consults_as}
 use Rattle.decision.specs.declared.Decision.{Decision}
 use Rattle.decision.specs.Nodes.{clause_at}
 use Rattle.decision.specs.Meaning.{denied_at, permit_of, decision_of, past, Sound}
@@ -99,10 +99,10 @@ module _ (g : Option OutcomeTable) (T : Table) (value others : Policies Outcome 
       }
 
 -- No arm is left: the decision so far is the answer.
-pub arms_none : (T : Table) (value : Policies Outcome → Decided Outcome) (reads : Policies Outcome → Consulted → Consulted) (W : List ℕ) (sofar : Decision) (before : List ℕ) (at depth : ℕ) (arms count : ℕ) (s : Lent) →
+pub arms_none : (T : Table) (value : Policies Outcome → Decided Outcome) (reads : Policies Outcome → Consulted → Consulted) (W : List ℕ) (sofar : Decision) (before : List ℕ) (at depth : ℕ) (arms : ℕ) (s : Lent) →
     arms ≡ 0 → sofar.united ≤ obligation_room → decision_of W T before sofar ≡ value pnil → ((l : Consulted) → reads pnil l ≡ l) →
-    ArmsLeft value reads T W sofar before at depth arms s (eval_of sofar at count) s before
-arms_none T value reads W sofar before at depth arms count s z few v e = record {
+    ArmsLeft value reads T W sofar before at depth arms s (eval_of sofar at) s before
+arms_none T value reads W sofar before at depth arms s z few v e = record {
   few = few;
   says = λ sound. rw z (fine (record { decision_is = v; sound = sound; next_is = omega arith; log = consults_as e consults_none }));
 }
@@ -113,10 +113,10 @@ unfolding Skipped
 skipped size at n (refuse k) h = nothing
 skipped size at n (got a rest) h = fine h
 
-pub arms_passed : (T : Table) (W : List ℕ) (d : Decision) (buf : List ℕ) (at depth : ℕ) (arms next count : ℕ) (s : Lent) → d.united ≤ obligation_room →
+pub arms_passed : (T : Table) (W : List ℕ) (d : Decision) (buf : List ℕ) (at depth : ℕ) (arms next : ℕ) (s : Lent) → d.united ≤ obligation_room →
     ((depth : ℕ) (res : Bool) → Skipped wordss at (many pnil pcons (read_policy res depth) arms (drop at W)) next) →
-    ArmsLeft (λ _. decision_of W T buf d) (λ _ l. l) T W d buf at depth arms s (eval_of d next count) s buf
-arms_passed T W d buf at depth arms next count s few k = record {
+    ArmsLeft (λ _. decision_of W T buf d) (λ _ l. l) T W d buf at depth arms s (eval_of d next) s buf
+arms_passed T W d buf at depth arms next s few k = record {
   few = few;
   says = λ sound. weaker (many pnil pcons (read_policy true depth) arms (drop at W))
       (λ ps rest e. record { decision_is = refl; sound = sound; next_is = e; log = consults_none })
@@ -255,7 +255,7 @@ module _ (g : Option OutcomeTable) (T : Table) (W : List ℕ) (at depth : ℕ) (
   one = read_policy true depth
 
   pub or_permits : (next : ℕ) → a.decision.permit ≡ true →
-      ((depth : ℕ) (res : Bool) → Skipped wordss a.next (many pnil pcons (read_policy res depth) 1 (drop a.next W)) next) → EvaluatesBy g OrElse T W at depth s (eval_of a.decision next a.count) m mid
+      ((depth : ℕ) (res : Bool) → Skipped wordss a.next (many pnil pcons (read_policy res depth) 1 (drop a.next W)) next) → EvaluatesBy g OrElse T W at depth s (eval_of a.decision next) m mid
   unfolding policy_node
   or_permits end q k = record {
     few = first.few;
@@ -291,10 +291,8 @@ module _ (g : Option OutcomeTable) (T : Table) (W : List ℕ) (at depth : ℕ) (
         }))));
   }
 
--- ---- a loop over arms: what was lent is s and buf₀, and is u and buf now; what answers for the arms that are left answers for all
-pub record Going (Left Whole : PolicyEval → Lent → List ℕ → Type 0) (s u : Lent) (sofar : Decision) (buf₀ buf : List ℕ) : Type 0 where
-  pub entries_long : length u.entries ≡ length s.entries
-  pub seen_long : length u.seen ≡ length s.seen
+-- ---- a loop over arms: the buffer was buf₀, and is buf now; what answers for the arms that are left answers for all
+pub record Going (Left Whole : PolicyEval → Lent → List ℕ → Type 0) (sofar : Decision) (buf₀ buf : List ℕ) : Type 0 where
   pub buf_long : length buf ≡ length buf₀
   pub few : sofar.united ≤ obligation_room
   pub goes : (r : PolicyEval) (t : Lent) (end : List ℕ) → Left r t end → Whole r t end

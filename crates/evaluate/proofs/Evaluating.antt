@@ -26,9 +26,9 @@ use Rattle.policy_model.specs.Heads.{policy_head, policy_node}
 use Rattle.policy_model.specs.HeadLaws.{policy_deep, permit_word}
 use Rattle.policy_model.proofs.Checking.{no_word}
 use Rattle.condition.specs.declared.ConditionEval.{ConditionEval}
-use Rattle.condition.specs.Listing.{Lent, lent}
+use Rattle.consulted.specs.Listing.{Lent}
 use Rattle.condition.specs.Evaluating.{is_satisfied, Evaluated, EvaluatesC}
-use Rattle.condition.proofs.Listing.{consults_none, consults_as}
+use Rattle.consulted.proofs.Listing.{consults_none, consults_as}
 use Rattle.decision.specs.Nodes.{node_at}
 use Rattle.decision.specs.Meaning.{denied_at, permitted_at, decision_of, past, reads, Sound}
 use Rattle.decision.proofs.Standing.{node_reads, as_permit, denied_is, denied_grant, denied_stored, permitted_is, permitted_grant, permitted_stored, sound_denied, sound_permitted}
@@ -60,15 +60,12 @@ module _ (g : Option OutcomeTable) (T : Table) (W : List ℕ) (at depth : ℕ) (
   by_head h f e a = record { few = a.few; says = in_sheet depth (drop at W) (one_level depth (drop at W) f (a.says e)) }
 
 -- ---- words that don't read, and nodes without parts
-module _ (g : Option OutcomeTable) (T : Table) (W : List ℕ) (at depth : ℕ) (next count : ℕ) (entries seen buf : List ℕ) where
-  abbrev s : Lent
-  s = lent count entries seen
-
+module _ (g : Option OutcomeTable) (T : Table) (W : List ℕ) (at depth : ℕ) (next : ℕ) (s : Lent) (buf : List ℕ) where
   abbrev none : ℕ
   none = length W
 
   abbrev stop : PolicyEval
-  stop = eval_of (denied_at none none) next count
+  stop = eval_of (denied_at none none) next
 
   pub eval_end : length W ≤ at → EvaluatesP g T W at depth s stop s buf
   eval_end h = record {
@@ -88,7 +85,7 @@ module _ (g : Option OutcomeTable) (T : Table) (W : List ℕ) (at depth : ℕ) (
     unfolding policy_node
     eval_bad_field = record { few = omega arith; says = λ e. node_holds W at depth BadField lt e nothing }
 
-    pub eval_permit : (o : ℕ) → next ≡ at + 1 → EvaluatesBy g (Permit o) T W at depth s (eval_of (permitted_at o none none 0) next count) s buf
+    pub eval_permit : (o : ℕ) → next ≡ at + 1 → EvaluatesBy g (Permit o) T W at depth s (eval_of (permitted_at o none none 0) next) s buf
     unfolding policy_node
     eval_permit o n = record {
       few = omega arith;
@@ -113,12 +110,12 @@ module _ (g : Option OutcomeTable) (T : Table) (W : List ℕ) (at depth : ℕ) (
     }
 
 -- A word that one division shows to be a Permit.
-pub eval_permit_word : (g : Option OutcomeTable) (T : Table) (W : List ℕ) (at depth count : ℕ) (entries seen buf : List ℕ) → at < length W → get_or W at 0 / 65536 ≡ 24576 →
-    EvaluatesP g T W at depth (lent count entries seen) (eval_of (permitted_at (get_or W at 0 % 65536) (length W) (length W) 0) (at + 1) count) (lent count entries seen) buf
-eval_permit_word g T W at zero count entries seen buf lt e = record { few = omega arith; says = λ res. no_levels res (drop at W) }
-eval_permit_word g T W at (suc depth) count entries seen buf lt e =
+pub eval_permit_word : (g : Option OutcomeTable) (T : Table) (W : List ℕ) (at depth : ℕ) (s : Lent) (buf : List ℕ) → at < length W → get_or W at 0 / 65536 ≡ 24576 →
+    EvaluatesP g T W at depth s (eval_of (permitted_at (get_or W at 0 % 65536) (length W) (length W) 0) (at + 1)) s buf
+eval_permit_word g T W at zero s buf lt e = record { few = omega arith; says = λ res. no_levels res (drop at W) }
+eval_permit_word g T W at (suc depth) s buf lt e =
     by_head g T W at (suc depth) _ _ _ buf (Permit (get_or W at 0 % 65536)) (λ z. omega arith) (permit_word (get_or W at 0) true e)
-    (eval_permit g T W at (suc depth - 1) (at + 1) count entries seen buf lt (get_or W at 0 % 65536) refl)
+    (eval_permit g T W at (suc depth - 1) (at + 1) s buf lt (get_or W at 0 % 65536) refl)
 
 -- ---- a grant
 -- The answer to a grant at `at`, by the answer to its condition.
@@ -134,7 +131,7 @@ module _ (T : Table) (W : List ℕ) (at : ℕ) (buf : List ℕ) (k : Clause Outc
   granted_sound false = sound_denied W buf at (length W) (reads (grant k c) rest node) (omega arith)
 
   granted_answers : (g : Option OutcomeTable) (a : ConditionEval) (s t : Lent) (end : ℕ) → Evaluated (is_satisfied (eval_condition T c)) end (read_c T c) s a t → end ≡ at + words (grant k c) →
-      Answered g T W at s (eval_of (granted_at a.satisfied k.outcome at (length W)) a.next a.count) t buf (grant k c) rest
+      Answered g T W at s (eval_of (granted_at a.satisfied k.outcome at (length W)) a.next) t buf (grant k c) rest
   granted_answers g a s t end h e = record {
     decision_is = granted_is a.satisfied (eval_condition T c) refl h.satisfied_is;
     sound = granted_sound a.satisfied;
@@ -187,13 +184,13 @@ module _ (g : Option OutcomeTable) (T : Table) (W : List ℕ) (at depth : ℕ) (
       (node_knows W at depth (Grant hidden n o) lt e (grant_reads depth hidden n o (drop (at + 1) W)))
 
   pub grant_decides : (a : ConditionEval) (s t : Lent) (buf : List ℕ) → EvaluatesC T W (at + (2 + (n + 3) / 4)) depth s a t →
-      EvaluatesBy g (Grant hidden n o) T W at depth s (eval_of (granted_at a.satisfied o at (length W)) a.next a.count) t buf
+      EvaluatesBy g (Grant hidden n o) T W at depth s (eval_of (granted_at a.satisfied o at (length W)) a.next) t buf
   grant_decides a s t buf c = record {
     few = granted_few a.satisfied o at (length W);
     says = λ e. weaker (policy_at W at (suc depth)) (λ p rest f.
         let clause = f.clause in
-        subst (λ q. Answered g T W at s (eval_of (granted_at a.satisfied o at (length W)) a.next a.count) t buf q rest) (sym f.policy_is)
-        (subst (λ i. Answered g T W at s (eval_of (granted_at a.satisfied i at (length W)) a.next a.count) t buf (grant clause f.inner) rest) f.outcome_is
+        subst (λ q. Answered g T W at s (eval_of (granted_at a.satisfied o at (length W)) a.next) t buf q rest) (sym f.policy_is)
+        (subst (λ i. Answered g T W at s (eval_of (granted_at a.satisfied i at (length W)) a.next) t buf (grant clause f.inner) rest) f.outcome_is
         (granted_answers T W at buf clause f.inner rest f.node g a s t _ f.answer (sym f.words_are)))) (grant_known a s t c e);
   }
 
@@ -215,16 +212,16 @@ module _ (g : Option OutcomeTable) (T : Table) (W : List ℕ) (at depth : ℕ) (
           absurd (omega (arith, f.fits, length-drop (at + 1) W, w))) (permit_reads n o (drop (at + 1) W)));
     }
 
-    pub permit_stored : (next count : ℕ) → next ≡ at + (2 + (n + 3) / 4 + (get_or W (at + 1) 0 % 4096 + 1) / 2) →
-        EvaluatesBy g (PermitWithTrace n o) T W at depth s (eval_of (permitted_at o at at 0) next count) s buf
+    pub permit_stored : (next : ℕ) → next ≡ at + (2 + (n + 3) / 4 + (get_or W (at + 1) 0 % 4096 + 1) / 2) →
+        EvaluatesBy g (PermitWithTrace n o) T W at depth s (eval_of (permitted_at o at at 0) next) s buf
     unfolding policy_node
-    permit_stored next count i = record {
+    permit_stored next i = record {
       few = omega arith;
       says = λ e. weaker (policy_at W at (suc depth)) (λ p rest h.
           let f = h.1 in
           let w : get_or (drop (at + 1) W) 0 0 ≡ get_or W (at + 1) 0 = after_first 0 (at + 1) (omega arith) in
           let node : node_at W at ≡ got (stored (permits f.was)) rest = node_reads W at (suc depth) true (stored (permits f.was)) rest (omega arith) (h.0 ∙ ap (λ x. got x rest) f.policy_is) in
-          subst (λ q. Answered g T W at s (eval_of (permitted_at o at at 0) next count) s buf q rest) (sym f.policy_is) (record {
+          subst (λ q. Answered g T W at s (eval_of (permitted_at o at at 0) next) s buf q rest) (sym f.policy_is) (record {
             decision_is = ap (λ x. decision_of W T buf (permitted_at x at at 0)) (sym f.outcome_is) ∙ permitted_stored W T buf at f.was rest node;
             sound = sound_permitted W buf o at (reads (stored (permits f.was)) rest node);
             next_is = omega (arith, i, f.long, f.facts_long, w);
@@ -244,16 +241,16 @@ module _ (g : Option OutcomeTable) (T : Table) (W : List ℕ) (at depth : ℕ) (
           absurd (omega (arith, f.fits, length-drop (at + 1) W, w))) (deny_reads hidden denied o (drop (at + 1) W)));
     }
 
-    pub deny_stored : (next count : ℕ) → next ≡ at + (3 + (get_or W (at + 2) 0 % 4096 + 1) / 2) →
-        EvaluatesBy g (DenyWithTrace hidden denied o) T W at depth s (eval_of (denied_at at (length W)) next count) s buf
+    pub deny_stored : (next : ℕ) → next ≡ at + (3 + (get_or W (at + 2) 0 % 4096 + 1) / 2) →
+        EvaluatesBy g (DenyWithTrace hidden denied o) T W at depth s (eval_of (denied_at at (length W)) next) s buf
     unfolding policy_node
-    deny_stored next count i = record {
+    deny_stored next i = record {
       few = omega arith;
       says = λ e. weaker (policy_at W at (suc depth)) (λ p rest h.
           let f = h.1 in
           let w : get_or (drop (at + 1) W) 1 0 ≡ get_or W (at + 2) 0 = after_first 1 (at + 2) (omega arith) in
           let node : node_at W at ≡ got (stored (denies f.was)) rest = node_reads W at (suc depth) true (stored (denies f.was)) rest (omega arith) (h.0 ∙ ap (λ x. got x rest) f.policy_is) in
-          subst (λ q. Answered g T W at s (eval_of (denied_at at (length W)) next count) s buf q rest) (sym f.policy_is) (record {
+          subst (λ q. Answered g T W at s (eval_of (denied_at at (length W)) next) s buf q rest) (sym f.policy_is) (record {
             decision_is = denied_stored W T buf at (length W) f.was rest node;
             sound = sound_denied W buf at (length W) (reads (stored (denies f.was)) rest node) (omega arith);
             next_is = omega (arith, i, f.facts_long, w);

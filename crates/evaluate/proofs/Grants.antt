@@ -14,7 +14,7 @@ use Rattle.policy_model.specs.declared.PolicyHead.{PolicyHead}
 use Rattle.policy_model.specs.declared.PolicyHead.TheVariants.{Permit, Deny, Grant, All, Any, OrElse, PermitWithTrace, DenyWithTrace, BadKind, BadField}
 use Rattle.policy_model.specs.Heads.{policy_head, policy_heads, permit_head, grant_head, permit_trace_head, deny_trace_head}
 use Rattle.grant.specs.Fields.{outcome_at, obligations_at}
-use Rattle.condition.specs.Listing.{Lent}
+use Rattle.consulted.specs.Listing.{Lent}
 use Rattle.evaluate.specs.declared.PolicyEval.{PolicyEval}
 use Rattle.evaluate.specs.Evaluating.{EvaluatesBy}
 

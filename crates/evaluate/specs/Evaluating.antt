@@ -10,15 +10,15 @@ use Rattle.laws.proofs.FieldLaws.{Holds}
 use Rattle.laws.specs.Size.{words}
 use Rattle.policy_model.specs.declared.PolicyHead.{PolicyHead}
 use Rattle.policy_model.specs.Heads.{policy_head}
-use Rattle.condition.specs.Listing.{Lent, Consults}
+use Rattle.consulted.specs.Listing.{Lent, Consults}
 use Rattle.decision.specs.declared.Decision.{Decision}
 use Rattle.decision.specs.Meaning.{denied_at, permitted_at, decision_of, Sound}
 use Rattle.decision.specs.Room.{obligation_room, Few}
 use Rattle.evaluate.specs.declared.PolicyEval.{PolicyEval}
 use Rattle.evaluate.specs.Folding.{meet_next}
 
-abbrev pub eval_of : Decision → ℕ → ℕ → PolicyEval
-eval_of decision next count = record { decision = decision; next = next; count = count }
+abbrev pub eval_of : Decision → ℕ → PolicyEval
+eval_of decision next = record { decision = decision; next = next }
 
 -- The decision of a grant at `at` on the outcome o, by whether its condition is satisfied.
 abbrev pub granted_at : Bool → ℕ → ℕ → ℕ → Decision

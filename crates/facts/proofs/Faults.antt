@@ -25,10 +25,6 @@ no_fault_or : (a b : Option ℕ) → no_fault (or_fault a b) ≡ (no_fault a && 
 no_fault_or none b = refl
 no_fault_or (some n) b = refl
 
-pub none_is : (a : Option ℕ) → no_fault a ≡ true → a ≡ none
-none_is none h = refl
-none_is (some n) h = let z : ◌≡◌ {A = ℕ} 0 1 = cc in absurd (omega arith)
-
 -- ---- a test of each number below a bound, computed
 both_left : (a b : Bool) → (a && b) ≡ true → a ≡ true
 both_left true b t = refl

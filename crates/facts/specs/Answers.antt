@@ -6,8 +6,6 @@ use Rattle.model.specs.Consulted.{Entry}
 use Rattle.model.specs.Writing.{presence_field}
 use Rattle.facts.specs.declared.Presence.{Presence}
 use Rattle.facts.specs.declared.Presence.TheVariants.{Absent, Present, Unknown, Silent}
-use Rattle.facts.specs.declared.TableFault.{TableFault}
-use Rattle.facts.specs.declared.TableFault.TheVariants.{Faultless, Refused}
 use Rattle.facts.specs.declared.TableKind.{TableKind}
 use Rattle.facts.specs.declared.TableKind.TheVariants.{Partial, Known}
 
@@ -49,11 +47,7 @@ abbrev pub kind_of : TableKind → model.TableKind
 kind_of Partial = model.partial_facts
 kind_of Known = model.known_facts
 
--- The number of the refusal, if there is one; and whether there is none.
-abbrev pub fault_of : TableFault → Option ℕ
-fault_of Faultless = none
-fault_of (Refused n) = some n
-
+-- Whether there is no fault.
 abbrev pub no_fault : Option ℕ → Bool
 no_fault none = true
 no_fault (some n) = false

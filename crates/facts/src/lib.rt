@@ -4,18 +4,21 @@
 ghost use Rattle.std.specs.Prelude.{◌≡◌, ◌/◌, ◌≤◌, ◌<◌, eqb, length, get_or};
 ghost use Rattle.model.specs.Fields.{split};
 ghost use Rattle.model.specs.Facts.{fact_count, table_fields, table_of, field_fault, first_fault, table_bytes, table_fault};
-ghost use Rattle.model.specs.Facts.{partial_facts, known_facts};
+ghost use Rattle.model.specs.Facts.{partial_facts};
 ghost use Rattle.model.specs.Consulted.{contradicts};
 ghost use Rattle.model.specs.Writing.{entry_field, seen_in};
-ghost use Rattle.facts.specs.Answers.{presence_of, presence_number, Reads, entry_of, is_present, is_settled, kind_of, fault_of, no_fault};
+ghost use Rattle.facts.specs.Answers.{presence_of, presence_number, Reads, entry_of, is_present, is_settled, kind_of, no_fault};
+ghost use Rattle.refusal.specs.Numbers.{refused};
+
+use refusal::Refusal;
 
 // What a table says of a fact: 0, 1 and 2 in a table and in a consulted entry. Silent, where the table ended before the fact, is 3 in an entry alone.
-#[derive(Drop)]
+#[derive(Clone, Copy, PartialEq, Eq)]
 pub enum Presence {
-    Absent,
-    Present,
-    Unknown,
-    Silent,
+    Absent = 0,
+    Present = 1,
+    Unknown = 2,
+    Silent = 3,
 }
 
 // How many presences there are.
@@ -26,19 +29,12 @@ pub const ABOVE_FACT: u32 = 16384;
 
 const ABOVE_FACT_16: u16 = ABOVE_FACT as u16;
 
-// Whether a table is turned back, and the number for which it is.
-#[derive(Drop)]
-pub enum TableFault {
-    Faultless,
-    Refused(u32),
-}
-
 // A table has at most this many bytes.
 pub const TABLE_BYTES: usize = 256;
 
 // A known table holds no Unknown.
-#[derive(Clone, Copy)]
-enum TableKind {
+#[derive(Clone, Copy, PartialEq, Eq)]
+pub enum TableKind {
     Partial,
     Known,
 }
@@ -47,11 +43,10 @@ enum TableKind {
 fn field(facts: &[u8], fact: u32) -> u8
     ensures { result ≡ get_or (table_fields facts.now) fact 0 }
 {
-    let at = (fact / 4) as usize;
-    if facts.len() <= at {
-        return 0;
+    match facts.get((fact / 4) as usize) {
+        Some(byte) => (*byte >> (6 - fact % 4 * 2)) % 4,
+        None => 0,
     }
-    (facts[at] >> (6 - fact % 4 * 2)) % 4
 }
 
 impl Presence {
@@ -59,12 +54,7 @@ impl Presence {
     fn number(self) -> u16
         ensures { result ≡ presence_number self }
     {
-        match self {
-            Presence::Absent => 0,
-            Presence::Present => 1,
-            Presence::Unknown => 2,
-            Presence::Silent => 3,
-        }
+        self as u16
     }
 
     // What the table says of a fact. A field of 3, which no accepted table holds, reads Unknown.
@@ -81,11 +71,14 @@ impl Presence {
         }
     }
 
-    // Whether one is Present and the other Absent: the numbers of no other two add to 1.
+    // Whether one is Present and the other Absent.
     pub fn contradicts(self, other: Presence) -> bool
         ensures { result ≡ contradicts (presence_of self) (presence_of other) }
     {
-        self.number() + other.number() == 1
+        matches!(
+            (self, other),
+            (Presence::Present, Presence::Absent) | (Presence::Absent, Presence::Present)
+        )
     }
 }
 
@@ -123,36 +116,26 @@ pub fn settled(facts: &[u8], fact: u32) -> bool
     field(facts, fact) < 2
 }
 
-// The fault of a field.
-fn field_fault(field: u8, kind: TableKind) -> TableFault
-    ensures { fault_of result ≡ field_fault (kind_of kind) field }
+// Whether a field is at fault.
+fn check_field(field: u8, kind: TableKind) -> Result<(), Refusal>
+    ensures { refused result ≡ field_fault (kind_of kind) field }
 {
-    if field < 2 {
-        return TableFault::Faultless;
-    }
-    if field > 2 {
-        return TableFault::Refused(3);
-    }
-    match kind {
-        TableKind::Partial => TableFault::Faultless,
-        TableKind::Known => TableFault::Refused(4),
+    match (field, kind) {
+        (0 | 1, _) | (2, TableKind::Partial) => Ok(()),
+        (2, TableKind::Known) => Err(Refusal::UnknownFact),
+        _ => Err(Refusal::TableField),
     }
 }
 
 // The first fault from fact 0 on.
-fn first_fault(facts: &[u8], kind: TableKind) -> TableFault
+fn check_fields(facts: &[u8], kind: TableKind) -> Result<(), Refusal>
     requires { length facts.now ≤ table_bytes }
-    ensures { fault_of result ≡ first_fault (kind_of kind) (table_fields facts.now) }
+    ensures { refused result ≡ first_fault (kind_of kind) (table_fields facts.now) }
 {
-    let end = facts.len() as u32 * 4;
-    let mut fact = 0;
-    while fact < end {
-        match field_fault(field(facts, fact), kind) {
-            TableFault::Faultless => fact += 1,
-            TableFault::Refused(number) => return TableFault::Refused(number),
-        }
+    for fact in 0..facts.len() as u32 * 4 {
+        check_field(field(facts, fact), kind)?;
     }
-    TableFault::Faultless
+    Ok(())
 }
 
 // A mark in each field of a byte that is 3: such a field has both bits.
@@ -177,37 +160,21 @@ fn faultless(facts: &[u8], kind: TableKind) -> bool
     ensures { result ≡ no_fault (first_fault (kind_of kind) (table_fields facts.now)) }
 {
     let mut marked = 0;
-    let mut i = 0;
-    while i < facts.len() {
-        marked = marked | marks(facts[i], kind);
-        i += 1;
+    for byte in facts {
+        marked |= marks(*byte, kind);
     }
     marked == 0
 }
 
 // The fault of a table. Its fields are looked at one by one only where there is a fault among them.
-fn table_fault(facts: &[u8], kind: TableKind) -> TableFault
-    ensures { fault_of result ≡ table_fault (kind_of kind) facts.now }
+pub fn check_table(facts: &[u8], kind: TableKind) -> Result<(), Refusal>
+    ensures { refused result ≡ table_fault (kind_of kind) facts.now }
 {
     if facts.len() > TABLE_BYTES {
-        return TableFault::Refused(2);
+        return Err(Refusal::TableLength);
     }
     if faultless(facts, kind) {
-        return TableFault::Faultless;
+        return Ok(());
     }
-    first_fault(facts, kind)
-}
-
-// The fault of a partial table.
-pub fn partial_fault(facts: &[u8]) -> TableFault
-    ensures { fault_of result ≡ table_fault partial_facts facts.now }
-{
-    table_fault(facts, TableKind::Partial)
-}
-
-// The fault of a known table.
-pub fn known_fault(facts: &[u8]) -> TableFault
-    ensures { fault_of result ≡ table_fault known_facts facts.now }
-{
-    table_fault(facts, TableKind::Known)
+    check_fields(facts, kind)
 }

@@ -1,9 +1,12 @@
 // A grant, after gatekeep's `GrantRef`: the lent words and the place of the grant's first word. Its methods take it apart and leave the work to
-// functions on the words and the place. The functions at the end are for callers that have no `GrantRef`.
+// functions on the words and the place, the form that document 01 asks for. The functions at the end are for callers that have no `GrantRef`.
 #![tactic(auto)]
 
 ghost use Rattle.std.specs.Prelude.{◌≡◌};
 ghost use Rattle.grant.specs.Fields.{outcome_at, before_condition_at};
+
+// The levels that a grant leaves to its condition.
+pub const CONDITION_LEVELS: usize = policy_model::LEVELS - 1;
 
 #[derive(Drop)]
 pub struct GrantRef<'a> {

@@ -2,16 +2,17 @@
 // loops that have no way out before their end, so they are compiled to work on many bytes at a time.
 #![tactic(auto)]
 
-ghost use Rattle.std.specs.Prelude.{◌≡◌, ◌&&◌, true, [], ◌≤◌, eqb, length, take, drop, replicate};
+ghost use Rattle.std.specs.Prelude.{◌≡◌, ◌&&◌, true, [], ◌≤◌, eqb, length, take, drop};
 ghost use Rattle.model.specs.Facts.{table_fields};
 ghost use Rattle.model.specs.Join.{joined_bytes, join_fault, join_tables};
-ghost use Rattle.facts.specs.Answers.{fault_of};
 ghost use Rattle.packing.specs.Written.{Written};
 ghost use Rattle.answer.specs.Answers.{Answered, copied};
+ghost use Rattle.refusal.specs.Numbers.{refused};
 ghost use Rattle.join.specs.Joining.{agree, bytes_agree, join_byte, Clean, NoThree, Judged};
 
 use answer::Answer;
-use facts::TableFault;
+use facts::TableKind;
+use refusal::Refusal;
 
 // A mark in each field that is Present in one byte and Absent in the other: there, and nowhere else, the bits that differ are 1, which `^ 2` makes 3.
 fn clash_marks(a: u8, b: u8) -> u8
@@ -35,10 +36,8 @@ fn agree_in_both(longer: &[u8], shorter: &[u8]) -> bool
     ensures { agree (table_fields longer.now) (table_fields shorter.now) ≡ (result && agree (table_fields (drop (length shorter.now) longer.now)) []) }
 {
     let mut marked = 0;
-    let mut i = 0;
-    while i < shorter.len() {
-        marked = marked | clash_marks(longer[i], shorter[i]);
-        i += 1;
+    for (i, byte) in shorter.iter().enumerate() {
+        marked |= clash_marks(longer[i], *byte);
     }
     marked == 0
 }
@@ -49,10 +48,8 @@ fn agree_after(longer: &[u8], from: usize) -> bool
     ensures { result ≡ agree (table_fields (drop from longer.now)) [] }
 {
     let mut marked = 0;
-    let mut i = from;
-    while i < longer.len() {
-        marked = marked | clash_marks(longer[i], 0);
-        i += 1;
+    for byte in &longer[from..] {
+        marked |= clash_marks(*byte, 0);
     }
     marked == 0
 }
@@ -62,57 +59,33 @@ fn tables_agree(longer: &[u8], shorter: &[u8]) -> bool
     requires { Judged longer.now shorter.now }
     ensures { result ≡ agree (table_fields longer.now) (table_fields shorter.now) }
 {
-    if agree_in_both(longer, shorter) {
-        return agree_after(longer, shorter.len());
-    }
-    false
+    agree_in_both(longer, shorter) && agree_after(longer, shorter.len())
 }
 
 // Why two tables are turned back: a length, a 3 in either, a clash.
-fn judge(longer: &[u8], shorter: &[u8]) -> TableFault
+fn judge(longer: &[u8], shorter: &[u8]) -> Result<(), Refusal>
     requires { length shorter.now ≤ length longer.now }
-    ensures { fault_of result ≡ join_fault longer.now shorter.now }
+    ensures { refused result ≡ join_fault longer.now shorter.now }
 {
     if longer.len() > facts::TABLE_BYTES {
-        return TableFault::Refused(2);
+        return Err(Refusal::TableLength);
     }
-    match facts::partial_fault(longer) {
-        TableFault::Refused(number) => TableFault::Refused(number),
-        TableFault::Faultless => match facts::partial_fault(shorter) {
-            TableFault::Refused(number) => TableFault::Refused(number),
-            TableFault::Faultless => if tables_agree(longer, shorter) {
-                TableFault::Faultless
-            } else {
-                TableFault::Refused(14)
-            },
-        },
+    facts::check_table(longer, TableKind::Partial)?;
+    facts::check_table(shorter, TableKind::Partial)?;
+    if !tables_agree(longer, shorter) {
+        return Err(Refusal::Clash);
     }
+    Ok(())
 }
 
 // Writes the bytes that both tables have, joined.
-fn write_joined(longer: &[u8], shorter: &[u8], out: &mut [u8]) -> usize
+fn write_joined(longer: &[u8], shorter: &[u8], out: &mut [u8])
     requires { Judged longer.now shorter.now × (agree (table_fields longer.now) (table_fields shorter.now) ≡ true) × (length shorter.now ≤ length out.old) }
-    ensures { (result ≡ length shorter.now) × Written (take (length shorter.now) (joined_bytes longer.now shorter.now)) out.old out.new result }
+    ensures { Written (take (length shorter.now) (joined_bytes longer.now shorter.now)) out.old out.new (length shorter.now) }
 {
-    let mut i = 0;
-    while i < shorter.len() {
-        out[i] = join_byte(longer[i], shorter[i]);
-        i += 1;
+    for (i, byte) in shorter.iter().enumerate() {
+        out[i] = join_byte(longer[i], *byte);
     }
-    i
-}
-
-// Writes `count` bytes of Absent.
-fn write_absent(count: usize, out: &mut [u8]) -> usize
-    requires { count ≤ length out.old }
-    ensures { (result ≡ count) × Written (replicate count 0) out.old out.new result }
-{
-    let mut i = 0;
-    while i < count {
-        out[i] = 0;
-        i += 1;
-    }
-    i
 }
 
 // Writes the join of two tables that agree, if there is room for it. Where one has ended, the other is Absent or yields to that.
@@ -121,11 +94,11 @@ fn put_join(longer: &[u8], shorter: &[u8], out: &mut [u8]) -> Answer
     ensures { Answered (copied (joined_bytes longer.now shorter.now) (length out.old)) out.old out.new result }
 {
     if out.len() < longer.len() {
-        return Answer::Refused(11);
+        return Err(Refusal::Room);
     }
-    let both = write_joined(longer, shorter, out);
-    let rest = write_absent(longer.len() - both, &mut out[both..]);
-    Answer::Written(both + rest)
+    write_joined(longer, shorter, out);
+    out[shorter.len()..longer.len()].fill(0);
+    Ok(longer.len())
 }
 
 // Joins two tables, of which the second is not the longer.
@@ -133,10 +106,8 @@ fn join_longer(longer: &[u8], shorter: &[u8], out: &mut [u8]) -> Answer
     requires { length shorter.now ≤ length longer.now }
     ensures { Answered (join_tables longer.now shorter.now (length out.old)) out.old out.new result }
 {
-    match judge(longer, shorter) {
-        TableFault::Refused(number) => Answer::Refused(number),
-        TableFault::Faultless => put_join(longer, shorter, out),
-    }
+    judge(longer, shorter)?;
+    put_join(longer, shorter, out)
 }
 
 // Joins two tables, in either order.

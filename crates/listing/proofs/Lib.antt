@@ -1,3 +1,2 @@
-pub mod Digits
 pub mod Lists
 pub mod Words

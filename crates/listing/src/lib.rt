@@ -1,7 +1,7 @@
 // The listing of the program `sitting`: the bytes of a Resolved record and of a refusal, and the numbers of the program's input.
 #![tactic(auto)]
 
-ghost use Rattle.std.specs.Prelude.{◌≡◌, ◌++◌, ◌+◌, ◌*◌, ◌%◌, ◌<◌, ◌≤◌, length, drop, get_or};
+ghost use Rattle.std.specs.Prelude.{◌≡◌, ◌++◌, ◌+◌, ◌*◌, ◌%◌, ◌<◌, ◌≤◌, length, drop};
 ghost use Rattle.model.specs.Fields.{bits};
 ghost use Rattle.model.specs.Reading.{got, shape_of};
 ghost use Rattle.model.specs.Listing.{digit as digit_of, digits, text, decimal, newline, presence_text, refused_text, number_from};
@@ -35,10 +35,10 @@ fn field_at(words: &[u32], at: usize, place: usize, kind: Listed) -> u32
         Listed::Obligations => (policy_model::word_at(words, at + place / 4)
             >> (24 - place % 4 * 8))
             % policy_model::QUARTER,
-        Listed::Facts => (policy_model::word_at(words, at + place / 2) >> (16 - place % 2 * 16))
-            % policy_model::HALF,
-        Listed::Consulted => (policy_model::word_at(words, at + place / 2) >> (16 - place % 2 * 16))
-            % policy_model::HALF,
+        Listed::Facts | Listed::Consulted => {
+            (policy_model::word_at(words, at + place / 2) >> (16 - place % 2 * 16))
+                % policy_model::HALF
+        }
     }
 }
 
@@ -62,9 +62,9 @@ fn digit(value: u32) -> u8
     ensures { result ≡ digit_of value }
 {
     if value < 10 {
-        48 + value as u8
+        b'0' + value as u8
     } else {
-        55 + value as u8
+        b'A' - 10 + value as u8
     }
 }
 
@@ -73,10 +73,8 @@ fn put_digits(value: u32, base: u32, count: usize, out: &mut [u8]) -> usize
     requires { (0 < base) × (base ≤ 16) × (count ≤ length out.old) }
     ensures { Wrote (digits base count value) out.old out.new result }
 {
-    let mut left = count;
     let mut rest = value;
-    while left > 0 {
-        left -= 1;
+    for left in (0..count).rev() {
         out[left] = digit(rest % base);
         rest /= base;
     }
@@ -87,14 +85,11 @@ fn put_digits(value: u32, base: u32, count: usize, out: &mut [u8]) -> usize
 fn places(value: u32) -> usize
     ensures { (result ≤ 4) × (decimal value ≡ digits 10 result value) }
 {
-    if value < 10 {
-        1
-    } else if value < 100 {
-        2
-    } else if value < 1000 {
-        3
-    } else {
-        4
+    match value {
+        0..=9 => 1,
+        10..=99 => 2,
+        100..=999 => 3,
+        _ => 4,
     }
 }
 
@@ -136,8 +131,7 @@ fn put_field(field: u32, kind: Listed, out: &mut [u8]) -> usize
     ensures { Wrote (field_text kind field) out.old out.new result }
 {
     match kind {
-        Listed::Obligations => put_decimal(field, out),
-        Listed::Facts => put_decimal(field, out),
+        Listed::Obligations | Listed::Facts => put_decimal(field, out),
         Listed::Consulted => put_entry(field, out),
     }
 }
@@ -160,10 +154,8 @@ fn put_fields(words: &[u32], at: usize, count: usize, kind: Listed, out: &mut [u
         return copy(b"-", out);
     }
     let mut n = put_field(field_at(words, at, 0, kind), kind, out);
-    let mut i = 1;
-    while i < count {
+    for i in 1..count {
         n += put_next(field_at(words, at, i, kind), kind, &mut out[n..]);
-        i += 1;
     }
     n
 }
@@ -200,8 +192,7 @@ fn put_permit_lists(words: &[u32], at: usize, out: &mut [u8]) -> usize
     requires { (at < 4096) × (lists_room ≤ length out.old) }
     ensures { Wrote (permit_lists words.now at) out.old out.new result }
 {
-    let obligations = (policy_model::word_at(words, at) / policy_model::OBLIGATIONS
-        % policy_model::OBLIGATION_COUNTS) as usize;
+    let obligations = policy_model::obligations_of(policy_model::word_at(words, at)) as usize;
     let facts = (policy_model::word_at(words, at + 1) % policy_model::COUNTS) as usize;
     let after = at + 2 + (obligations + 3) / 4;
     let n = put_named(
@@ -320,20 +311,12 @@ pub fn list_refusal(number: u32, out: &mut [u8]) -> usize
 
 // ---- the input: numbers, most significant byte first
 
-fn byte_at(input: &[u8], at: usize) -> u32
-    requires { at < length input.now }
-    ensures { (result ≡ get_or input.now at 0) × (result < 256) }
-{
-    input[at] as u32
-}
-
 // The 16 bits at a position.
 pub fn number_at(input: &[u8], at: usize) -> u32
     requires { at + 2 ≤ length input.now }
     ensures { (number_from 0 2 (drop at input.now) ≡ got result (drop (at + 2) input.now)) × (result < 65536) }
 {
-    let upper = byte_at(input, at);
-    upper * 256 + byte_at(input, at + 1)
+    u32::from(u16::from_be_bytes([input[at], input[at + 1]]))
 }
 
 // The 32 bits at a position.
@@ -341,8 +324,7 @@ fn long_at(input: &[u8], at: usize) -> u32
     requires { at + 4 ≤ length input.now }
     ensures { result ≡ word_in input.now at }
 {
-    let upper = byte_at(input, at) * 256 + byte_at(input, at + 1);
-    (upper * 256 + byte_at(input, at + 2)) * 256 + byte_at(input, at + 3)
+    u32::from_be_bytes([input[at], input[at + 1], input[at + 2], input[at + 3]])
 }
 
 // Reads `count` words from a position, and says whether all their bytes are there.
@@ -353,10 +335,8 @@ pub fn read_words(input: &[u8], at: usize, count: usize, out: &mut [u32]) -> boo
     if (input.len() - at) / 4 < count {
         return false;
     }
-    let mut i = 0;
-    while i < count {
-        out[i] = long_at(input, at + 4 * i);
-        i += 1;
+    for (i, word) in out[..count].iter_mut().enumerate() {
+        *word = long_at(input, at + 4 * i);
     }
     true
 }

@@ -1,13 +1,13 @@
 // Outcomes: sets of sixteen products, after gatekeep's outcome type with its `Lattice`; by an outcome table (request 14), levels.
 #![tactic(auto)]
 
-ghost use Rattle.std.specs.Prelude.{◌≡◌, List, [], ◌∷◌, ℕ, ◌≤◌};
+ghost use Rattle.std.specs.Prelude.{◌≡◌, [], ◌∷◌, ◌≤◌};
 ghost use Rattle.model.specs.Outcome.{product_sets, union_of, intersection_of};
-ghost use Rattle.model.specs.Levels.{entry_from, meet_of, join_of, outcome_count};
-ghost use Rattle.outcome.specs.Carried.{table, carried};
+ghost use Rattle.model.specs.Levels.{meet_of, join_of, outcome_count};
+ghost use Rattle.outcome.specs.Carried.{operation_of, table_of, carried};
 
 // An outcome: a set of products, one bit each, or the number of a level.
-#[derive(Clone, Copy)]
+#[derive(Clone, Copy, PartialEq, Eq)]
 pub struct Products {
     pub bits: u16,
 }
@@ -15,32 +15,48 @@ pub struct Products {
 // How many sets of products there are.
 pub const SETS: u32 = 65536;
 
-// How many outcomes there are: by a table of so many levels these, and without one, where `levels` is 0, the sets of products.
-pub fn most(levels: u16) -> u32
-    ensures { (outcomes : List ℕ) → result ≡ outcome_count (carried levels outcomes) }
-{
-    if levels == 0 {
-        return SETS;
-    }
-    levels as u32
+// Levels in place of sets: how many, and a byte for each ordered pair's meet, first level slowest, and then so for join.
+#[derive(Clone, Copy)]
+pub struct OutcomeTable<'a> {
+    pub levels: u16,
+    pub bytes: &'a [u8],
 }
 
-// The byte of a pair of levels in a table, from a place on. Of what is no level there is none: the number of levels, which is no level either, stands for it.
-fn entry(levels: u16, outcomes: &[u8], from: usize, a: u16, b: u16) -> u16
-    requires { from ≤ 4294967296 }
-    ensures { result ≡ entry_from (table levels outcomes.now) from a b }
+#[derive(Clone, Copy)]
+pub enum Operation {
+    Meet,
+    Join,
+}
+
+// How many outcomes there are: by a table its levels, and without one the sets of products.
+pub fn most(outcomes: Option<OutcomeTable<'_>>) -> u32
+    ensures counts { result ≡ outcome_count (carried outcomes.entry) }
+    ensures few { result ≤ 65536 }
 {
-    if a >= levels {
-        return levels;
+    match outcomes {
+        None => SETS,
+        Some(table) => table.levels as u32,
     }
-    if b >= levels {
-        return levels;
+}
+
+impl OutcomeTable<'_> {
+    // What an operation makes of two levels. Of what is no level it makes the number of levels, which is no level either, and past its bytes a table reads 0.
+    pub fn of(self, operation: Operation, a: u16, b: u16) -> u16
+        ensures { result ≡ operation_of operation (table_of self.entry) a b }
+    {
+        if a >= self.levels || b >= self.levels {
+            return self.levels;
+        }
+        let levels = self.levels as usize;
+        let from = match operation {
+            Operation::Meet => 0,
+            Operation::Join => levels * levels,
+        };
+        match self.bytes.get(from + a as usize * levels + b as usize) {
+            Some(level) => *level as u16,
+            None => 0,
+        }
     }
-    let at = from + a as usize * levels as usize + b as usize;
-    if outcomes.len() <= at {
-        return 0;
-    }
-    outcomes[at] as u16
 }
 
 impl Products {
@@ -71,36 +87,30 @@ impl Products {
     pub fn same(self, other: Products) -> bool
         ensures { result ≡ product_sets.same self.bits other.bits }
     {
-        self.bits == other.bits
+        self == other
     }
 
-    // The meet by a table of `levels` levels; without one, where `levels` is 0, that of sets.
-    pub fn meet_by(self, other: Products, levels: u16, outcomes: &[u8]) -> Products
-        ensures { result.bits ≡ meet_of (carried levels outcomes.now) self.bits other.bits }
+    // The meet by a table; without one, that of sets.
+    pub fn meet_by(self, other: Products, outcomes: Option<OutcomeTable<'_>>) -> Products
+        ensures { result.bits ≡ meet_of (carried outcomes.entry) self.bits other.bits }
     {
-        if levels == 0 {
-            return self.meet(other);
-        }
-        Products {
-            bits: entry(levels, outcomes, 0, self.bits, other.bits),
+        match outcomes {
+            None => self.meet(other),
+            Some(table) => Products {
+                bits: table.of(Operation::Meet, self.bits, other.bits),
+            },
         }
     }
 
-    // The join alike: a table's joins stand after its meets.
-    pub fn join_by(self, other: Products, levels: u16, outcomes: &[u8]) -> Products
-        ensures { result.bits ≡ join_of (carried levels outcomes.now) self.bits other.bits }
+    // The join alike.
+    pub fn join_by(self, other: Products, outcomes: Option<OutcomeTable<'_>>) -> Products
+        ensures { result.bits ≡ join_of (carried outcomes.entry) self.bits other.bits }
     {
-        if levels == 0 {
-            return self.join(other);
-        }
-        Products {
-            bits: entry(
-                levels,
-                outcomes,
-                levels as usize * levels as usize,
-                self.bits,
-                other.bits,
-            ),
+        match outcomes {
+            None => self.join(other),
+            Some(table) => Products {
+                bits: table.of(Operation::Join, self.bits, other.bits),
+            },
         }
     }
 }

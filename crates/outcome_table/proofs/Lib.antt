@@ -1,1 +1,1 @@
-pub mod Passing
+pub mod Every

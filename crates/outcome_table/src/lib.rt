@@ -1,143 +1,96 @@
-// Which outcome tables are accepted (request 14). Each law is tried on every pair or triple of levels, one loop a function.
+// Which outcome tables are accepted (request 14). Each law is tried on every pair or triple of levels.
 #![tactic(auto)]
 
-ghost use Rattle.std.specs.Prelude.{◌≡◌, ◌&&◌, ◌≤◌};
+ghost use Rattle.std.specs.Prelude.{◌≡◌, ◌&&◌, true, false, MatchResult};
 ghost use Rattle.model.specs.Levels as model;
-ghost use Rattle.outcome.specs.Carried.{table};
+ghost use Rattle.outcome.specs.Carried.{table, table_of, operation_of};
 
-use outcome::Products;
+use outcome::{Operation, OutcomeTable};
+use refusal::Refusal;
 
 // A table has at most so many levels.
 pub const LEVELS: u32 = 16;
 
-fn met(levels: u16, outcomes: &[u8], a: u16, b: u16) -> u16
-    requires { 1 ≤ levels }
-    ensures { result ≡ model.meet_by (table levels outcomes.now) a b }
-{
-    let low = Products { bits: a }.meet_by(Products { bits: b }, levels, outcomes);
-    low.bits
-}
-
-fn joined(levels: u16, outcomes: &[u8], a: u16, b: u16) -> u16
-    requires { 1 ≤ levels }
-    ensures { result ≡ model.join_by (table levels outcomes.now) a b }
-{
-    let high = Products { bits: a }.join_by(Products { bits: b }, levels, outcomes);
-    high.bits
-}
-
 // Whether every byte is a level.
-fn closed(levels: u16, outcomes: &[u8]) -> bool
-    ensures { result ≡ model.closed (table levels outcomes.now) }
+fn closed(table: OutcomeTable<'_>) -> bool
+    ensures { result ≡ model.closed (table_of table.entry) }
 {
-    let mut i = 0;
-    while i < outcomes.len() {
-        if outcomes[i] as u16 >= levels {
-            return false;
-        }
-        i += 1;
-    }
-    true
+    table
+        .bytes
+        .iter()
+        .all(|level| (*level as u16) < table.levels)
 }
 
-// Whether the meet associates on three levels.
-fn meets_associate(levels: u16, outcomes: &[u8], a: u16, b: u16, c: u16) -> bool
-    requires { 1 ≤ levels }
-    ensures { result ≡ model.associate (model.meet_by (table levels outcomes.now)) a b c }
+// Whether an operation commutes on two levels.
+fn commutes(table: OutcomeTable<'_>, op: Operation, a: u16, b: u16) -> bool
+    ensures { result ≡ model.commutes (operation_of op (table_of table.entry)) a b }
 {
-    met(levels, outcomes, met(levels, outcomes, a, b), c)
-        == met(levels, outcomes, a, met(levels, outcomes, b, c))
+    table.of(op, a, b) == table.of(op, b, a)
 }
 
-fn joins_associate(levels: u16, outcomes: &[u8], a: u16, b: u16, c: u16) -> bool
-    requires { 1 ≤ levels }
-    ensures { result ≡ model.associate (model.join_by (table levels outcomes.now)) a b c }
+// Whether an operation absorbs another on two levels.
+fn absorbs(table: OutcomeTable<'_>, op: Operation, other: Operation, a: u16, b: u16) -> bool
+    ensures { result ≡ model.absorbs (operation_of op (table_of table.entry)) (operation_of other (table_of table.entry)) a b }
 {
-    joined(levels, outcomes, joined(levels, outcomes, a, b), c)
-        == joined(levels, outcomes, a, joined(levels, outcomes, b, c))
+    table.of(op, a, table.of(other, a, b)) == a
 }
 
-// Whether both operations associate on two levels and any third.
-fn associates(levels: u16, outcomes: &[u8], a: u16, b: u16) -> bool
-    ensures { result ≡ (model.associates levels (model.meet_by (table levels outcomes.now)) a b && model.associates levels (model.join_by (table levels outcomes.now)) a b) }
+// Whether an operation associates on three levels.
+fn associate(table: OutcomeTable<'_>, op: Operation, a: u16, b: u16, c: u16) -> bool
+    ensures { result ≡ model.associate (operation_of op (table_of table.entry)) a b c }
 {
-    let mut c: u16 = 0;
-    while c < levels {
-        if !meets_associate(levels, outcomes, a, b, c) {
-            return false;
-        }
-        if !joins_associate(levels, outcomes, a, b, c) {
-            return false;
-        }
-        c += 1;
-    }
-    true
+    table.of(op, table.of(op, a, b), c) == table.of(op, a, table.of(op, b, c))
 }
 
-// Whether both operations commute on two levels and absorb each other.
-fn lawful_pair(levels: u16, outcomes: &[u8], a: u16, b: u16) -> bool
-    requires { 1 ≤ levels }
-    ensures { result ≡ model.lawful_pair (table levels outcomes.now) a b }
+// Whether an operation associates on two levels and any third.
+fn associates(table: OutcomeTable<'_>, op: Operation, a: u16, b: u16) -> bool
+    ensures { result ≡ model.associates table.entry.levels (operation_of op (table_of table.entry)) a b }
 {
-    let low = met(levels, outcomes, a, b);
-    let high = joined(levels, outcomes, a, b);
-    if low != met(levels, outcomes, b, a) {
-        return false;
-    }
-    if high != joined(levels, outcomes, b, a) {
-        return false;
-    }
-    if met(levels, outcomes, a, high) != a {
-        return false;
-    }
-    if joined(levels, outcomes, a, low) != a {
-        return false;
-    }
-    associates(levels, outcomes, a, b)
+    (0..table.levels).all(|c| associate(table, op, a, b, c))
+}
+
+// Whether both operations are lawful on two levels: they commute, absorb each other, and associate.
+fn lawful_pair(table: OutcomeTable<'_>, a: u16, b: u16) -> bool
+    ensures { result ≡ model.lawful_pair (table_of table.entry) a b }
+{
+    commutes(table, Operation::Meet, a, b)
+        && commutes(table, Operation::Join, a, b)
+        && absorbs(table, Operation::Meet, Operation::Join, a, b)
+        && absorbs(table, Operation::Join, Operation::Meet, a, b)
+        && associates(table, Operation::Meet, a, b)
+        && associates(table, Operation::Join, a, b)
 }
 
 // Whether a level is lawful with every other.
-fn lawful_row(levels: u16, outcomes: &[u8], a: u16) -> bool
-    ensures { result ≡ model.every_below levels (model.lawful_pair (table levels outcomes.now) a) }
+fn lawful_row(table: OutcomeTable<'_>, a: u16) -> bool
+    ensures { result ≡ model.every_below table.entry.levels (model.lawful_pair (table_of table.entry) a) }
 {
-    let mut b: u16 = 0;
-    while b < levels {
-        if !lawful_pair(levels, outcomes, a, b) {
-            return false;
-        }
-        b += 1;
-    }
-    true
+    (0..table.levels).all(|b| lawful_pair(table, a, b))
 }
 
-fn lawful(levels: u16, outcomes: &[u8]) -> bool
-    ensures { result ≡ model.pairwise levels (model.lawful_pair (table levels outcomes.now)) }
+// Whether the bytes are levels, and every two levels lawful.
+fn lawful(table: OutcomeTable<'_>) -> bool
+    ensures { result ≡ (model.closed (table_of table.entry) && model.pairwise table.entry.levels (model.lawful_pair (table_of table.entry))) }
 {
-    let mut a: u16 = 0;
-    while a < levels {
-        if !lawful_row(levels, outcomes, a) {
-            return false;
-        }
-        a += 1;
-    }
-    true
+    closed(table) && (0..table.levels).all(|a| lawful_row(table, a))
 }
 
-// Whether a table is accepted: the count, the length, the bytes, the laws.
-pub fn accepts(levels: u32, outcomes: &[u8]) -> bool
-    ensures { result ≡ model.accepts (table levels outcomes.now) }
+// A table, if it is accepted: the count, the length, the bytes, the laws.
+pub fn accepted(levels: u32, bytes: &[u8]) -> Result<OutcomeTable<'_>, Refusal>
+    ensures { MatchResult result
+        (λ t. (table_of t ≡ table levels bytes.now) × (model.accepts (table levels bytes.now) ≡ true))
+        (λ e. (e ≡ Refusal.OutcomeTable) × (model.accepts (table levels bytes.now) ≡ false)) }
 {
-    if levels == 0 {
-        return false;
+    if levels == 0 || levels > LEVELS || bytes.len() != 2 * (levels * levels) as usize {
+        return Err(Refusal::OutcomeTable);
     }
-    if levels > LEVELS {
-        return false;
+    let table = OutcomeTable {
+        levels: levels as u16,
+        bytes,
+    };
+    if lawful(table) {
+        Ok(table)
+    } else {
+        Err(Refusal::OutcomeTable)
     }
-    if outcomes.len() != 2 * (levels * levels) as usize {
-        return false;
-    }
-    if !closed(levels as u16, outcomes) {
-        return false;
-    }
-    lawful(levels as u16, outcomes)
 }

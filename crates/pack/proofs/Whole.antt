@@ -29,9 +29,11 @@ use Rattle.laws.proofs.Canon.{same_sheet_lem, same_record}
 use Rattle.laws.specs.Products.{InRange, written_products}
 use Rattle.laws.proofs.TightRecords.{bits_t, bits_r}
 use Rattle.policy_model.specs.Answers.{refusal, Lead, lead_of}
-use Rattle.answer.specs.declared.Answer.{Answer}
-use Rattle.answer.specs.declared.Answer.TheVariants as answer
-use Rattle.answer.specs.Answers.{Answered}
+use Rattle.std.specs.Prelude.{Result, Ok, Err}
+use Rattle.refusal.specs.declared.Refusal.{Refusal}
+use Rattle.refusal.specs.declared.Refusal.TheVariants as refusals
+use Rattle.refusal.specs.Numbers.{number_of}
+use Rattle.answer.specs.Answers.{Answer, Answered}
 use Rattle.answer.proofs.Writing.{copy_no_room, copy_written}
 use Rattle.bits.specs.Splice.{Spliced}
 use Rattle.bits.specs.SpliceLaws.{all_spliced}
@@ -39,16 +41,19 @@ use Rattle.pack.specs.Flat.{flat, record_run}
 use Rattle.pack.specs.TreeLaws.{sheet_run, record_run_lem}
 use Rattle.pack.specs.Packing.{Packed}
 
+abbrev err : ℕ → Result ℕ ℕ
+err n = Err n
+
 -- ---- bits as bytes
 pub narrow_known : (l : List ℕ) → ((i : ℕ) → get_or l i 0 < 256) → Narrow 8 l
 narrow_known [] f = tt
 narrow_known (x ∷ l) f = (f 0, narrow_known l (λ i. f (suc i)))
 
-pub packed_no_room : (bs out : List ℕ) → length out < (length bs + 7) / 8 → Packed bs out out (answer.Refused 11)
+pub packed_no_room : (bs out : List ℕ) → length out < (length bs + 7) / 8 → Packed bs out out (Err refusals.Room)
 packed_no_room bs out h = record { packed = λ b. copy_no_room (bytes_of bs) out (omega (arith, length_packed 1 8 (words_for 8 (length bs)) bs)) }
 
 -- The bytes that the bits need were lent, and stand before the others again.
-pub packed_done : (bs out part : List ℕ) (size r : ℕ) → Narrow 8 (part ++ drop size out) → size ≡ (length bs + 7) / 8 → size ≤ length out → Spliced (take size out) part 0 bs r → Packed bs out (part ++ drop size out) (answer.Written size)
+pub packed_done : (bs out part : List ℕ) (size r : ℕ) → Narrow 8 (part ++ drop size out) → size ≡ (length bs + 7) / 8 → size ≤ length out → Spliced (take size out) part 0 bs r → Packed bs out (part ++ drop size out) (Ok size)
 packed_done bs out part size r h e l s =
     let n = length_packed 1 8 (words_for 8 (length bs)) bs in
     let whole : part ≡ bytes_of bs = all_spliced (take size out) part bs r (narrow_front part (drop size out) h) (length-take-le size out l ∙ e) s in
@@ -69,12 +74,12 @@ abbrev pub SheetOf : List ℕ → Policy Outcome → List ℕ → Type 0
 SheetOf ws = OkSheet InRange product_sets.value written_products.sound ws
 
 module _ (ws out after : List ℕ) where
-  pub sheet_refused : (n : ℕ) → some n ≡ refusal (read_sheet ws) → Answered (pack_sheet product_sets ws (length out)) out out (answer.Refused n)
-  sheet_refused n e = by (read_sheet ws) e
+  pub sheet_refused : (r : Refusal) → some (number_of r) ≡ refusal (read_sheet ws) → Answered (pack_sheet product_sets ws (length out)) out out (Err r)
+  sheet_refused r e = by (read_sheet ws) e
     where
-      by : (q : Parsed (Policy Outcome)) → some n ≡ refusal q → Answered (on_read q (λ t. give_bytes (length out) (tight product_sets.number t))) out out (answer.Refused n)
-      by (refuse m) f = let same : n ≡ m = cc in record { answer_is = ap answer.Refused same; output_is = refl }
-      by (got t us) f = never_some n f
+      by : (q : Parsed (Policy Outcome)) → some (number_of r) ≡ refusal q → Answered (on_read q (λ t. give_bytes (length out) (tight product_sets.number t))) out out (Err r)
+      by (refuse m) f = let same : number_of r ≡ m = cc in record { answer_is = ap err same; output_is = refl }
+      by (got t us) f = never_some (number_of r) f
 
   pub sheet_length_lem : none ≡ refusal (read_sheet ws) → length ws ≤ 16384
   sheet_length_lem e = by (read_sheet ws) e (ok_sheet InRange product_sets.value written_products.sound ws)
@@ -130,12 +135,12 @@ long_by false ws q r us e f = absurd (none_got (leb 1 (length ws)) f)
     none_got false g = subst GotR (sym g) tt
 
 module _ (ws out after : List ℕ) where
-  pub record_refused : (n : ℕ) → refuse n ≡ lead_of (read_record ws) → Answered (pack_record product_sets ws (length out)) out out (answer.Refused n)
+  pub record_refused : (x : Refusal) → refuse (number_of x) ≡ lead_of (read_record ws) → Answered (pack_record product_sets ws (length out)) out out (Err x)
   unfolding lead_of
-  record_refused n e = by (read_record ws) e
+  record_refused x e = by (read_record ws) e
     where
-      by : (q : Parsed (Record Outcome)) → refuse n ≡ lead_of q → Answered (on_read q (λ r. give_bytes (length out) (tight_r product_sets.number (sheet_number ws) r))) out out (answer.Refused n)
-      by (refuse m) f = let same : n ≡ m = cc in record { answer_is = ap answer.Refused same; output_is = refl }
+      by : (q : Parsed (Record Outcome)) → refuse (number_of x) ≡ lead_of q → Answered (on_read q (λ r. give_bytes (length out) (tight_r product_sets.number (sheet_number ws) r))) out out (Err x)
+      by (refuse m) f = let same : number_of x ≡ m = cc in record { answer_is = ap err same; output_is = refl }
       by (got r us) f = absurd (subst Got (sym f) tt)
 
   module _ (lead : Lead) (e : got lead [] ≡ lead_of (read_record ws)) where

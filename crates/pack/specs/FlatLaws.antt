@@ -165,6 +165,15 @@ room_list f w count i to out r h =
     let y = r.few in
     (omega arith, omega arith)
 
+-- Lists of so many values of a width have the same room, whatever the values.
+pub list_room : (f g : ℕ → ℕ) (w n to : ℕ) (out : List ℕ) → Room to (list_run f w n) out → Room to (list_run g w n) out
+list_room f g w n to out r =
+    let a = length_list f w n in
+    let b = length_list g w n in
+    let h = r.fits in
+    let k = r.few in
+    record { fits = omega arith; few = omega arith; clear = r.clear }
+
 -- ---- a record in its parts
 pub record_parts : (ws : List ℕ) (count tree : ℕ) → record_run ws count tree ≡ low 16 (get_or ws 0 0 / 65536) ++ (low 16 (get_or ws 0 0) ++ (list_run (entry_in (drop 1 ws)) 12 count ++ flat (drop tree ws) 0))
 unfolding record_run

@@ -2,8 +2,7 @@
 use Rattle.std.specs.Prelude.{List, ℕ, length}
 use Rattle.laws.proofs.BitLaws.{Bits}
 use Rattle.model.specs.Tight.{give_bytes}
-use Rattle.answer.specs.Answers.{Answered}
-use Rattle.answer.specs.declared.Answer.{Answer}
+use Rattle.answer.specs.Answers.{Answer, Answered}
 
 pub record Packed (bs before after : List ℕ) (r : Answer) : Type 0 where
   pub packed : Bits bs → Answered (give_bytes (length before) bs) before after r

@@ -2,7 +2,7 @@
 // list of nodes, so measuring and writing are loops without levels.
 #![tactic(auto)]
 
-ghost use Rattle.std.specs.Prelude.{◌≡◌, true, ◌+◌, ◌*◌, ◌/◌, ◌^◌, ◌≤◌, ◌<◌, length, drop, get_or};
+ghost use Rattle.std.specs.Prelude.{◌≡◌, true, List, ℕ, ◌+◌, ◌*◌, ◌/◌, ◌^◌, ◌≤◌, ◌<◌, length, drop, get_or};
 ghost use Rattle.model.specs.Reading.{record_words};
 ghost use Rattle.model.specs.Tight.{obligation_tight_bits, pack_sheet, pack_record};
 ghost use Rattle.model.specs.Outcome.{product_sets};
@@ -13,7 +13,7 @@ ghost use Rattle.pack.specs.Room.{Room};
 ghost use Rattle.pack.specs.Packing.{Packed};
 
 use answer::Answer;
-use policy_model::{RecordCheck, SheetCheck};
+use refusal::Refusal;
 
 // The bits of a Grant itself: kind, shape and obligation count (12), outcome (16), label, reason, obligations.
 fn grant_bits(words: &[u32], at: usize) -> usize
@@ -92,6 +92,7 @@ fn measure(words: &[u32], from: usize) -> usize
 {
     let mut at = from;
     let mut size = 0;
+    // a `while`: each node says itself where the next one begins
     while at < words.len() {
         if is_plain(words[at]) {
             size += plain_size(words[at]);
@@ -121,26 +122,40 @@ fn obligation_at(words: &[u32], at: usize, index: usize) -> u32
     (word >> (24 - index % 4 * 8)) % policy_model::QUARTER
 }
 
+// Puts a list of `count` values, each in `width` bits.
+fn put_list<F: Fn(usize) -> u32>(
+    value: F,
+    count: u32,
+    width: u32,
+    out: &mut [u8],
+    to: usize,
+) -> usize
+    requires { ((i : ℕ) → i < count → F.pre value i) × (width ≤ 12) × Room to (list_run (λ i. i) width count) out.old }
+    ensures { (f : ℕ → ℕ) → ((i r : ℕ) → i < count → F.post value i r → r ≡ f i) → Spliced out.old out.new to (list_run f width count) result }
+{
+    let mut next = to;
+    for i in 0..count {
+        next = bits::put_bits(out, next, width, value(i as usize));
+    }
+    next
+}
+
 // Puts a list of `count` obligations that begins at `at`.
 fn put_obligations(words: &[u32], at: usize, count: u32, out: &mut [u8], to: usize) -> usize
     requires { (at < 2 ^ 32) × Room to (list_run (obligation_in (drop at words.now)) obligation_tight_bits count) out.old }
     ensures { Spliced out.old out.new to (list_run (obligation_in (drop at words.now)) obligation_tight_bits count) result }
 {
-    let mut next = to;
-    let mut i = 0;
-    while i < count {
-        next = bits::put_bits(
-            out,
-            next,
-            bits::OBLIGATION_BITS,
-            obligation_at(words, at, i as usize),
-        );
-        i += 1;
-    }
-    next
+    put_list(
+        |i| obligation_at(words, at, i),
+        count,
+        bits::OBLIGATION_BITS,
+        out,
+        to,
+    )
 }
 
 // Fact or consulted entry number `index` of the list that begins at `at`, without its zero bits.
+// Apart from `obligation_at`: a word holds two, and the zero bits go, so that one function for both would ask for its kind in each turn.
 fn entry_at(words: &[u32], at: usize, index: usize) -> u32
     requires { at + index / 2 < 2 ^ 62 }
     ensures { result ≡ entry_in (drop at words.now) index }
@@ -155,13 +170,7 @@ fn put_entries(words: &[u32], at: usize, count: u32, width: u32, out: &mut [u8],
     requires { (at < 2 ^ 32) × (width ≤ 12) × Room to (list_run (entry_in (drop at words.now)) width count) out.old }
     ensures { Spliced out.old out.new to (list_run (entry_in (drop at words.now)) width count) result }
 {
-    let mut next = to;
-    let mut i = 0;
-    while i < count {
-        next = bits::put_bits(out, next, width, entry_at(words, at, i as usize));
-        i += 1;
-    }
-    next
+    put_list(|i| entry_at(words, at, i), count, width, out, to)
 }
 
 // Puts a Grant up to its condition.
@@ -266,6 +275,7 @@ fn put_nodes(words: &[u32], from: usize, out: &mut [u8], to: usize) -> usize
 {
     let mut at = from;
     let mut next = to;
+    // a `while`: each node says itself where the next one begins
     while at < words.len() {
         if is_plain(words[at]) {
             next = put_plain(words[at], out, next);
@@ -278,61 +288,98 @@ fn put_nodes(words: &[u32], from: usize, out: &mut [u8], to: usize) -> usize
     next
 }
 
-// Packs the words of a sheet that was checked, if there is room. Their length is known before a byte changes, and they are lent no more bytes than they
-// need, so that those after them stay as they were.
-fn put_sheet(words: &[u32], out: &mut [u8]) -> Answer
-    requires { length words.now ≤ record_words }
-    ensures { Packed (flat words.now 0) out.old out.new result }
+// What is packed: words that were checked.
+trait Packs {
+    ghost run: { Self → List ℕ };
+
+    // The bits that it takes.
+    fn size(&self) -> usize
+        ensures is { result ≡ length (run self.now) }
+        ensures few { result ≤ 2 ^ 33 };
+
+    // Puts them.
+    fn put(&self, out: &mut [u8]) -> usize
+        requires { Room 0 (run self.now) out.old }
+        ensures { Spliced out.old out.new 0 (run self.now) result };
+}
+
+// Packs it, if there is room. The length is known before a byte changes, and no more bytes are lent than it needs, so that those after them stay as they were.
+fn pack<P: Packs>(what: &P, out: &mut [u8]) -> Answer
+    ensures { Packed (P.run what.now) out.old out.new result }
 {
-    let size = (measure(words, 0) + 7) / 8;
+    let size = what.size().div_ceil(8);
     if out.len() < size {
-        return Answer::Refused(11);
+        return Err(Refusal::Room);
     }
-    put_nodes(words, 0, &mut out[..size], 0);
-    Answer::Written(size)
+    what.put(&mut out[..size]);
+    Ok(size)
+}
+
+// A sheet is its nodes.
+#[derive(Clone, Copy)]
+struct Sheet<'a> {
+    words: &'a [u32],
+    ghost few: { length words.now ≤ record_words },
+}
+
+impl Packs for Sheet<'_> {
+    ghost run = { λ s. flat s.words.now 0 };
+
+    fn size(&self) -> usize {
+        measure(self.words, 0)
+    }
+
+    fn put(&self, out: &mut [u8]) -> usize {
+        put_nodes(self.words, 0, out, 0)
+    }
 }
 
 // Packs a sheet.
 pub fn pack_sheet(words: &[u32], out: &mut [u8]) -> Answer
     ensures { Answered (pack_sheet product_sets words.now (length out.old)) out.old out.new result }
 {
-    match policy_model::check_sheet(words, outcome::SETS) {
-        SheetCheck::Refused(number) => Answer::Refused(number),
-        SheetCheck::Accepted => put_sheet(words, out),
-    }
+    policy_model::check_sheet(words, outcome::SETS)?;
+    pack(&Sheet { words }, out)
 }
 
-// Puts a record: its lead, the consulted entries, the tree.
-fn put_fields(words: &[u32], consulted: u32, tree: usize, out: &mut [u8]) -> usize
-    requires { (0 < length words.now) × (length words.now ≤ record_words) × Room 0 (record_run words.now consulted tree) out.old }
-    ensures { Spliced out.old out.new 0 (record_run words.now consulted tree) result }
-{
-    let a = bits::put_bits(out, 0, 16, words[0] / policy_model::HALF);
-    let b = bits::put_bits(out, a, 16, words[0]);
-    let c = put_entries(words, 1, consulted, bits::ENTRY_BITS, out, b);
-    put_nodes(words, tree, out, c)
+// A record is its lead, the consulted entries and the tree.
+#[derive(Clone, Copy)]
+struct Record<'a> {
+    words: &'a [u32],
+    consulted: u32,
+    tree: usize,
+    ghost some: { 0 < length words.now },
+    ghost few: { length words.now ≤ record_words },
+    ghost listed: { consulted < 4096 },
+    ghost inside: { tree ≤ length words.now },
 }
 
-// Packs the words of a record that was checked, with so many consulted entries and a tree that begins at `tree`.
-fn put_record(words: &[u32], consulted: u32, tree: usize, out: &mut [u8]) -> Answer
-    requires { (0 < length words.now) × (length words.now ≤ record_words) × (consulted < 4096) × (tree ≤ length words.now) }
-    ensures { Packed (record_run words.now consulted tree) out.old out.new result }
-{
-    let size = ((32 + bits::ENTRY_BITS * consulted) as usize + measure(words, tree) + 7) / 8;
-    if out.len() < size {
-        return Answer::Refused(11);
+impl Packs for Record<'_> {
+    ghost run = { λ r. record_run r.words.now r.consulted r.tree };
+
+    fn size(&self) -> usize {
+        (32 + bits::ENTRY_BITS * self.consulted) as usize + measure(self.words, self.tree)
     }
-    put_fields(words, consulted, tree, &mut out[..size]);
-    Answer::Written(size)
+
+    fn put(&self, out: &mut [u8]) -> usize {
+        let a = bits::put_bits(out, 0, 16, self.words[0] / policy_model::HALF);
+        let b = bits::put_bits(out, a, 16, self.words[0]);
+        let c = put_entries(self.words, 1, self.consulted, bits::ENTRY_BITS, out, b);
+        put_nodes(self.words, self.tree, out, c)
+    }
 }
 
 // Packs a record.
 pub fn pack_record(words: &[u32], out: &mut [u8]) -> Answer
     ensures { Answered (pack_record product_sets words.now (length out.old)) out.old out.new result }
 {
-    match policy_model::check_record(words, outcome::SETS) {
-        RecordCheck::Refused(number) => Answer::Refused(number),
-        RecordCheck::Resolved { consulted, tree } => put_record(words, consulted, tree, out),
-        RecordCheck::Pending { consulted, tree } => put_record(words, consulted, tree, out),
-    }
+    let head = policy_model::check_record(words, outcome::SETS)?;
+    pack(
+        &Record {
+            words,
+            consulted: head.consulted,
+            tree: head.tree,
+        },
+        out,
+    )
 }

@@ -33,16 +33,16 @@ module _ (width : ℕ) where
   joined_values : (n k : ℕ) (vs : List ℕ) → joined width n (drop k vs) ≡ joined width n (values_from vs k n)
   joined_values n k vs = joined_front n (drop k vs) ∙ ap (joined width n) (values_drop n k vs)
 
-  -- The words of the first `count` values: how many, and word j.
-  module _ (count : ℕ) (vs : List ℕ) (h : count ≤ length vs) where
-    abbrev n : ℕ
-    n = per_word width
+  abbrev n : ℕ
+  n = per_word width
 
-    few : length (take count vs) ≡ count
-    few = length-take count vs ∙ omega arith
+  -- The words of a list: how many, and word j.
+  pub packed_number : (vs : List ℕ) → length (pack width vs) ≡ words_for n (length vs)
+  packed_number vs = length_pack width vs
 
-    pub packed_number : length (pack width (take count vs)) ≡ words_for n count
-    packed_number = length_pack width (take count vs) ∙ ap (words_for n) few
+  pub list_word : (j : ℕ) (vs : List ℕ) → j < words_for n (length vs) → get_or (pack width vs) j 0 ≡ joined width n (values_from vs (j * n) n)
+  list_word j vs k = packed_word width n (words_for n (length vs)) j vs k ∙ joined_values n (j * n) vs
 
-    pub pack_word : (j : ℕ) → j < words_for n count → get_or (pack width (take count vs)) j 0 ≡ joined width n (values_from (take count vs) (j * n) n)
-    pack_word j k = packed_word width n (words_for n (length (take count vs))) j (take count vs) (rw few k) ∙ joined_values n (j * n) (take count vs)
+  -- Word j of the first `count` values.
+  pub pack_word : (count : ℕ) (vs : List ℕ) → count ≤ length vs → (j : ℕ) → j < words_for n count → get_or (pack width (take count vs)) j 0 ≡ joined width n (values_from (take count vs) (j * n) n)
+  pack_word count vs h j k = let few : length (take count vs) ≡ count = length-take count vs ∙ omega arith in list_word j (take count vs) (rw few k)

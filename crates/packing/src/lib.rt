@@ -24,49 +24,46 @@ fn obligations_word(first: u8, second: u8, third: u8, fourth: u8) -> u32
         + fourth as u32
 }
 
-// The first `count` facts or consulted entries, two a word; an unused last field is 0. The loop has no test but its own, so it is compiled to work
-// on many words at a time.
-pub fn pack_entries(values: &[u16], count: usize, out: &mut [u32]) -> usize
-    requires { (count ≤ length values.now) × (words_for 2 count ≤ length out.old) }
-    ensures { (result ≡ words_for 2 count) × Written (pack entry_bits (take count values.now)) out.old out.new result }
+// Facts or consulted entries, two a word; an unused last field is 0. The loop has no test but its own, so it is compiled to work on many words at a
+// time. Each width has its loop: one over both would join each word in a loop of its own.
+pub fn pack_entries(values: &[u16], out: &mut [u32]) -> usize
+    requires { words_for 2 (length values.now) ≤ length out.old }
+    ensures { (result ≡ words_for 2 (length values.now)) × Written (pack entry_bits values.now) out.old out.new result }
 {
+    let count = values.len();
     let full = count / 2;
-    let mut j = 0;
-    while j < full {
+    for j in 0..full {
         out[j] = entries_word(values[j * 2], values[j * 2 + 1]);
-        j += 1;
     }
     if count % 2 == 0 {
-        return j;
+        return full;
     }
-    out[j] = entries_word(values[count - 1], 0);
-    j + 1
+    out[full] = entries_word(values[count - 1], 0);
+    full + 1
 }
 
-// An obligation of the first `count`, 0 past the last.
-fn obligation_or_zero(values: &[u8], count: usize, index: usize) -> u8
-    requires { count ≤ length values.now }
-    ensures { result ≡ get_or (take count values.now) index 0 }
+// An obligation, 0 past the last.
+fn obligation_or_zero(values: &[u8], index: usize) -> u8
+    ensures { result ≡ get_or values.now index 0 }
 {
-    if index < count { values[index] } else { 0 }
+    values.get(index).copied().unwrap_or(0)
 }
 
-// The first `count` obligations, four a word; unused tail fields are 0.
-pub fn pack_obligations(values: &[u8], count: usize, out: &mut [u32]) -> usize
-    requires { (count ≤ length values.now) × (words_for 4 count ≤ length out.old) }
-    ensures { (result ≡ words_for 4 count) × Written (pack obligation_bits (take count values.now)) out.old out.new result }
+// Obligations, four a word; unused tail fields are 0.
+pub fn pack_obligations(values: &[u8], out: &mut [u32]) -> usize
+    requires { words_for 4 (length values.now) ≤ length out.old }
+    ensures { (result ≡ words_for 4 (length values.now)) × Written (pack obligation_bits values.now) out.old out.new result }
 {
+    let count = values.len();
     let words = (count + 3) / 4;
-    let mut j = 0;
-    while j < words {
+    for j in 0..words {
         let first = j * 4;
         out[j] = obligations_word(
-            obligation_or_zero(values, count, first),
-            obligation_or_zero(values, count, first + 1),
-            obligation_or_zero(values, count, first + 2),
-            obligation_or_zero(values, count, first + 3),
+            obligation_or_zero(values, first),
+            obligation_or_zero(values, first + 1),
+            obligation_or_zero(values, first + 2),
+            obligation_or_zero(values, first + 3),
         );
-        j += 1;
     }
     words
 }
@@ -76,11 +73,7 @@ pub fn copy_words(from: &[u32], at: usize, n: usize, out: &mut [u32]) -> usize
     requires { (at + n ≤ length from.now) × (n ≤ length out.old) }
     ensures { (result ≡ n) × Written (take n (drop at from.now)) out.old out.new result }
 {
-    let mut i = 0;
-    while i < n {
-        out[i] = from[at + i];
-        i += 1;
-    }
+    out[..n].copy_from_slice(&from[at..at + n]);
     n
 }
 

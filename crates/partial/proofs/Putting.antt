@@ -1,7 +1,7 @@
 -- A Pending record that is measured and then written, or refused with 11. Assumes nothing.
-use mathlib.Core.Path.{◌≡◌, refl, ap}
+use mathlib.Core.Path.{◌≡◌, refl, ◌∙◌, ap, ap₂, subst}
 use mathlib.Core.Bool.{Bool, true, false}
-use mathlib.Core.List.{List, ◌++◌}
+use mathlib.Core.List.{List, ◌++◌, map}
 use Prim.Native.Nat.{ℕ, ◌+◌, ◌-◌, ◌/◌, ◌≤◌, ◌<◌}
 use native.Mathlib.Omega.{arith}
 use borrow.Author.Tests.{leb-true, leb-false}
@@ -17,13 +17,14 @@ use Rattle.model.specs.Products.{Outcome, encode, write}
 use Rattle.laws.specs.Size.{words}
 use Rattle.laws.proofs.Lengths.{length_encode_r}
 use Rattle.packing.specs.Written as packing
-use Rattle.packing.specs.WrittenLaws.{written_lent, written_same}
+use Rattle.packing.specs.WrittenLaws.{written_then, written_same}
 use Rattle.record.specs.Nodes.{front_words}
 use Rattle.record.specs.NodeLaws.{record_words_lem}
 use Rattle.sizes.specs.Laid.{most_words, capped}
 use Rattle.residual.specs.Weight.{weight}
 use Rattle.residual.specs.WeightLaws.{weight_fits, weight_many}
-use Rattle.answer.specs.declared.Answer.TheVariants.{Written, Refused}
+use Rattle.std.specs.Prelude.{Ok, Err}
+use Rattle.refusal.specs.declared.Refusal.TheVariants.{Room}
 use Rattle.answer.specs.Answers.{Answered}
 use Rattle.answer.proofs.Writing.{words_of, no_room, long_list, long_record, written_record}
 use Rattle.partial.specs.Answers.{PutPending}
@@ -37,47 +38,45 @@ length_record q l = length_encode_r product_sets.number (record_of q l)
 
 -- It does not fit, by the size that was counted.
 module _ (q : Policy Outcome) (l : Consulted) (room : ℕ) (out : List ℕ) where
-  heavy : (b : Bool) → short q ≡ b → most_words < weight q → Answered (write room (record_of q l)) out out (Refused 11)
+  heavy : (b : Bool) → short q ≡ b → most_words < weight q → Answered (write room (record_of q l)) out out (Err Room)
   heavy false e h = long_list room (record_of q l) out e
   heavy true e h = long_record room (record_of q l) out (omega (arith, length_record q l, weight_many q h e))
 
-  too_long : (size : ℕ) → size ≡ capped (weight q) → 16384 < 1 + (length l + 1) / 2 + size → Answered (write room (record_of q l)) out out (Refused 11)
+  too_long : (size : ℕ) → size ≡ capped (weight q) → 16384 < 1 + (length l + 1) / 2 + size → Answered (write room (record_of q l)) out out (Err Room)
   too_long size e h = by_weight (leb (weight q) 16384) refl
     where
-      by_weight : (b : Bool) → leb (weight q) 16384 ≡ b → Answered (write room (record_of q l)) out out (Refused 11)
+      by_weight : (b : Bool) → leb (weight q) 16384 ≡ b → Answered (write room (record_of q l)) out out (Err Room)
       by_weight true k = let few : weight q ≤ 16384 = leb-true (weight q) 16384 k in long_record room (record_of q l) out (omega (arith, length_record q l, (weight_fits q few).0))
       by_weight false k = heavy (short q) refl (leb-false (weight q) 16384 k)
 
 -- ---- the answers of `put_pending`
-module _ {entries scratch out : List ℕ} {count size : ℕ} where
-  -- No list has more entries than there are.
-  pub put_nothing : length entries < count → PutPending entries count scratch size out out (Refused 11)
-  put_nothing h = record { put = λ q l laid there e m. let z : ⊥ = omega (arith, ap length m, length-map l entry_field, length-take count entries) in absurd z }
+same_length : {entries : List ℕ} (l : Consulted) → entries ≡ map entry_field l → length entries ≡ length l
+same_length l m = ap length m ∙ length-map l entry_field
 
-  pub put_too_long : 16384 < 1 + (count + 1) / 2 + size → PutPending entries count scratch size out out (Refused 11)
-  put_too_long h = record { put = λ q l laid there e m. too_long q l (length out) out size laid.size_is (omega arith) }
+module _ {entries scratch out : List ℕ} {size : ℕ} where
+  pub put_too_long : 16384 < 1 + (length entries + 1) / 2 + size → PutPending entries scratch size out out (Err Room)
+  put_too_long h = record { put = λ q l laid there m. too_long q l (length out) out size laid.size_is (omega (arith, same_length l m)) }
 
-  pub put_no_room : 1 + (count + 1) / 2 + size ≤ 16384 → length out < 1 + (count + 1) / 2 + size → PutPending entries count scratch size out out (Refused 11)
+  pub put_no_room : 1 + (length entries + 1) / 2 + size ≤ 16384 → length out < 1 + (length entries + 1) / 2 + size → PutPending entries scratch size out out (Err Room)
   put_no_room few h =
       record {
-        put = λ q l laid there e m.
+        put = λ q l laid there m.
             let light : weight q ≤ 16384 = omega (arith, laid.size_is) in
-            no_room (length out) (record_of q l) out (omega (arith, length_record q l, (weight_fits q light).0, laid.size_is));
+            no_room (length out) (record_of q l) out (omega (arith, length_record q l, (weight_fits q light).0, laid.size_is, same_length l m));
       }
 
-  pub put_not_laid : 1 + (count + 1) / 2 + size ≤ 16384 → length scratch < size → PutPending entries count scratch size out out (Refused 11)
-  put_not_laid few h = record { put = λ q l laid there e m. let z : ⊥ = omega (arith, there (omega arith)) in absurd z }
-
-  pub put_written : {mid tail : List ℕ} {front rest : ℕ} → 1 + (count + 1) / 2 + size ≤ 16384 → 1 + (count + 1) / 2 + size ≤ length out → size ≤ length scratch →
-      packing.Written (front_words false (take count entries)) out mid front → rest ≡ size → packing.Written (take size (drop 0 scratch)) (take (length mid - front) (drop front mid)) tail rest →
-      PutPending entries count scratch size out (take front mid ++ (tail ++ drop (length mid - front) (drop front mid))) (Written (front + rest))
-  put_written {mid} {tail} {front} {rest} few room fits-scratch p z w =
+  pub put_written : {mid tail left : List ℕ} {front rest : ℕ} → 1 + (length entries + 1) / 2 + size ≤ 16384 → 1 + (length entries + 1) / 2 + size ≤ length out → size ≤ length scratch → left ≡ take size scratch →
+      front ≡ 1 + (length entries + 1) / 2 → packing.Written (front_words false entries) out mid front → rest ≡ size → tail ≡ left →
+      PutPending entries scratch size out (take front mid ++ (tail ++ drop rest (drop front mid))) (Ok (1 + (length entries + 1) / 2 + size))
+  put_written {mid} {tail} {left} {front} {rest} few room fits-scratch is z p more w =
       record {
-        put = λ q l laid there e m.
+        put = λ q l laid there m.
             let light : weight q ≤ 16384 = omega (arith, laid.size_is) in
             let heard = weight_fits q light in
-            let tree : packing.Written (encode q) (take (length mid - front) (drop front mid)) tail rest = written_same w (laid.front (omega arith) fits-scratch) in
-            let whole = written_same (written_lent p tree) (record_words_lem (record_of q l) false (take count entries) refl m) in
-            written_record (length out) (front + rest) (record_of q l) out (take front mid ++ (tail ++ drop (length mid - front) (drop front mid)))
-            (omega (arith, p.number, z, whole.number, length_record q l, heard.0, laid.size_is)) (omega (arith, whole.number, length_record q l, heard.0, laid.size_is)) heard.1 whole;
+            let long : size ≡ length left = omega (arith, ap length is, length-take size scratch) in
+            let tree : packing.Written (encode q) (drop front mid) (tail ++ drop rest (drop front mid)) size =
+            written_same (record { number = long; output = ap₂ (λ l n. l ++ drop n (drop front mid)) w more }) (is ∙ laid.front (omega arith) fits-scratch) in
+            let whole = written_same (written_then p tree) (record_words_lem (record_of q l) false entries refl m) in
+            subst (λ n. Answered (write (length out) (record_of q l)) out (take front mid ++ (tail ++ drop rest (drop front mid))) (Ok n)) (ap (λ n. n + size) z)
+            (written_record (length out) (front + size) (record_of q l) out (take front mid ++ (tail ++ drop rest (drop front mid))) (omega arith) (omega arith) heard.1 whole);
       }

@@ -1,5 +1,5 @@
 -- What reducing answers of a tree that is left. Document 01, "Reducing" and "How a request is turned back".
-use Rattle.std.specs.Prelude.{◌≡◌, List, map, ℕ, ◌≤◌, length, take}
+use Rattle.std.specs.Prelude.{◌≡◌, List, map, ℕ, ◌≤◌, length}
 use Rattle.std.proofs.Math.Option.{Option}
 use Rattle.model.specs.Policy.{Policy}
 use Rattle.model.specs.Facts.{Table}
@@ -11,13 +11,11 @@ use Rattle.model.specs.Levels.{OutcomeTable}
 use Rattle.model.specs.Products.{Outcome, reduce_policy, walk, encode, write}
 use Rattle.sizes.specs.Laid.{most_words, Laid}
 use Rattle.residual.specs.Weight.{weight}
-use Rattle.answer.specs.declared.Answer.{Answer}
-use Rattle.answer.specs.Answers.{Answered}
+use Rattle.answer.specs.Answers.{Answer, Answered}
 
 -- The Pending record of a tree that was laid, if its scratch has room for it, and of the consulted list, was written or refused.
-pub record PutPending (entries : List ℕ) (count : ℕ) (scratch : List ℕ) (size : ℕ) (before after : List ℕ) (r : Answer) : Type 0 where
-  pub put : (q : Policy Outcome) (l : Consulted) → Laid (weight q) (encode q) scratch size → (size ≤ most_words → size ≤ length scratch) →
-      count ≡ length l → take count entries ≡ map entry_field l →
+pub record PutPending (entries scratch : List ℕ) (size : ℕ) (before after : List ℕ) (r : Answer) : Type 0 where
+  pub put : (q : Policy Outcome) (l : Consulted) → Laid (weight q) (encode q) scratch size → (size ≤ most_words → size ≤ length scratch) → entries ≡ map entry_field l →
       Answered (write (length before) (record { body = pending q; log = l })) before after r
 
 -- The record of a policy that is reduced, by the outcomes of a table or without one, after the facts that were consulted before.

@@ -2,275 +2,139 @@
 // What is left of the tree is laid into scratch first, so that the record's length is known before a word of the output changes.
 #![tactic(auto)]
 
-ghost use Rattle.std.specs.Prelude.{◌+◌, ◌≤◌, min, length};
+ghost use Rattle.std.specs.Prelude.{◌≤◌, length};
 ghost use Rattle.outcome.specs.Carried.{carried};
 ghost use Rattle.model.specs.Facts.{fact_count, table_of};
-ghost use Rattle.model.specs.Reading.{levels, record_words};
+ghost use Rattle.model.specs.Reading.{record_words};
 ghost use Rattle.sizes.specs.Laid.{too_many};
 ghost use Rattle.answer.specs.Answers.{Makes};
-ghost use Rattle.decision.specs.Room.{RoomToUnite};
-ghost use Rattle.clause.specs.Room.{RoomToName};
 ghost use Rattle.partial_policy.specs.Reducing.{order_of};
-ghost use Rattle.completion.specs.Room.{RoomToList, few_words, short_words};
+ghost use Rattle.completion.specs.Room.{RoomToWalk};
 ghost use Rattle.partial.specs.Answers.{PutPending, reduced_after};
-ghost use Rattle.partial.specs.Room.{RoomToLeave, middling_words};
+ghost use Rattle.partial.specs.Room.{RoomToLeave};
 
 use answer::Answer;
-use completion::{ENTRIES, FEW, SEEN, SHORT, UNITED, UNITED_FEW};
+use completion::{ENTRIES, FEW, FEW_FACTS, SEEN, SHORT, SHORT_FACTS, UNITED, UNITED_FEW};
+use consulted::Consulted;
+use outcome::OutcomeTable;
+use partial_list::Reduced;
 use policy_model::{LEVELS, RECORD_WORDS};
+use refusal::Refusal;
 
-// Writes the Pending record of the tree that is laid in the first `size` words of `tree`, and the consulted entries in use, if there is room for it.
-// No walk leaves more entries in use than it was lent.
-fn put_pending(entries: &[u16], listed: usize, tree: &[u32], size: usize, out: &mut [u32]) -> Answer
+// Writes the Pending record of the tree that is laid in the first `size` words of `tree`, and the consulted entries, if there is room for it.
+fn put_pending(entries: &[u16], tree: &[u32], size: usize, out: &mut [u32]) -> Answer
     requires { (length entries.now ≤ fact_count) × (size ≤ too_many) }
-    ensures { PutPending entries.now listed tree.now size out.old out.new result }
+    ensures { PutPending entries.now tree.now size out.old out.new result }
 {
-    if entries.len() < listed {
-        return Answer::Refused(11);
-    }
-    let total = 1 + (listed + 1) / 2 + size;
+    let total = 1 + (entries.len() + 1) / 2 + size;
     if total > sizes::LIMIT {
-        return Answer::Refused(11);
+        return Err(Refusal::Room);
     }
     if out.len() < total {
-        return Answer::Refused(11);
+        return Err(Refusal::Room);
     }
     // not of a tree that was laid, since its scratch has room for it
-    if tree.len() < size {
-        return Answer::Refused(11);
-    }
-    let front = record::write_front(false, entries, listed, out);
-    let rest = packing::copy_words(tree, 0, size, &mut out[front..]);
-    Answer::Written(front + rest)
+    let Some(left) = tree.get(..size) else {
+        return Err(Refusal::Room);
+    };
+    let front = record::write_front(false, entries, entries.len(), out);
+    out[front..total].copy_from_slice(left);
+    Ok(total)
 }
 
-// Reduces the policy at `at` in words that were checked, of at most `depth` levels, after the `consulted` entries, and writes the record: a tree of few words
-// has no more levels than words. The lists that are left are in sheet order, or have their permits first. Lent for the walk: `entries`, for the facts that are
-// consulted, two for a word at most, `buf`, for united obligations, `named`, for the facts of one clause, and `front` and `tree`, for the nodes that lists
-// keep and for what is left.
-fn reduce_with(
+// Reduces the policy at `at` in words that were checked, of at most `DEPTH` levels, after the `count` entries, and writes the record. The lists that are
+// left are in sheet order, or have their permits first. `LISTED` facts may be consulted, `BYTES` take united obligations, `NAMED` facts one clause, and `LEFT`
+// words the nodes that lists keep, and what is left. Every page of its stack, 164 KiB at most, is touched when it is called, so it keeps a frame of its own.
+#[inline(never)]
+fn reduce_in<
+    const DEPTH: usize,
+    const LISTED: usize,
+    const BYTES: usize,
+    const NAMED: usize,
+    const LEFT: usize,
+>(
     words: &[u32],
-    consulted: usize,
+    count: usize,
     at: usize,
-    depth: usize,
     in_order: bool,
     facts: &[u8],
-    outcome_levels: u16,
-    outcomes: &[u8],
-    entries: &mut [u16],
-    buf: &mut [u8],
-    named: &mut [u16],
-    front: &mut [u32],
-    tree: &mut [u32],
+    outcomes: Option<OutcomeTable<'_>>,
     out: &mut [u32],
 ) -> Answer
-    requires { (length words.now ≤ record_words) × (depth ≤ levels) × (min levels (length words.now) ≤ depth) × RoomToUnite (depth + 1) buf.old × RoomToName words.now named.old × RoomToLeave words.now front.old × RoomToLeave words.now tree.old × RoomToList words.now entries.old }
-    ensures { Makes (reduced_after (carried outcome_levels outcomes.now) (order_of in_order) (table_of facts.now)) words.now consulted at out.old out.new result }
+    requires { RoomToWalk (length words.now) DEPTH LISTED BYTES NAMED × RoomToLeave (length words.now) LEFT }
+    ensures { Makes (reduced_after (carried outcomes.entry) (order_of in_order) (table_of facts.now)) words.now count at out.old out.new result }
 {
+    let mut entries = [0u16; LISTED];
     let mut seen = [0u64; SEEN];
-    let listed = completion::load_consulted(words, consulted, entries, &mut seen);
+    let mut buf = [0u8; BYTES];
+    let mut named = [0u16; NAMED];
+    let mut front = [0u32; LEFT];
+    let mut tree = [0u32; LEFT];
+    let mut consulted = Consulted {
+        entries: &mut entries,
+        seen: &mut seen,
+        length: 0,
+    };
+    completion::load_consulted(words, count, &mut consulted);
     let reduced = partial_policy::reduce_policy(
         words,
         at,
-        depth,
+        DEPTH,
         in_order,
         facts,
-        outcome_levels,
         outcomes,
-        entries,
-        &mut seen,
-        listed,
-        buf,
-        named,
-        front,
-        tree,
+        &mut consulted,
+        &mut buf,
+        &mut named,
+        &mut front,
+        &mut tree,
     );
-    if reduced.pending {
-        return put_pending(entries, reduced.count, tree, reduced.size, out);
+    let listed = completion::in_use(&consulted);
+    match reduced.to {
+        Reduced::Pending(size) => put_pending(listed, &tree, size, out),
+        Reduced::Resolved(decision) => {
+            answer::put_record(words, decision, facts, listed, &buf, &mut named, out)
+        }
     }
-    answer::put_record(
-        words,
-        reduced.decision,
-        facts,
-        entries,
-        reduced.count,
-        buf,
-        named,
-        out,
-    )
 }
+
+// What is left takes at most three times the words.
+const FEW_LEFT: usize = 3 * FEW;
+
+const SHORT_LEFT: usize = 3 * SHORT;
 
 // Of so many words most scratch would not be used.
 const MIDDLING: usize = 1024;
 
-// The same of few words, with short lists: to clear long ones would take longer than to reduce. What is left takes at most three times the words.
-fn reduce_few(
-    words: &[u32],
-    consulted: usize,
-    at: usize,
-    in_order: bool,
-    facts: &[u8],
-    outcome_levels: u16,
-    outcomes: &[u8],
-    out: &mut [u32],
-) -> Answer
-    requires { length words.now ≤ few_words }
-    ensures { Makes (reduced_after (carried outcome_levels outcomes.now) (order_of in_order) (table_of facts.now)) words.now consulted at out.old out.new result }
-{
-    let mut entries = [0u16; 2 * FEW];
-    let mut buf = [0u8; UNITED_FEW];
-    let mut named = [0u16; 2 * FEW];
-    let mut front = [0u32; 3 * FEW];
-    let mut tree = [0u32; 3 * FEW];
-    reduce_with(
-        words,
-        consulted,
-        at,
-        FEW,
-        in_order,
-        facts,
-        outcome_levels,
-        outcomes,
-        &mut entries,
-        &mut buf,
-        &mut named,
-        &mut front,
-        &mut tree,
-        out,
-    )
-}
+const MIDDLING_FACTS: usize = 2 * MIDDLING;
 
-// The same of short words.
-pub fn reduce_short(
-    words: &[u32],
-    consulted: usize,
-    at: usize,
-    in_order: bool,
-    facts: &[u8],
-    outcome_levels: u16,
-    outcomes: &[u8],
-    out: &mut [u32],
-) -> Answer
-    requires { length words.now ≤ short_words }
-    ensures { Makes (reduced_after (carried outcome_levels outcomes.now) (order_of in_order) (table_of facts.now)) words.now consulted at out.old out.new result }
-{
-    if words.len() <= FEW {
-        return reduce_few(
-            words,
-            consulted,
-            at,
-            in_order,
-            facts,
-            outcome_levels,
-            outcomes,
-            out,
-        );
-    }
-    let mut entries = [0u16; 2 * SHORT];
-    let mut buf = [0u8; UNITED];
-    let mut named = [0u16; 2 * SHORT];
-    let mut front = [0u32; 3 * SHORT];
-    let mut tree = [0u32; 3 * SHORT];
-    reduce_with(
-        words,
-        consulted,
-        at,
-        LEVELS,
-        in_order,
-        facts,
-        outcome_levels,
-        outcomes,
-        &mut entries,
-        &mut buf,
-        &mut named,
-        &mut front,
-        &mut tree,
-        out,
-    )
-}
+const MIDDLING_LEFT: usize = 3 * MIDDLING;
 
-// The same of more.
-fn reduce_middling(
+// The same with as much room as so many words take.
+pub fn reduce(
     words: &[u32],
-    consulted: usize,
+    count: usize,
     at: usize,
     in_order: bool,
     facts: &[u8],
-    outcome_levels: u16,
-    outcomes: &[u8],
-    out: &mut [u32],
-) -> Answer
-    requires { length words.now ≤ middling_words }
-    ensures { Makes (reduced_after (carried outcome_levels outcomes.now) (order_of in_order) (table_of facts.now)) words.now consulted at out.old out.new result }
-{
-    let mut entries = [0u16; ENTRIES];
-    let mut buf = [0u8; UNITED];
-    let mut named = [0u16; 2 * MIDDLING];
-    let mut front = [0u32; 3 * MIDDLING];
-    let mut tree = [0u32; 3 * MIDDLING];
-    reduce_with(
-        words,
-        consulted,
-        at,
-        LEVELS,
-        in_order,
-        facts,
-        outcome_levels,
-        outcomes,
-        &mut entries,
-        &mut buf,
-        &mut named,
-        &mut front,
-        &mut tree,
-        out,
-    )
-}
-
-// The same of any. Every page of its 164 KiB of stack is touched when it is called, so the calls see to short words apart from it.
-pub fn reduce_long(
-    words: &[u32],
-    consulted: usize,
-    at: usize,
-    in_order: bool,
-    facts: &[u8],
-    outcome_levels: u16,
-    outcomes: &[u8],
+    outcomes: Option<OutcomeTable<'_>>,
     out: &mut [u32],
 ) -> Answer
     requires { length words.now ≤ record_words }
-    ensures { Makes (reduced_after (carried outcome_levels outcomes.now) (order_of in_order) (table_of facts.now)) words.now consulted at out.old out.new result }
+    ensures { Makes (reduced_after (carried outcomes.entry) (order_of in_order) (table_of facts.now)) words.now count at out.old out.new result }
 {
-    if words.len() <= MIDDLING {
-        return reduce_middling(
-            words,
-            consulted,
-            at,
-            in_order,
-            facts,
-            outcome_levels,
-            outcomes,
-            out,
-        );
+    match words.len() {
+        0..=FEW => reduce_in::<FEW, FEW_FACTS, UNITED_FEW, FEW_FACTS, FEW_LEFT>(
+            words, count, at, in_order, facts, outcomes, out,
+        ),
+        0..=SHORT => reduce_in::<LEVELS, SHORT_FACTS, UNITED, SHORT_FACTS, SHORT_LEFT>(
+            words, count, at, in_order, facts, outcomes, out,
+        ),
+        0..=MIDDLING => reduce_in::<LEVELS, ENTRIES, UNITED, MIDDLING_FACTS, MIDDLING_LEFT>(
+            words, count, at, in_order, facts, outcomes, out,
+        ),
+        _ => reduce_in::<LEVELS, ENTRIES, UNITED, RECORD_WORDS, RECORD_WORDS>(
+            words, count, at, in_order, facts, outcomes, out,
+        ),
     }
-    let mut entries = [0u16; ENTRIES];
-    let mut buf = [0u8; UNITED];
-    let mut named = [0u16; RECORD_WORDS];
-    let mut front = [0u32; RECORD_WORDS];
-    let mut tree = [0u32; RECORD_WORDS];
-    reduce_with(
-        words,
-        consulted,
-        at,
-        LEVELS,
-        in_order,
-        facts,
-        outcome_levels,
-        outcomes,
-        &mut entries,
-        &mut buf,
-        &mut named,
-        &mut front,
-        &mut tree,
-        out,
-    )
 }

@@ -1,11 +1,11 @@
 -- A list rule in the form that a loop's invariant takes: what answers for the arms that are left, behind those that are held, answers for all.
 -- Assumes nothing.
 use mathlib.Core.Path.{◌≡◌, refl, sym, ap, subst, ◌∙◌}
-use mathlib.Core.Bool.{Bool, true, false, not, ◌&&◌, beq}
+use mathlib.Core.Bool.{Bool, true, false, beq}
 use mathlib.Core.List.{List}
 use Prim.Native.Nat.{ℕ, ◌+◌, ◌-◌, ◌≤◌}
 use native.Mathlib.Omega.{arith}
-use lib.ListN.{length, drop}
+use lib.ListN.{drop}
 use Rattle.model.specs.Facts.{Table}
 use Rattle.model.specs.Condition.{Condition, Conditions, cnil, ccons}
 use Rattle.model.specs.Partial.{known, pending_c, ConditionWalk, stopped, through, step_all_c, step_any_c, reduce_condition}
@@ -15,16 +15,18 @@ use Rattle.model.specs.Reading.{Parsed, refuse, got, many, read_condition}
 use Rattle.laws.proofs.FieldLaws.{Holds, fine, nothing, weaker}
 use Rattle.laws.specs.Size.{words_c, words_cs}
 use Rattle.policy_model.specs.Span.{SkippedConditions}
-use Rattle.condition.specs.Listing.{Lent, lent}
-use Rattle.condition.proofs.Listing.{consults_as, consults_none, consults_then}
+use Rattle.consulted.specs.Listing.{Lent}
+use Rattle.consulted.proofs.Listing.{consults_as, consults_none, consults_then}
 use Rattle.decisive.proofs.Positions.{first_arm}
 use Rattle.sizes.specs.Laid.{too_many}
+use Rattle.partial_condition.specs.declared.Reduced.{Reduced}
+use Rattle.partial_condition.specs.declared.Reduced.TheVariants.{Known, Pending}
 use Rattle.partial_condition.specs.declared.ReducedCondition.{ReducedCondition}
 use Rattle.partial_condition.specs.declared.Kept.{Kept}
-use Rattle.partial_condition.specs.Reducing.{known_of, Left, ReducedTo, ReducesC, walk_of, end_of, read_of, ReducesList}
-use Rattle.partial_condition.specs.Holding.{kept_of, Holding, Heeds, Ends}
+use Rattle.partial_condition.specs.Reducing.{Left, ReducedTo, ReducesC, walk_of, end_of, read_of, ReducesList}
+use Rattle.partial_condition.specs.Holding.{kept_of, Holding, Keeps, Ends}
 use Rattle.partial_condition.proofs.Laying.{Returned}
-use Rattle.partial_condition.proofs.Holding.{clash, snoc_c, held_same, held_more}
+use Rattle.partial_condition.proofs.Holding.{snoc_c, held_same, held_more}
 
 -- ---- a walk over arms, behind arms that are held
 abbrev append_c : Conditions → Conditions → Conditions
@@ -77,6 +79,22 @@ abbrev held_with : Conditions → model.ReducedCondition → Conditions
 held_with cs (known b) = cs
 held_with cs (pending_c c) = snoc_c cs c
 
+clash : {A : Type 0} → true ≡ false → A
+clash e = let z : ◌≡◌ {A = ℕ} 0 1 = cc in absurd (omega arith)
+
+beq_is : (v any : Bool) → beq v any ≡ true → v ≡ any
+beq_is false false e = refl
+beq_is false true e = clash (sym e)
+beq_is true false e = clash (sym e)
+beq_is true true e = refl
+
+-- No answer is both known and left, and a known one has one value.
+not_both : {v : Bool} {n : ℕ} {A : Type 0} → Known v ≡ Pending n → A
+not_both e = let z : ◌≡◌ {A = ℕ} 0 1 = cc in absurd (omega arith)
+
+same_known : {v b w : Bool} (any : Bool) → Known v ≡ Known b → beq v any ≡ w → beq b any ≡ w
+same_known {v} {b} any e f = let i : b ≡ v = cc in rw i f
+
 -- An arm that does not decide.
 known_on : (any b : Bool) (cs : Conditions) (w : ConditionWalk) → beq b any ≡ false → behind cs (step_of any (known b) w) ≡ behind cs w
 known_on false false cs w e = clash e
@@ -117,31 +135,25 @@ end_stopped : (any : Bool) → end_of any stopped ≡ known any
 end_stopped false = refl
 end_stopped true = refl
 
--- Whether an arm decides, as the code tests it.
-abbrev decided : ReducedCondition → Bool → Bool
-decided a any = not a.pending && beq a.satisfied any
+-- An arm decides if it is known with this value.
+module _ (any : Bool) (a : Reduced) (part : List ℕ) where
+  module _ (goes_on : (b : Bool) → a ≡ Known b → beq b any ≡ false) where
+    on_walk : (q : model.ReducedCondition) → Left q a part → (cs : Conditions) (w : ConditionWalk) → behind cs (step_of any q w) ≡ behind (held_with cs q) w
+    on_walk (known b) l cs w = known_on any b cs w (goes_on b l)
+    on_walk (pending_c c) l cs w = pending_on any c cs w
 
-module _ (any : Bool) (a : ReducedCondition) (part : List ℕ) where
-  on_walk : (q : model.ReducedCondition) → Left q a part → decided a any ≡ false → (cs : Conditions) (w : ConditionWalk) → behind cs (step_of any q w) ≡ behind (held_with cs q) w
-  on_walk (known b) l e cs w = known_on any b cs w (rw (l.0, l.1) at e)
-  on_walk (pending_c c) l e cs w = pending_on any c cs w
+    on_read_lem : (q : model.ReducedCondition) → Left q a part → (here on : Consulted) → unless_of any q here on ≡ on
+    on_read_lem (known b) l here on = known_read any b here on (goes_on b l)
+    on_read_lem (pending_c c) l here on = pending_read any c here on
 
-  on_read_lem : (q : model.ReducedCondition) → Left q a part → decided a any ≡ false → (here on : Consulted) → unless_of any q here on ≡ on
-  on_read_lem (known b) l e here on = known_read any b here on (rw (l.0, l.1) at e)
-  on_read_lem (pending_c c) l e here on = pending_read any c here on
+  module _ (v : Bool) (is : a ≡ Known v) (halts : beq v any ≡ true) where
+    stop_walk : (q : model.ReducedCondition) → Left q a part → (w : ConditionWalk) → step_of any q w ≡ stopped
+    stop_walk (known b) l w = known_stop any b w (same_known any (sym is ∙ l) halts)
+    stop_walk (pending_c c) l w = not_both (sym is ∙ l.0)
 
-  stop_walk : (q : model.ReducedCondition) → Left q a part → decided a any ≡ true → (w : ConditionWalk) → step_of any q w ≡ stopped
-  stop_walk (known b) l e w = known_stop any b w (rw (l.0, l.1) at e)
-  stop_walk (pending_c c) l e w = clash (sym (rw l.0 at e))
-
-  stop_read : (q : model.ReducedCondition) → Left q a part → decided a any ≡ true → (here on : Consulted) → unless_of any q here on ≡ here
-  stop_read (known b) l e here on = known_stop_read any b here on (rw (l.0, l.1) at e)
-  stop_read (pending_c c) l e here on = clash (sym (rw l.0 at e))
-
-held_with_lem : (h g : Kept) (a : ReducedCondition) (from : ℕ) (mid part before after : List ℕ) → Returned h.used from mid part before → Heeds h a before g after →
-    (q : model.ReducedCondition) (cs : Conditions) → Left q a part → Holding cs mid h → Holding (held_with cs q) after g
-held_with_lem h g a from mid part before after b e (known v) cs l k = held_same h g a from mid part before after b e cs l.0 k
-held_with_lem h g a from mid part before after b e (pending_c c) cs l k = held_more h g a from mid part before after b e cs c l.0 l.1 k
+    stop_read : (q : model.ReducedCondition) → Left q a part → (here on : Consulted) → unless_of any q here on ≡ here
+    stop_read (known b) l here on = known_stop_read any b here on (same_known any (sym is ∙ l) halts)
+    stop_read (pending_c c) l here on = not_both (sym is ∙ l.0)
 
 -- ---- what is to be answered for the arms from `next`, with these held
 abbrev Answered : Bool → Table → Conditions → ℕ → Lent → ReducedCondition → Lent → List ℕ → Conditions → List ℕ → Type 0
@@ -152,11 +164,8 @@ for_each : {A X : Type 0} {Y : X → Type 0} {Q : X → A → List ℕ → Type 
 for_each (refuse n) f = nothing
 for_each (got a ws) f = fine (λ x y. (f x y).it)
 
--- ---- the invariant: what was lent is s and out₀, and is u and out now; the arms before `next` have left those that are held
-pub record Going (any : Bool) (P : Table) (W : List ℕ) (at depth arms : ℕ) (s : Lent) (out₀ : List ℕ) (u : Lent) (out : List ℕ) (h : Kept) (next left : ℕ) : Type 0 where
-  pub entries_long : length u.entries ≡ length s.entries
-  pub seen_long : length u.seen ≡ length s.seen
-  pub out_long : length out ≡ length out₀
+-- ---- the invariant: what was lent is s, and is u and out now; the arms before `next` have left those that are held
+pub record Going (any : Bool) (P : Table) (W : List ℕ) (at depth arms : ℕ) (s u : Lent) (out : List ℕ) (h : Kept) (next left : ℕ) : Type 0 where
   pub few : h.count + left ≤ arms
   pub first_most : h.first ≤ too_many
   pub used_most : h.used ≤ too_many
@@ -164,76 +173,78 @@ pub record Going (any : Bool) (P : Table) (W : List ℕ) (at depth arms : ℕ) (
       ((cs : Conditions) → Holding cs out h → Holds (Answered any P cs next u r t o) (many cnil ccons (read_condition depth) left (drop next W))) →
       Holds (λ cs _. ReducedTo (end_of any (walk_of any P cs)) (at + words_cs cs) (read_of any P cs) s r t o) (many cnil ccons (read_condition depth) arms (drop at W))
 
-module _ (any : Bool) (P : Table) (W : List ℕ) (at depth arms : ℕ) (s : Lent) (out₀ : List ℕ) where
-  pub going_none : Going any P W at depth arms s out₀ s out₀ (kept_of 0 0 0) at arms
-  going_none = record {
-    entries_long = refl;
-    seen_long = refl;
-    out_long = refl;
+module _ (any : Bool) (P : Table) (W : List ℕ) (at depth arms : ℕ) (s : Lent) where
+  pub going_none : (out : List ℕ) → Going any P W at depth arms s s out (kept_of 0 0 0) at arms
+  going_none out = record {
     few = omega arith;
     first_most = omega arith;
     used_most = omega arith;
     goes = λ r t o f. weaker (many cnil ccons (read_condition depth) arms (drop at W))
-        (λ cs rest e. record { left = subst (λ w. Left (end_of any w) r o) (behind_none (walk_of any P cs)) e.left; next_is = e.next_is; log = e.log })
+        (λ cs rest e. record { left = subst (λ w. Left (end_of any w) r.to o) (behind_none (walk_of any P cs)) e.left; next_is = e.next_is; log = e.log })
         (f cnil (refl, refl));
   }
 
   -- The arm at `next`, which stands in the part that it was lent.
-  module _ (u m : Lent) (out part : List ℕ) (h : Kept) (next left : ℕ) (a : ReducedCondition) (some : left ≡ 0 → ⊥) (i : Going any P W at depth arms s out₀ u out h next left)
+  module _ (u m : Lent) (out part : List ℕ) (h : Kept) (next left : ℕ) (a : ReducedCondition) (some : left ≡ 0 → ⊥) (i : Going any P W at depth arms s u out h next left)
       (arm : ReducesC P W next depth u a m part) where
     abbrev First : Condition → List ℕ → Type 0
     First c rest = ReducedTo (reduce_condition P c) (next + words_c c) (walk_c P c) u a m part
 
     -- it does not decide
-    more_arms : (g : Kept) (from : ℕ) (before after : List ℕ) → decided a any ≡ false → Returned h.used from out part before → Heeds h a before g after →
-        (r : ReducedCondition) (t : Lent) (o : List ℕ) →
-        ((cs : Conditions) → Holding cs after g → Holds (Answered any P cs a.next m r t o) (many cnil ccons (read_condition depth) (left - 1) (drop a.next W))) →
-        (cs : Conditions) → Holding cs out h → Holds (Answered any P cs next u r t o) (many cnil ccons (read_condition depth) left (drop next W))
-    more_arms g from before after goes_on b e r t o f cs k =
-        first_arm {One = First} {Others = λ ds us. (c : Condition) → First c us → Answered any P (held_with cs (reduce_condition P c)) a.next m r t o ds us} W next a.next (λ c rest x. x.next_is)
-        (λ c rest ds us x y. let z = y c x in record {
-          left = subst (λ w. Left (end_of any w) r o) (sym (ap (behind cs) (walk_first any P c ds) ∙ on_walk any a part (reduce_condition P c) x.left goes_on cs (walk_of any P ds))) z.left;
-          next_is = omega (arith, x.next_is, z.next_is);
-          log = consults_as (λ l. read_first any P c ds l ∙ on_read_lem any a part (reduce_condition P c) x.left goes_on (walk_c P c l) (read_of any P ds (walk_c P c l))) (consults_then x.log z.log);
-        })
-        depth left some arm.says
-        (for_each (many cnil ccons (read_condition depth) (left - 1) (drop a.next W)) (λ c x. f (held_with cs (reduce_condition P c)) (held_with_lem h g a from out part before after b e (reduce_condition P c) cs x.left k)))
+    module _ (g : Kept) (after : List ℕ) (goes_on : (b : Bool) → a.to ≡ Known b → beq b any ≡ false)
+        (held : (q : model.ReducedCondition) (cs : Conditions) → Left q a.to part → Holding cs out h → Holding (held_with cs q) after g) where
+      more_arms : (r : ReducedCondition) (t : Lent) (o : List ℕ) →
+          ((cs : Conditions) → Holding cs after g → Holds (Answered any P cs a.next m r t o) (many cnil ccons (read_condition depth) (left - 1) (drop a.next W))) →
+          (cs : Conditions) → Holding cs out h → Holds (Answered any P cs next u r t o) (many cnil ccons (read_condition depth) left (drop next W))
+      more_arms r t o f cs k =
+          first_arm {One = First} {Others = λ ds us. (c : Condition) → First c us → Answered any P (held_with cs (reduce_condition P c)) a.next m r t o ds us} W next a.next (λ c rest x. x.next_is)
+          (λ c rest ds us x y. let z = y c x in record {
+            left = subst (λ w. Left (end_of any w) r.to o) (sym (ap (behind cs) (walk_first any P c ds) ∙ on_walk any a.to part goes_on (reduce_condition P c) x.left cs (walk_of any P ds))) z.left;
+            next_is = omega (arith, x.next_is, z.next_is);
+            log = consults_as (λ l. read_first any P c ds l ∙ on_read_lem any a.to part goes_on (reduce_condition P c) x.left (walk_c P c l) (read_of any P ds (walk_c P c l))) (consults_then x.log z.log);
+          })
+          depth left some arm.says
+          (for_each (many cnil ccons (read_condition depth) (left - 1) (drop a.next W)) (λ c x. f (held_with cs (reduce_condition P c)) (held (reduce_condition P c) cs x.left k)))
 
-    pub going_more : (g : Kept) (from : ℕ) (before after : List ℕ) → decided a any ≡ false → Returned h.used from out part before → Heeds h a before g after → length after ≡ length before →
-        length m.entries ≡ length u.entries → length m.seen ≡ length u.seen → Going any P W at depth arms s out₀ m after g a.next (left - 1)
-    going_more g from before after goes_on b e long entries seen = record {
-      entries_long = entries ∙ i.entries_long;
-      seen_long = seen ∙ i.seen_long;
-      out_long = long ∙ b.long ∙ i.out_long;
-      few = omega (arith, i.few, e.few);
-      first_most = e.first_most;
-      used_most = e.used_most;
-      goes = λ r t o f. i.goes r t o (more_arms g from before after goes_on b e r t o f);
-    }
+      going_more : g.count ≤ h.count + 1 → g.first ≤ too_many → g.used ≤ too_many → Going any P W at depth arms s m after g a.next (left - 1)
+      going_more few first used = record { few = omega (arith, i.few); first_most = first; used_most = used; goes = λ r t o f. i.goes r t o (more_arms r t o f) }
 
-    -- it does: the others are passed over
-    pub going_stop : (n count : ℕ) (o : List ℕ) → decided a any ≡ true → SkippedConditions W a.next (left - 1) n → ReducesList any P W at depth arms s (known_of any n count) m o
-    going_stop n count o halts k = record {
-      bound = omega arith;
-      says = i.goes (known_of any n count) m o (λ cs _. first_arm {One = First} {Others = λ ds us. n ≡ a.next + words_cs ds} W next a.next (λ c rest x. x.next_is)
+    -- it is left, or known with the other value
+    pub going_keep : (n : ℕ) (g : Kept) (from : ℕ) (before after : List ℕ) → a.to ≡ Pending n → Returned h.used from out part before → Keeps h n before g after → Going any P W at depth arms s m after g a.next (left - 1)
+    going_keep n g from before after is b e = going_more g after (λ v k. not_both (sym k ∙ is)) held e.few e.first_most e.used_most
+      where
+        held : (q : model.ReducedCondition) (cs : Conditions) → Left q a.to part → Holding cs out h → Holding (held_with cs q) after g
+        held (known v) cs l k = not_both (sym l ∙ is)
+        held (pending_c c) cs l k = held_more h g n from out part before after b e cs c (rw is at l.1) k
+
+    pub going_same : (v : Bool) (from : ℕ) (after : List ℕ) → a.to ≡ Known v → beq v any ≡ false → Returned h.used from out part after → Going any P W at depth arms s m after h a.next (left - 1)
+    going_same v from after is other b = going_more h after (λ w k. same_known any (sym is ∙ k) other) held (omega arith) i.first_most i.used_most
+      where
+        held : (q : model.ReducedCondition) (cs : Conditions) → Left q a.to part → Holding cs out h → Holding (held_with cs q) after h
+        held (known w) cs l k = held_same h from out part after b cs k
+        held (pending_c c) cs l k = not_both (sym is ∙ l.0)
+
+    -- it decides: the others are passed over
+    pub going_stop : (v : Bool) (n : ℕ) (o : List ℕ) → a.to ≡ Known v → beq v any ≡ true → SkippedConditions W a.next (left - 1) n → ReducesList any P W at depth arms s (record { to = a.to; next = n }) m o
+    going_stop v n o is halts k = record {
+      bound = arm.bound;
+      says = i.goes (record { to = a.to; next = n }) m o (λ cs _. first_arm {One = First} {Others = λ ds us. n ≡ a.next + words_cs ds} W next a.next (λ c rest x. x.next_is)
           (λ c rest ds us x y. record {
-            left = subst (λ q. Left q (known_of any n count) o) (sym (ap (λ w. end_of any (behind cs w)) (walk_first any P c ds ∙ stop_walk any a part (reduce_condition P c) x.left halts (walk_of any P ds)) ∙ end_stopped any)) (refl, refl);
+            left = subst (λ q. Left q a.to o) (sym (ap (λ w. end_of any (behind cs w)) (walk_first any P c ds ∙ stop_walk any a.to part v is halts (reduce_condition P c) x.left (walk_of any P ds)) ∙ end_stopped any)) (is ∙ ap Known (beq_is v any halts));
             next_is = omega (arith, x.next_is);
-            log = consults_as (λ l. read_first any P c ds l ∙ stop_read any a part (reduce_condition P c) x.left halts (walk_c P c l) (read_of any P ds (walk_c P c l))) x.log;
+            log = consults_as (λ l. read_first any P c ds l ∙ stop_read any a.to part v is halts (reduce_condition P c) x.left (walk_c P c l) (read_of any P ds (walk_c P c l))) x.log;
           })
           depth left some arm.says (k.ends depth));
     }
 
   -- No arm is left, and none has decided.
-  pub going_end : (count : ℕ) (entries seen out o : List ℕ) (h : Kept) (next left : ℕ) (r : ReducedCondition) → left ≡ 0 → Going any P W at depth arms s out₀ (lent count entries seen) out h next left →
-      Ends any h next count out r o → ReducesList any P W at depth arms s r (lent r.count entries seen) o
-  going_end count entries seen out o h next left r z i e =
-      subst (λ n. ReducesList any P W at depth arms s r (lent n entries seen) o) (sym e.count_is)
-      (record {
-        bound = e.bound;
-        says = i.goes r (lent count entries seen) o (λ cs k. rw z (fine (record {
-          left = subst (λ w. Left (end_of any w) r o) (sym (ap (behind cs) (walk_none any P) ∙ ap through (append_none cs))) (e.ends cs k);
-          next_is = omega (arith, e.next_is);
-          log = consults_as (λ l. read_none any P l) consults_none;
-        })));
-      })
+  pub going_end : (u : Lent) (out o : List ℕ) (h : Kept) (next left : ℕ) (r : Reduced) → left ≡ 0 → Going any P W at depth arms s u out h next left →
+      Ends any h out r o → ReducesList any P W at depth arms s (record { to = r; next = next }) u o
+  going_end u out o h next left r z i e = record {
+    bound = e.bound;
+    says = i.goes (record { to = r; next = next }) u o (λ cs k. rw z (fine (record {
+      left = subst (λ w. Left (end_of any w) r o) (sym (ap (behind cs) (walk_none any P) ∙ ap through (append_none cs))) (e.ends cs k);
+      next_is = omega arith;
+      log = consults_as (λ l. read_none any P l) consults_none;
+    })));
+  }

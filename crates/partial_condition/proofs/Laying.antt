@@ -2,12 +2,10 @@
 -- Assumes nothing.
 use mathlib.Core.Path.{◌≡◌, refl, sym, ◌∙◌, ap, ap₂}
 use mathlib.Core.List.{List, [], ◌∷◌, ◌++◌, append_assoc}
-use Prim.Native.Nat.{ℕ, zero, suc, ◌+◌, ◌-◌, ◌≤◌, ◌<◌, min}
-use native.Mathlib.Nat.{sub-zero}
-use native.Mathlib.Numerals.{add-one, sub-one}
+use Prim.Native.Nat.{ℕ, suc, ◌+◌, ◌-◌, ◌≤◌, min}
 use native.Mathlib.Omega.{arith}
-use lib.ListN.{length, take, drop, get_or, set, length-append, length-take, length-drop, length-set, take-append-drop, get_or-append}
-use lib.Seq.{length-take-le, take-suc, take-take, take-add, take_at, drop_at, drop-cons, append_snoc, set_at, get_or-take}
+use lib.ListN.{length, take, drop, get_or, length-append, length-take, length-drop}
+use lib.Seq.{length-take-le, take-suc, take-take, take-add, take_at, drop_at}
 use Rattle.sizes.specs.Laid.{most_words, capped, Laid}
 use Rattle.sizes.specs.LaidLaws.{take_both}
 use Rattle.partial_condition.specs.Holding.{MovedUp}
@@ -92,59 +90,3 @@ laid_moved n m w xs ys {k} {r} {before} {after} long e l v =
           ap₂ (λ i ws. take i ws) same (v.up (omega arith) ∙ ap (λ i. take 1 before ++ (take i before ++ drop (i + 1) before)) few)
           ∙ moved_words n m w xs ys before long fits is;
     }
-
--- ---- moving up, from the last word on: those from i on were moved
-pub record Rising (size : ℕ) (out₀ out : List ℕ) (i : ℕ) : Type 0 where
-  pub few : i ≤ size
-  pub long : length out ≡ length out₀
-  pub is : out ≡ take (suc i) out₀ ++ (take (size - i) (drop i out₀) ++ drop (size + 1) out₀)
-
-pub rising_none : (size : ℕ) (out : List ℕ) → Rising size out out size
-rising_none size out =
-    let z : size - size ≡ 0 = omega arith in
-    record {
-      few = omega arith;
-      long = refl;
-      is = rw (z, add-one) (sym (take-append-drop (suc size) out));
-    }
-
-module _ (size : ℕ) (out₀ out : List ℕ) (fits : size < length out₀) where
-  -- What stands below i is what stood there.
-  below_same : (j : ℕ) (rest : List ℕ) → out ≡ take (suc (suc j)) out₀ ++ rest → j < length out₀ → get_or out j 0 ≡ get_or out₀ j 0
-  below_same j rest e lt =
-      ap (λ l. get_or l j 0) e
-      ∙ get_or-append (take (suc (suc j)) out₀) rest 0 j (omega (arith, length-take (suc (suc j)) out₀))
-      ∙ get_or-take (suc (suc j)) out₀ j 0 (omega arith)
-
-  -- The word below i is one more of those that are moved.
-  one_moved : (j : ℕ) → suc j ≤ size → take (size - j) (drop j out₀) ≡ get_or out₀ j 0 ∷ take (size - suc j) (drop (suc j) out₀)
-  one_moved j f =
-      let one : size - j ≡ suc (size - suc j) = omega arith in
-      let lt : j < length out₀ = omega arith in
-      rw (one, drop-cons out₀ j 0 lt)
-
-  set_last : (j x : ℕ) (rest : List ℕ) → suc j < length out₀ → out ≡ take (suc (suc j)) out₀ ++ rest → set out (suc j) x ≡ take (suc j) out₀ ++ x ∷ rest
-  set_last j x rest lt e =
-      ap (λ l. set l (suc j) x) (e ∙ ap (λ l. l ++ rest) (take-suc out₀ (suc j) 0 lt) ∙ append_snoc (take (suc j) out₀) (get_or out₀ (suc j) 0) rest)
-      ∙ set_at (take (suc j) out₀) (get_or out₀ (suc j) 0) rest x (suc j) (length-take-le (suc j) out₀ (omega arith))
-
-  rising_suc : (j : ℕ) → Rising size out₀ out (suc j) → Rising size out₀ (set out (suc j) (get_or out j 0)) j
-  rising_suc j s = record {
-    few = omega (arith, s.few);
-    long = length-set out (suc j) (get_or out j 0) ∙ s.long;
-    is =
-        set_last j (get_or out j 0) (take (size - suc j) (drop (suc j) out₀) ++ drop (size + 1) out₀) (omega (arith, s.few)) s.is
-        ∙ ap (λ x. take (suc j) out₀ ++ ((x ∷ take (size - suc j) (drop (suc j) out₀)) ++ drop (size + 1) out₀)) (below_same j (take (size - suc j) (drop (suc j) out₀) ++ drop (size + 1) out₀) s.is (omega (arith, s.few)))
-        ∙ ap (λ l. take (suc j) out₀ ++ (l ++ drop (size + 1) out₀)) (sym (one_moved j s.few));
-  }
-
-  pub rising_more : (i : ℕ) → (i ≡ 0 → ⊥) → Rising size out₀ out i → Rising size out₀ (set out i (get_or out (i - 1) 0)) (i - 1)
-  rising_more zero f s = absurd (f refl)
-  rising_more (suc j) f s = rw sub-one (rising_suc j s)
-
-  pub moved_all : (i : ℕ) → i ≡ 0 → Rising size out₀ out i → MovedUp size out₀ out
-  moved_all zero z s = record { long = s.long; up = λ _. s.is ∙ ap (λ n. take 1 out₀ ++ (take n out₀ ++ drop (size + 1) out₀)) (sub-zero size) }
-  moved_all (suc i) z s = absurd (omega arith)
-
-pub moved_short : (size : ℕ) (out : List ℕ) → length out ≤ size → MovedUp size out out
-moved_short size out h = record { long = refl; up = λ lt. absurd (omega arith) }

@@ -6,9 +6,10 @@ use Rattle.model.specs.Partial.{through}
 use Rattle.model.specs.Writing.{word, count_c, encode_c, encode_cs}
 use Rattle.laws.specs.Size.{words_c, words_cs}
 use Rattle.sizes.specs.Laid.{too_many, capped, Laid}
-use Rattle.partial_condition.specs.declared.ReducedCondition.{ReducedCondition}
+use Rattle.partial_condition.specs.declared.Reduced.{Reduced}
+use Rattle.partial_condition.specs.declared.Reduced.TheVariants.{Known, Pending}
 use Rattle.partial_condition.specs.declared.Kept.{Kept}
-use Rattle.partial_condition.specs.Reducing.{Left, end_of}
+use Rattle.partial_condition.specs.Reducing.{size_of, Left, end_of}
 
 abbrev pub kept_of : ℕ → ℕ → ℕ → Kept
 kept_of count first used = record { count = count; first = first; used = used }
@@ -34,27 +35,22 @@ pub record MovedUp (k : ℕ) (before after : List ℕ) : Type 0 where
   pub long : length after ≡ length before
   pub up : k < length before → after ≡ take 1 before ++ (take k before ++ drop (k + 1) before)
 
--- An arm was heeded: a known one drops out, and one that is left, which stands behind what was held, is held too.
-pub record Heeds (h : Kept) (arm : ReducedCondition) (before : List ℕ) (g : Kept) (after : List ℕ) : Type 0 where
+-- One arm more is held, of size n, which stands behind what was held.
+pub record Keeps (h : Kept) (n : ℕ) (before : List ℕ) (g : Kept) (after : List ℕ) : Type 0 where
   pub few : g.count ≤ h.count + 1
   pub first_most : g.first ≤ too_many
   pub used_most : g.used ≤ too_many
-  pub dropped : arm.pending ≡ false → (g ≡ h) × (after ≡ before)
-  pub first_held : arm.pending ≡ true → h.count ≡ 0 → (g ≡ kept_of 1 arm.size (capped (arm.size + 1))) × (after ≡ before)
-  pub second_held : arm.pending ≡ true → h.count ≡ 1 → (g ≡ kept_of (h.count + 1) h.first (capped (h.used + arm.size))) × MovedUp h.first before after
-  pub more_held : arm.pending ≡ true → 2 ≤ h.count → (g ≡ kept_of (h.count + 1) h.first (capped (h.used + arm.size))) × (after ≡ before)
+  pub first_held : h.count ≡ 0 → (g ≡ kept_of 1 n (capped (n + 1))) × (after ≡ before)
+  pub second_held : h.count ≡ 1 → (g ≡ kept_of (h.count + 1) h.first (capped (h.used + n))) × MovedUp h.first before after
+  pub more_held : 2 ≤ h.count → (g ≡ kept_of (h.count + 1) h.first (capped (h.used + n))) × (after ≡ before)
 
 -- Not flips a known condition, and its word goes before what is left of another.
-pub record Negates (inner : ReducedCondition) (before : List ℕ) (r : ReducedCondition) (after : List ℕ) : Type 0 where
-  pub next_is : r.next ≡ inner.next
-  pub count_is : r.count ≡ inner.count
-  pub bound : r.size ≤ too_many
-  pub flips : inner.pending ≡ false → (r.pending ≡ false) × (r.satisfied ≡ not inner.satisfied)
-  pub wraps : inner.pending ≡ true → (r.pending ≡ true) × (r.size ≡ capped (1 + inner.size)) × (after ≡ set before 0 (word 3 0))
+pub record Negates (inner : Reduced) (before : List ℕ) (r : Reduced) (after : List ℕ) : Type 0 where
+  pub bound : size_of r ≤ too_many
+  pub flips : (b : Bool) → inner ≡ Known b → r ≡ Known (not b)
+  pub wraps : (n : ℕ) → inner ≡ Pending n → (r ≡ Pending (capped (1 + n))) × (after ≡ set before 0 (word 3 0))
 
 -- The answer of a list rule that no arm decided, by the arms that it holds.
-pub record Ends (any : Bool) (h : Kept) (next count : ℕ) (before : List ℕ) (r : ReducedCondition) (after : List ℕ) : Type 0 where
-  pub next_is : r.next ≡ next
-  pub count_is : r.count ≡ count
-  pub bound : r.size ≤ too_many
+pub record Ends (any : Bool) (h : Kept) (before : List ℕ) (r : Reduced) (after : List ℕ) : Type 0 where
+  pub bound : size_of r ≤ too_many
   pub ends : (cs : Conditions) → Holding cs before h → Left (end_of any (through cs)) r after

@@ -2,58 +2,37 @@
 // front of `out`, which may be too short for it: then only its size is right. The facts that were read as known are listed on the way, as in `condition`.
 #![tactic(auto)]
 
-ghost use Rattle.std.specs.Prelude.{◌≡◌, not, ◌&&◌, ◌+◌, ◌^◌, ◌≤◌, ◌<◌, set};
-ghost use Rattle.std.specs.Bool.{beq};
+ghost use Rattle.std.specs.Prelude.{◌≡◌, ◌+◌, ◌^◌, ◌≤◌, ◌<◌, set};
 ghost use Rattle.model.specs.Facts.{fact_count, table_of};
 ghost use Rattle.model.specs.Writing.{count_bits, word};
-ghost use Rattle.condition.specs.Listing.{lent};
-ghost use Rattle.sizes.specs.Laid.{too_many, capped};
-ghost use Rattle.partial_condition.specs.Reducing.{known_of, pending_of, ReducesC, ReducesHas, ReducesList, ReducesAll, ReducesAny};
-ghost use Rattle.partial_condition.specs.Holding.{kept_of, list_kind, MovedUp, Heeds, Negates, Ends};
+ghost use Rattle.consulted.specs.Listing.{held};
+ghost use Rattle.sizes.specs.Laid.{too_many};
+ghost use Rattle.partial_condition.specs.Reducing.{size_of, ReducesC, ReducesHas, ReducesList};
+ghost use Rattle.partial_condition.specs.Holding.{list_kind, MovedUp, Keeps, Negates, Ends};
 
-use facts::Presence;
+use consulted::Consulted;
 use policy_model::ConditionHead;
 
-// Whether a condition is pending, its value if it is not, the position after its words, how many entries are in use, and the size of what is left.
+// What a condition came to: its value, or the size of what is left of it.
+#[derive(Clone, Copy)]
+pub enum Reduced {
+    Known(bool),
+    Pending(usize),
+}
+
+// That, and the position after the condition's words.
 #[derive(Clone, Copy)]
 pub struct ReducedCondition {
-    pub pending: bool,
-    pub satisfied: bool,
+    pub to: Reduced,
     pub next: usize,
-    pub count: usize,
-    pub size: usize,
 }
 
 // The pending arms that a list rule keeps: how many, the size of the first, and how many words they take, with the word that is free for a lead.
-#[derive(Drop)]
+#[derive(Clone, Copy)]
 struct Kept {
     pub count: u32,
     pub first: usize,
     pub used: usize,
-}
-
-fn known(satisfied: bool, next: usize, count: usize) -> ReducedCondition
-    ensures { result ≡ known_of satisfied next count }
-{
-    ReducedCondition {
-        pending: false,
-        satisfied,
-        next,
-        count,
-        size: 0,
-    }
-}
-
-fn pending(size: usize, next: usize, count: usize) -> ReducedCondition
-    ensures { result ≡ pending_of size next count }
-{
-    ReducedCondition {
-        pending: true,
-        satisfied: false,
-        next,
-        count,
-        size,
-    }
 }
 
 // The first word of the output, if there is one.
@@ -69,100 +48,81 @@ pub fn put_first(word: u32, out: &mut [u32])
 fn move_up(size: usize, out: &mut [u32])
     ensures { MovedUp size out.old out.new }
 {
-    if out.len() <= size {
-        return;
-    }
-    let mut i = size;
-    while i != 0 {
-        out[i] = out[i - 1];
-        i -= 1;
+    if size < out.len() {
+        out.copy_within(0..size, 1);
     }
 }
 
-// A Has, whose words end at `next`: pending on Unknown, which isn't consulted.
-fn reduce_has(
-    fact: u32,
-    next: usize,
-    facts: &[u8],
-    entries: &mut [u16],
-    seen: &mut [u64],
-    count: usize,
-    out: &mut [u32],
-) -> ReducedCondition
+// A Has: pending on Unknown, which isn't consulted.
+fn reduce_has(fact: u32, facts: &[u8], consulted: &mut Consulted<'_>, out: &mut [u32]) -> Reduced
     requires { fact < fact_count }
-    ensures { ReducesHas (table_of facts.now) fact next (lent count entries.old seen.old) result (lent result.count entries.new seen.new) out.new }
+    ensures { ReducesHas (table_of facts.now) fact (held consulted.old) result (held consulted.new) out.new }
 {
     if facts::settled(facts, fact) {
-        let satisfied = facts::present(facts, fact);
-        let presence = Presence::of(facts, fact);
-        let listed = condition::record(entries, seen, count, fact, presence);
-        return known(satisfied, next, listed);
+        return Reduced::Known(condition::eval_has(fact, facts, consulted));
     }
     put_first(policy_model::LEAD_HAS + fact, out);
-    pending(1, next, count)
+    Reduced::Pending(1)
 }
 
 // Not of `inner`, what is left of which stands behind one free word.
-fn negated(inner: ReducedCondition, out: &mut [u32]) -> ReducedCondition
-    requires { inner.size ≤ too_many }
+fn negated(inner: Reduced, out: &mut [u32]) -> Reduced
+    requires { size_of inner ≤ too_many }
     ensures { Negates inner out.old result out.new }
 {
-    if inner.pending {
-        put_first(policy_model::LEAD_NOT, out);
-        return pending(sizes::plus(1, inner.size), inner.next, inner.count);
+    match inner {
+        Reduced::Known(satisfied) => Reduced::Known(!satisfied),
+        Reduced::Pending(size) => {
+            put_first(policy_model::LEAD_NOT, out);
+            Reduced::Pending(sizes::plus(1, size))
+        }
     }
-    known(!inner.satisfied, inner.next, inner.count)
 }
 
-// The condition at `at`, of at most `depth` levels.
+// The condition at `at`, of at most `depth` levels. An All or an Any hands its arms to the list rule; All without arms is false.
 #[cycle(reduction)]
 pub fn reduce_condition(
     words: &[u32],
     at: usize,
     depth: usize,
     facts: &[u8],
-    entries: &mut [u16],
-    seen: &mut [u64],
-    count: usize,
+    consulted: &mut Consulted<'_>,
     out: &mut [u32],
 ) -> ReducedCondition
-    ensures { ReducesC (table_of facts.now) words.now at depth (lent count entries.old seen.old) result (lent result.count entries.new seen.new) out.new }
+    ensures { ReducesC (table_of facts.now) words.now at depth (held consulted.old) result (held consulted.new) out.new }
 {
-    if words.len() <= at {
-        return known(false, at, count);
-    }
-    if depth == 0 {
-        return known(false, at, count);
+    let none = ReducedCondition {
+        to: Reduced::Known(false),
+        next: at,
+    };
+    if words.len() <= at || depth == 0 {
+        return none;
     }
     let next = at + 1;
     let below = depth - 1;
-    match policy_model::condition_head(words[at]) {
-        ConditionHead::Always => known(true, next, count),
-        ConditionHead::Never => known(false, next, count),
-        ConditionHead::Has(fact) => reduce_has(fact, next, facts, entries, seen, count, out),
+    let to = match policy_model::condition_head(words[at]) {
+        ConditionHead::Always => Reduced::Known(true),
+        ConditionHead::Never => Reduced::Known(false),
+        ConditionHead::Has(fact) => reduce_has(fact, facts, consulted, out),
         ConditionHead::Not => {
             let from = sizes::tail_from(1, out.len());
-            let inner = reduce_condition(
-                words,
-                next,
-                below,
-                facts,
-                entries,
-                seen,
-                count,
-                &mut out[from..],
-            );
-            negated(inner, out)
+            let inner = reduce_condition(words, next, below, facts, consulted, &mut out[from..]);
+            return ReducedCondition {
+                to: negated(inner.to, out),
+                next: inner.next,
+            };
         }
+        ConditionHead::All(0) => Reduced::Known(false),
         ConditionHead::All(arms) => {
-            reduce_condition_all(words, next, below, arms, facts, entries, seen, count, out)
+            return reduce_arms(words, next, below, arms, false, facts, consulted, out);
         }
         ConditionHead::Any(arms) => {
-            reduce_condition_any(words, next, below, arms, facts, entries, seen, count, out)
+            return reduce_arms(words, next, below, arms, true, facts, consulted, out);
         }
-        ConditionHead::BadKind => known(false, at, count),
-        ConditionHead::BadField => known(false, at, count),
-    }
+        ConditionHead::BadKind => return none,
+        ConditionHead::BadField => return none,
+    };
+    ReducedCondition { to, next }
 }
 
 // The same of an arm. A Has, the commonest arm, is seen here, so that the list rule reads it with no call.
@@ -172,73 +132,43 @@ fn reduce_arm(
     at: usize,
     depth: usize,
     facts: &[u8],
-    entries: &mut [u16],
-    seen: &mut [u64],
-    count: usize,
+    consulted: &mut Consulted<'_>,
     out: &mut [u32],
 ) -> ReducedCondition
-    ensures { ReducesC (table_of facts.now) words.now at depth (lent count entries.old seen.old) result (lent result.count entries.new seen.new) out.new }
+    ensures { ReducesC (table_of facts.now) words.now at depth (held consulted.old) result (held consulted.new) out.new }
 {
-    if words.len() <= at {
-        return known(false, at, count);
+    if at < words.len() {
+        let word = words[at];
+        if word / policy_model::FACTS == policy_model::HAS {
+            return ReducedCondition {
+                to: reduce_has(word % policy_model::FACTS, facts, consulted, out),
+                next: at + 1,
+            };
+        }
     }
-    let word = words[at];
-    if word / policy_model::FACTS == policy_model::HAS {
-        return reduce_has(
-            word % policy_model::FACTS,
-            at + 1,
-            facts,
-            entries,
-            seen,
-            count,
-            out,
-        );
-    }
-    reduce_condition(words, at, depth, facts, entries, seen, count, out)
+    reduce_condition(words, at, depth, facts, consulted, out)
 }
 
-// A known arm decides a list rule: a false one an All, a true one an Any.
-fn decides(arm: ReducedCondition, any: bool) -> bool
-    ensures { result ≡ (not arm.pending && beq arm.satisfied any) }
+// One pending arm more, of this size, which stands behind the words that are kept. The first is moved up when it turns out not to be alone.
+fn keep(kept: Kept, size: usize, out: &mut [u32]) -> Kept
+    requires { (kept.count < 2 ^ count_bits) × (kept.first ≤ too_many) × (kept.used ≤ too_many) × (size ≤ too_many) }
+    ensures { Keeps kept size out.old result out.new }
 {
-    if arm.pending {
-        return false;
+    if kept.count == 0 {
+        return Kept {
+            count: 1,
+            first: size,
+            used: sizes::plus(size, 1),
+        };
     }
-    arm.satisfied == any
-}
-
-// One pending arm more, of this size.
-fn kept_more(kept: Kept, size: usize) -> Kept
-    requires { (kept.count < 2 ^ count_bits) × (kept.used ≤ too_many) × (size ≤ too_many) }
-    ensures { result ≡ kept_of (kept.count + 1) kept.first (capped (kept.used + size)) }
-{
+    if kept.count == 1 {
+        move_up(kept.first, out);
+    }
     Kept {
         count: kept.count + 1,
         first: kept.first,
         used: sizes::plus(kept.used, size),
     }
-}
-
-// Heeds an arm that does not decide. A pending one stands behind the words that are kept; the first is moved up when it turns out not to be alone.
-fn heed(kept: Kept, arm: ReducedCondition, out: &mut [u32]) -> Kept
-    requires { (kept.count < 2 ^ count_bits) × (kept.first ≤ too_many) × (kept.used ≤ too_many) × (arm.size ≤ too_many) }
-    ensures { Heeds kept arm out.old result out.new }
-{
-    if !arm.pending {
-        return kept;
-    }
-    if kept.count == 0 {
-        return Kept {
-            count: 1,
-            first: arm.size,
-            used: sizes::plus(arm.size, 1),
-        };
-    }
-    if kept.count == 1 {
-        move_up(kept.first, out);
-        return kept_more(kept, arm.size);
-    }
-    kept_more(kept, arm.size)
 }
 
 // The lead of a list, an All or an Any.
@@ -253,21 +183,22 @@ fn lead(any: bool, count: u32) -> u32
 }
 
 // A list rule that no arm decided: known without pending arms, else the arm that is alone, or a list of them.
-fn ended(any: bool, kept: Kept, next: usize, count: usize, out: &mut [u32]) -> ReducedCondition
+fn ended(any: bool, kept: Kept, out: &mut [u32]) -> Reduced
     requires { (kept.count < 2 ^ count_bits) × (kept.first ≤ too_many) × (kept.used ≤ too_many) }
-    ensures { Ends any kept next count out.old result out.new }
+    ensures { Ends any kept out.old result out.new }
 {
     if kept.count == 0 {
-        return known(!any, next, count);
+        return Reduced::Known(!any);
     }
     if kept.count < 2 {
-        return pending(kept.first, next, count);
+        return Reduced::Pending(kept.first);
     }
     put_first(lead(any, kept.count), out);
-    pending(kept.used, next, count)
+    Reduced::Pending(kept.used)
 }
 
-// The arms of a list rule, an All or an Any of `arms` conditions from `at`: those after the one that decides aren't read.
+// The arms of a list rule, an All or an Any of `arms` conditions from `at`. A known arm decides it: a false one an All, a true one an Any. The arms after
+// that one aren't read.
 #[cycle(reduction)]
 fn reduce_arms(
     words: &[u32],
@@ -276,13 +207,11 @@ fn reduce_arms(
     arms: u32,
     any: bool,
     facts: &[u8],
-    entries: &mut [u16],
-    seen: &mut [u64],
-    count: usize,
+    consulted: &mut Consulted<'_>,
     out: &mut [u32],
 ) -> ReducedCondition
     requires { arms < 2 ^ count_bits }
-    ensures { ReducesList any (table_of facts.now) words.now at depth arms (lent count entries.old seen.old) result (lent result.count entries.new seen.new) out.new }
+    ensures { ReducesList any (table_of facts.now) words.now at depth arms (held consulted.old) result (held consulted.new) out.new }
 {
     let mut kept = Kept {
         count: 0,
@@ -290,76 +219,24 @@ fn reduce_arms(
         used: 0,
     };
     let mut next = at;
-    let mut listed = count;
-    let mut left = arms;
-    while left != 0 {
+    for left in (0..arms).rev() {
         let from = sizes::tail_from(kept.used, out.len());
-        let arm = reduce_arm(
-            words,
-            next,
-            depth,
-            facts,
-            entries,
-            seen,
-            listed,
-            &mut out[from..],
-        );
+        let arm = reduce_arm(words, next, depth, facts, consulted, &mut out[from..]);
         next = arm.next;
-        listed = arm.count;
-        left -= 1;
-        if decides(arm, any) {
-            return known(
-                any,
-                policy_model::skip_conditions(words, next, left),
-                listed,
-            );
+        match arm.to {
+            Reduced::Pending(size) => kept = keep(kept, size, out),
+            Reduced::Known(satisfied) => {
+                if satisfied == any {
+                    return ReducedCondition {
+                        to: arm.to,
+                        next: policy_model::skip_conditions(words, next, left),
+                    };
+                }
+            }
         }
-        kept = heed(kept, arm, out);
     }
-    ended(any, kept, next, listed, out)
-}
-
-// All of `arms` conditions from `at`: false without arms, else a false arm decides.
-#[cycle(reduction)]
-fn reduce_condition_all(
-    words: &[u32],
-    at: usize,
-    depth: usize,
-    arms: u32,
-    facts: &[u8],
-    entries: &mut [u16],
-    seen: &mut [u64],
-    count: usize,
-    out: &mut [u32],
-) -> ReducedCondition
-    requires { arms < 2 ^ count_bits }
-    ensures { ReducesAll (table_of facts.now) words.now at depth arms (lent count entries.old seen.old) result (lent result.count entries.new seen.new) out.new }
-{
-    if arms == 0 {
-        return known(false, at, count);
+    ReducedCondition {
+        to: ended(any, kept, out),
+        next,
     }
-    reduce_arms(
-        words, at, depth, arms, false, facts, entries, seen, count, out,
-    )
-}
-
-// Any of `arms` conditions from `at`: a true arm decides.
-#[cycle(reduction)]
-fn reduce_condition_any(
-    words: &[u32],
-    at: usize,
-    depth: usize,
-    arms: u32,
-    facts: &[u8],
-    entries: &mut [u16],
-    seen: &mut [u64],
-    count: usize,
-    out: &mut [u32],
-) -> ReducedCondition
-    requires { arms < 2 ^ count_bits }
-    ensures { ReducesAny (table_of facts.now) words.now at depth arms (lent count entries.old seen.old) result (lent result.count entries.new seen.new) out.new }
-{
-    reduce_arms(
-        words, at, depth, arms, true, facts, entries, seen, count, out,
-    )
 }

@@ -1,6 +1,6 @@
 -- One more arm of a list: its node, its decision, its words. Assumes nothing.
 use mathlib.Core.Path.{◌≡◌, refl, sym, ◌∙◌, ap, ap₂, subst}
-use mathlib.Core.Bool.{Bool, true, false, not, ◌&&◌}
+use mathlib.Core.Bool.{Bool, true, false}
 use mathlib.Core.Option.{Option}
 use mathlib.Core.List.{List, ◌++◌}
 use Prim.Native.Nat.{ℕ, ◌+◌, ◌-◌, ◌≤◌, min}
@@ -20,25 +20,13 @@ use Rattle.sizes.specs.Laid.{too_many, capped}
 use Rattle.sizes.specs.LaidLaws.{laid_then}
 use Rattle.residual.specs.Answers.{NodeLaid}
 use Rattle.decision.specs.Room.{obligation_room, Few}
-use Rattle.partial_list.specs.declared.ReducedPolicy.{ReducedPolicy}
 use Rattle.partial_list.specs.declared.Sofar.{Sofar}
 use Rattle.partial_list.specs.Keeping.{arms_with, fold_of, fold_next}
-use Rattle.partial_list.specs.Answers.{sofar_of, Bounded, NodeBehind, NodeKept, DecisionAdded, ArmAdded}
+use Rattle.partial_list.specs.Answers.{sofar_of, Bounded, NodeBehind, NodeKept, DecisionAdded}
 
 pub clash : {G : Type 0} (b : Bool) → b ≡ true → b ≡ false → G
 clash true p q = let z : ◌≡◌ {A = ℕ} 0 1 = cc in absurd (omega arith)
 clash false p q = let z : ◌≡◌ {A = ℕ} 0 1 = cc in absurd (omega arith)
-
--- ---- which arm stops
-pub no_stop : (every : Bool) (x : Bool) → every ≡ false → false ≡ (every && x)
-no_stop every x e = rw e
-
-pub open_goes : (every a p : Bool) → a ≡ true → false ≡ (every && (not a && p))
-open_goes true a p e = rw e
-open_goes false a p e = refl
-
-pub stop_known : (every a p : Bool) → every ≡ true → a ≡ false → p ≡ (every && (not a && p))
-stop_known every a p e d = rw (e, d)
 
 -- ---- the node
 module _ {T : Table} {W : List ℕ} {d : Decision} {kept : ℕ} where
@@ -113,27 +101,4 @@ decision_added {v = v} {buf = buf} {mid = mid} b n few f a = record {
   node = n.node;
   folds = λ g is q. folds_same mid (drop obligation_room mid)
       (sym (take-take v.decision.united obligation_room mid b.few) ∙ ap (take v.decision.united) n.front_bytes ∙ take-take v.decision.united obligation_room buf b.few) n.bytes (f g is q);
-}
-
--- ---- the arm
-arms_with_most : (permit : Bool) (n : ℕ) → arms_with permit n ≤ n + 1
-arms_with_most true n = omega arith
-arms_with_most false n = omega arith
-
-pub arm_open : {every : Bool} {outcome : ℕ} {T : Table} {W : List ℕ} {v : Sofar} {a : ReducedPolicy} {size : ℕ} (buf front : List ℕ) → Bounded v → a.pending ≡ true → size ≡ capped (v.size + a.size) →
-    ArmAdded every outcome T W v a buf front buf front (sofar_of v.decision v.begun v.kept size (v.arms + 1) true)
-arm_open {v = v} {a} {size} buf front b p e = record {
-  bounds = record { few = b.few; kept_most = b.kept_most; size_most = omega arith; size_some = omega (arith, b.size_some) };
-  arms_most = omega arith;
-  open_arm = λ _. (ap (λ n. sofar_of v.decision v.begun v.kept n (v.arms + 1) true) e, refl, refl);
-  known_arm = λ q. clash a.pending p q;
-}
-
-pub arm_known : {every : Bool} {outcome : ℕ} {T : Table} {W : List ℕ} {v : Sofar} {a : ReducedPolicy} {buf front buf' front' : List ℕ} {r : Sofar} → a.pending ≡ false →
-    DecisionAdded every outcome T W v a.decision buf front buf' front' r → ArmAdded every outcome T W v a buf front buf' front' r
-arm_known {v = v} {a} p d = record {
-  bounds = d.bounds;
-  arms_most = omega (arith, d.arms_are, arms_with_most a.decision.permit v.arms);
-  open_arm = λ q. clash a.pending q p;
-  known_arm = λ _. d;
 }

@@ -19,13 +19,13 @@ use Rattle.sizes.specs.Laid.{capped}
 use Rattle.sizes.specs.LaidLaws.{laid_as}
 use Rattle.residual.specs.Weight.{weight_d, weights}
 use Rattle.residual.specs.Answers.{NodeLaid, ListPut}
-use Rattle.partial_list.specs.declared.ReducedPolicy.{ReducedPolicy}
+use Rattle.partial_list.specs.declared.Reduced.TheVariants.{Resolved, Pending}
 use Rattle.partial_list.specs.declared.Sofar.{Sofar}
 use Rattle.partial_list.specs.Keeping.{Walked, as_decisions, any_value, sofar_value, is_begun, kept_of, nodes_of, list_kind, weights_d, encodes_d}
 use Rattle.partial_list.specs.KeepingLaws.{list_weight, list_words}
 use Rattle.partial_list.specs.Within.{LaidWithin}
 use Rattle.partial_list.specs.WithinLaws.{within_as}
-use Rattle.partial_list.specs.Answers.{resolved_to, left_to, sofar_of, Bounded, SofarIs, NodesEnd, ListEnds}
+use Rattle.partial_list.specs.Answers.{sofar_of, Bounded, SofarIs, NodesEnd, ListEnds}
 use Rattle.partial_list.proofs.Adding.{clash}
 
 -- ---- which nodes are kept
@@ -75,7 +75,7 @@ module _ {every : Bool} {T : Table} {W : List ℕ} {v : Sofar} {buf : List ℕ} 
   end_permits front e p = kept_so front (λ g k out s. sym (kept_permits g k.permitted k.denied (value_any e g k front out s ∙ p)) ∙ ap (λ x. nodes_of x k) (sym e))
 
   pub end_denies : (front front' buf' : List ℕ) (kept arms : ℕ) → every ≡ false → v.begun ≡ true → v.decision.permit ≡ false → arms ≡ v.arms + 1 → NodeLaid W T v.decision buf buf' front' kept →
-      NodesEnd every T W v buf front front' (sofar_of v.decision true kept v.size arms v.pending)
+      NodesEnd every T W v buf front front' (sofar_of v.decision v.begun kept v.size arms v.pending)
   end_denies front front' buf' kept arms e n p a l = record {
     bounds = record { few = b.few; kept_most = l.bound; size_most = b.size_most; size_some = b.size_some };
     size_is = refl;
@@ -92,16 +92,8 @@ module _ {every : Bool} {T : Table} {W : List ℕ} {v : Sofar} {buf : List ℕ} 
   }
 
 -- ---- a list
-pub end_resolved : {every : Bool} {T : Table} {W : List ℕ} {v : Sofar} {next count : ℕ} (buf front out : List ℕ) {r : ReducedPolicy} → Bounded v → v.pending ≡ false → r ≡ resolved_to v.decision next count →
-    ListEnds every T W v next count buf front out buf out r
-end_resolved {v = v} buf front out b p e = rw e (record {
-  few = b.few;
-  bound = omega arith;
-  next_is = refl;
-  count_is = refl;
-  resolved_is = λ _. (refl, refl);
-  pending_is = λ q. clash v.pending q p;
-})
+pub end_resolved : {every : Bool} {T : Table} {W : List ℕ} {v : Sofar} (buf front out : List ℕ) → Bounded v → v.pending ≡ false → ListEnds every T W v buf front out buf out (Resolved v.decision)
+end_resolved {v = v} buf front out b p = record { fit = b.few; resolved_is = λ _. (refl, refl); pending_is = λ q. clash v.pending q p }
 
 -- The words after the first.
 after_free : (out ws : List ℕ) (free n : ℕ) → take n out ≡ free ∷ ws → take (n - 1) (drop 1 out) ≡ ws
@@ -132,15 +124,9 @@ module _ {every : Bool} {T : Table} {W : List ℕ} {v : Sofar} {buf front front'
         };
       }
 
-  pub end_pending : {next count none : ℕ} {buf' : List ℕ} {r : ReducedPolicy} → v.pending ≡ true → r ≡ left_to size none next count → ListEnds every T W v next count buf front out buf' out' r
-  end_pending p e = rw e (record {
-    few = omega arith;
-    bound = omega (arith, l.size_is);
-    next_is = refl;
-    count_is = refl;
+  pub end_pending : {buf' : List ℕ} → v.pending ≡ true → ListEnds every T W v buf front out buf' out' (Pending size)
+  end_pending p = record {
+    fit = omega (arith, l.size_is);
     resolved_is = λ q. clash v.pending p q;
-    pending_is = λ _ g k s. record {
-      unsettled = refl;
-      left = within_as (sym (list_weight every (nodes_of every k) k.pend)) (sym (list_words every (nodes_of every k) k.pend whole.arms (n.nodes g k out s).arms_are)) (list_laid g k s);
-    };
-  })
+    pending_is = λ _ g k s. within_as (sym (list_weight every (nodes_of every k) k.pend)) (sym (list_words every (nodes_of every k) k.pend whole.arms (n.nodes g k out s).arms_are)) (list_laid g k s);
+  }

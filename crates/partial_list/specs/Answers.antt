@@ -4,7 +4,6 @@ use Rattle.std.proofs.Math.Option.{Option}
 use Rattle.model.specs.Facts.{Table}
 use Rattle.model.specs.Levels.{OutcomeTable}
 use Rattle.model.specs.Decision.{Decision as Decided}
-use Rattle.model.specs.Policy.{Policy}
 use Rattle.model.specs.Partial.{resolved, pending}
 use Rattle.model.specs.Partial as model
 use Rattle.model.specs.Writing.{count}
@@ -15,34 +14,43 @@ use Rattle.evaluate.specs.Evaluating.{Folds}
 use Rattle.sizes.specs.Laid.{too_many, capped, Laid}
 use Rattle.residual.specs.Weight.{weight, weights, weight_d}
 use Rattle.decision.specs.Room.{obligation_room, Few}
+use Rattle.partial_list.specs.declared.Reduced.{Reduced}
 use Rattle.partial_list.specs.declared.ReducedPolicy.{ReducedPolicy}
+use Rattle.partial_list.specs.declared.Reduced.TheVariants.{Resolved, Pending}
 use Rattle.partial_list.specs.declared.Sofar.{Sofar}
 use Rattle.partial_list.specs.Keeping.{Walked, as_decisions, sofar_value, is_begun, is_open, arms_with, fold_of, fold_next, nodes_of, weights_d, encodes_d, list_of, with_nodes}
 use Rattle.partial_list.specs.Within.{LaidWithin}
 
--- The answers: a decision, or what is left, of this size.
-abbrev pub resolved_to : Decision → ℕ → ℕ → ReducedPolicy
-resolved_to decision next count = record { pending = false; decision = decision; next = next; count = count; size = 0 }
-
-abbrev pub left_to : ℕ → ℕ → ℕ → ℕ → ReducedPolicy
-left_to size none next count = record { pending = true; decision = denied_at none none; next = next; count = count; size = size }
-
 -- Resolved: the decision. Pending: what is left, laid at the front of the output. `room` is the length of the scratch for nodes.
-pub record Resolves (T : Table) (W : List ℕ) (D : Decided Outcome) (buf : List ℕ) (r : ReducedPolicy) : Type 0 where
-  pub settled : r.pending ≡ false
-  pub decision_is : decision_of W T buf r.decision ≡ D
-  pub sound : Sound W buf r.decision
+pub record Resolves (T : Table) (W : List ℕ) (D : Decided Outcome) (buf : List ℕ) (d : Decision) : Type 0 where
+  pub decision_is : decision_of W T buf d ≡ D
+  pub sound : Sound W buf d
 
-pub record Pends (q : Policy Outcome) (room : ℕ) (out : List ℕ) (r : ReducedPolicy) : Type 0 where
-  pub unsettled : r.pending ≡ true
-  pub left : LaidWithin room (weight q) (encode q) out r.size
+abbrev pub Result : model.ReducedPolicy Outcome → Table → List ℕ → List ℕ → ℕ → List ℕ → Reduced → Type 0
+Result (resolved D) T W buf room out (Resolved d) = Resolves T W D buf d
+Result (resolved D) T W buf room out (Pending n) = ⊥
+Result (pending q) T W buf room out (Resolved d) = ⊥
+Result (pending q) T W buf room out (Pending n) = LaidWithin room (weight q) (encode q) out n
 
-abbrev pub Result : model.ReducedPolicy Outcome → Table → List ℕ → List ℕ → ℕ → List ℕ → ReducedPolicy → Type 0
-Result (resolved D) T W buf room out r = Resolves T W D buf r
-Result (pending q) T W buf room out r = Pends q room out r
+-- The answer of a policy that is resolved.
+abbrev pub resolved_to : Decision → ℕ → ReducedPolicy
+resolved_to decision next = record { to = Resolved decision; next = next }
+
+-- Whatever it is, it has few united obligations, and a size up to the limit.
+abbrev pub Fit : Reduced → Type 0
+Fit (Resolved d) = Few d
+Fit (Pending n) = n ≤ too_many
 
 abbrev pub sofar_of : Decision → Bool → ℕ → ℕ → ℕ → Bool → Sofar
 sofar_of decision begun kept size arms some = record { decision = decision; begun = begun; kept = kept; size = size; arms = arms; pending = some }
+
+-- What is kept before the first arm.
+abbrev pub none_yet : ℕ → Sofar
+none_yet end = sofar_of (denied_at end end) false 0 1 0 false
+
+-- One pending arm more, of size n, laid behind those before it.
+abbrev pub with_pending : Sofar → ℕ → Sofar
+with_pending v n = sofar_of v.decision v.begun v.kept (capped (v.size + n)) (v.arms + 1) true
 
 -- The bounds of what a list keeps so far.
 pub record Bounded (v : Sofar) : Type 0 where
@@ -96,13 +104,6 @@ pub record DecisionAdded (every : Bool) (outcome : ℕ) (T : Table) (W : List �
       Laid (n + weight_d (decision_of W T (drop obligation_room buf) d)) (ws ++ encode_d (decision_of W T (drop obligation_room buf) d)) front' r.kept
   pub folds : (g : Option OutcomeTable) → outcome ≡ fold_of every g v.decision.outcome d.outcome → (every ≡ true → d.permit ≡ true) → Folds (fold_next every g v.begun) W v.decision buf d (drop obligation_room buf) r.decision buf'
 
--- One more arm. A pending one was laid behind those before it.
-pub record ArmAdded (every : Bool) (outcome : ℕ) (T : Table) (W : List ℕ) (v : Sofar) (a : ReducedPolicy) (buf front buf' front' : List ℕ) (r : Sofar) : Type 0 where
-  pub bounds : Bounded r
-  pub arms_most : r.arms ≤ v.arms + 1
-  pub open_arm : a.pending ≡ true → (r ≡ sofar_of v.decision v.begun v.kept (capped (v.size + a.size)) (v.arms + 1) true) × (buf' ≡ buf) × (front' ≡ front)
-  pub known_arm : a.pending ≡ false → DecisionAdded every outcome T W v a.decision buf front buf' front' r
-
 -- The nodes that a list with pending arms keeps, those that were kept so far or the first deny.
 pub record NodesAre (every : Bool) (k : Walked) (v : Sofar) (front : List ℕ) (r : Sofar) : Type 0 where
   pub laid : Laid (weights_d (nodes_of every k)) (encodes_d (nodes_of every k)) front r.kept
@@ -116,10 +117,7 @@ pub record NodesEnd (every : Bool) (T : Table) (W : List ℕ) (v : Sofar) (buf f
   pub nodes : (g : Option OutcomeTable) (k : Walked) (out : List ℕ) → SofarIs every g T W k v buf front out → NodesAre every k v front' r
 
 -- A list whose arms are all read.
-pub record ListEnds (every : Bool) (T : Table) (W : List ℕ) (v : Sofar) (next count : ℕ) (buf front out buf' out' : List ℕ) (r : ReducedPolicy) : Type 0 where
-  pub few : Few r.decision
-  pub bound : r.size ≤ too_many
-  pub next_is : r.next ≡ next
-  pub count_is : r.count ≡ count
-  pub resolved_is : v.pending ≡ false → (r ≡ resolved_to v.decision next count) × (buf' ≡ buf)
-  pub pending_is : v.pending ≡ true → (g : Option OutcomeTable) (k : Walked) → SofarIs every g T W k v buf front out → Pends (list_of every (with_nodes (nodes_of every k) k.pend)) (length front) out' r
+pub record ListEnds (every : Bool) (T : Table) (W : List ℕ) (v : Sofar) (buf front out buf' out' : List ℕ) (r : Reduced) : Type 0 where
+  pub fit : Fit r
+  pub resolved_is : v.pending ≡ false → (r ≡ Resolved v.decision) × (buf' ≡ buf)
+  pub pending_is : v.pending ≡ true → (g : Option OutcomeTable) (k : Walked) → SofarIs every g T W k v buf front out → Result (pending (list_of every (with_nodes (nodes_of every k) k.pend))) T W buf' (length front) out' r

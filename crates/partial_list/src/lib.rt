@@ -3,10 +3,10 @@
 // its permits first keeps their nodes until it knows that an arm is pending. A slice may be too short for what is laid in it: then only its size is right.
 #![tactic(auto)]
 
-ghost use Rattle.std.specs.Prelude.{◌≡◌, true, false, not, ◌&&◌, List, ℕ, ◌+◌, ◌^◌, ◌≤◌, ◌<◌, drop, set};
+ghost use Rattle.std.specs.Prelude.{◌≡◌, true, List, ℕ, ◌+◌, ◌^◌, ◌≤◌, ◌<◌, drop};
 ghost use Rattle.std.proofs.Math.Option.{Option};
 ghost use Rattle.model.specs.Facts.{Table, table_of};
-ghost use Rattle.model.specs.Levels.{OutcomeTable};
+ghost use Rattle.model.specs.Levels as levels;
 ghost use Rattle.outcome.specs.Carried.{carried};
 ghost use Rattle.model.specs.Writing.{count_bits, word};
 ghost use Rattle.evaluate.specs.Evaluating.{Folds};
@@ -14,26 +14,30 @@ ghost use Rattle.sizes.specs.Laid.{too_many};
 ghost use Rattle.decision.specs.Room.{obligation_room, RoomToUnite, Few};
 ghost use Rattle.clause.specs.Room.{RoomToName};
 ghost use Rattle.partial_list.specs.Keeping.{list_kind, arms_with, fold_of, fold_next};
-ghost use Rattle.partial_list.specs.Answers.{resolved_to, left_to, Bounded, NodeBehind, NodeKept, DecisionAdded, ArmAdded, NodesEnd, ListEnds};
-ghost use Rattle.partial_list.specs.InOrder.{ArmHeld, OrderEnds};
+ghost use Rattle.partial_list.specs.Answers.{none_yet, with_pending, Bounded, NodeBehind, NodeKept, DecisionAdded, NodesEnd, ListEnds};
+ghost use Rattle.partial_list.specs.InOrder.{DecisionHeld, OrderEnds};
 
 use decision::{Decision, OBLIGATION_ROOM};
-use outcome::Products;
+use outcome::{OutcomeTable, Products};
 
-// Whether a policy is pending, its decision if it is not, the position after its words, how many entries are in use, and the size of what is left.
+// What a policy came to: its decision, or the size of what is left of it.
+#[derive(Clone, Copy)]
+pub enum Reduced {
+    Resolved(Decision),
+    Pending(usize),
+}
+
+// That, and the position after the policy's words.
 #[derive(Clone, Copy)]
 pub struct ReducedPolicy {
-    pub pending: bool,
-    pub decision: Decision,
+    pub to: Reduced,
     pub next: usize,
-    pub count: usize,
-    pub size: usize,
 }
 
 // What the arms of a list came to so far.
 #[derive(Clone, Copy)]
 pub struct Sofar {
-    // of the resolved arms, if there was one
+    // of the resolved arms, if there was one; a flag beside it, as a list without arms answers with this decision too, where an Option would be unwrapped
     pub decision: Decision,
     pub begun: bool,
     // the size of the nodes that are kept, in `front`; in sheet order none is
@@ -45,43 +49,18 @@ pub struct Sofar {
     pub pending: bool,
 }
 
-pub fn resolved(decision: Decision, next: usize, count: usize) -> ReducedPolicy
-    ensures { result ≡ resolved_to decision next count }
+// What a list has before its first arm: a deny with nothing named, and the free word.
+pub fn none_yet(end: usize) -> Sofar
+    ensures { result ≡ none_yet end }
 {
-    ReducedPolicy {
+    Sofar {
+        decision: decision::denied(end),
+        begun: false,
+        kept: 0,
+        size: 1,
+        arms: 0,
         pending: false,
-        decision,
-        next,
-        count,
-        size: 0,
     }
-}
-
-pub fn pending(size: usize, none: usize, next: usize, count: usize) -> ReducedPolicy
-    ensures { result ≡ left_to size none next count }
-{
-    ReducedPolicy {
-        pending: true,
-        decision: decision::denied(none),
-        next,
-        count,
-        size,
-    }
-}
-
-// A resolved deny stops All.
-pub fn stops(every: bool, arm: ReducedPolicy) -> bool
-    ensures { result ≡ (every && (not arm.pending && not arm.decision.permit)) }
-{
-    let decision = arm.decision;
-    let permit = decision.permit;
-    if !every {
-        return false;
-    }
-    if arm.pending {
-        return false;
-    }
-    !permit
 }
 
 // Lays the node of a resolved arm behind the words that are kept, and returns the size of all. The arm's buffer starts at the second room.
@@ -128,31 +107,24 @@ fn keep_node(
     lay_node(words, facts, incoming, kept, buf, named, front)
 }
 
-// What the outcomes of the decision so far and of one more arm come to: under All they meet, under Any they join. Where one of them has none, nothing asks
-// for it.
+// What two outcomes come to: under All they meet, under Any they join. `every` says All; each definition of a list rule is told by that flag, so an enum
+// would be turned into it at each use.
 pub fn outcome_next(
     every: bool,
-    sofar: Sofar,
-    arm: ReducedPolicy,
-    outcome_levels: u16,
-    outcomes: &[u8],
+    sofar: u16,
+    incoming: u16,
+    outcomes: Option<OutcomeTable<'_>>,
 ) -> u16
-    ensures { result ≡ fold_of every (carried outcome_levels outcomes.now) sofar.decision.outcome arm.decision.outcome }
+    ensures { result ≡ fold_of every (carried outcomes.entry) sofar incoming }
 {
-    let before = sofar.decision;
-    let decision = arm.decision;
-    let earlier = Products {
-        bits: before.outcome,
+    let earlier = Products { bits: sofar };
+    let later = Products { bits: incoming };
+    let both = if every {
+        earlier.meet_by(later, outcomes)
+    } else {
+        earlier.join_by(later, outcomes)
     };
-    let later = Products {
-        bits: decision.outcome,
-    };
-    if every {
-        let both = earlier.meet_by(later, outcome_levels, outcomes);
-        return both.bits;
-    }
-    let either = earlier.join_by(later, outcome_levels, outcomes);
-    either.bits
+    both.bits
 }
 
 // The decision so far and one more, under All or Any, whose outcomes come to `outcome`.
@@ -167,7 +139,7 @@ fn fold_next(
 ) -> Decision
     requires { Few sofar × Few incoming × RoomToUnite 2 buf.old }
     ensures few { Few result }
-    ensures folds { (g : Option OutcomeTable) → outcome ≡ fold_of every g sofar.outcome incoming.outcome → (every ≡ true → incoming.permit ≡ true) → Folds (fold_next every g begun) words.now sofar buf.old incoming (drop obligation_room buf.old) result buf.new }
+    ensures folds { (g : Option levels.OutcomeTable) → outcome ≡ fold_of every g sofar.outcome incoming.outcome → (every ≡ true → incoming.permit ≡ true) → Folds (fold_next every g begun) words.now sofar buf.old incoming (drop obligation_room buf.old) result buf.new }
 {
     if every {
         return evaluate::met(words, outcome, sofar, incoming, buf);
@@ -184,7 +156,7 @@ fn arms_with(arms: u32, permit: bool) -> u32
 }
 
 // One more arm that was resolved.
-fn with_decision(
+pub fn with_decision(
     words: &[u32],
     facts: &[u8],
     outcome: u16,
@@ -213,98 +185,56 @@ fn with_decision(
         decision,
         begun: true,
         kept,
-        size: sofar.size,
         arms,
-        pending: sofar.pending,
+        ..sofar
     }
 }
 
-// One more arm, whose words were laid behind those before it, if it is pending.
-pub fn with_arm(
-    words: &[u32],
-    facts: &[u8],
-    outcome: u16,
-    every: bool,
-    sofar: Sofar,
-    arm: ReducedPolicy,
-    buf: &mut [u8],
-    named: &mut [u16],
-    front: &mut [u32],
-) -> Sofar
-    requires { Bounded sofar × (sofar.arms < 2 ^ count_bits) × Few arm.decision × (arm.size ≤ too_many) × RoomToUnite 2 buf.old × RoomToName words.now named.old }
-    ensures { ArmAdded every outcome (table_of facts.now) words.now sofar arm buf.old front.old buf.new front.new result }
+// One more arm that is pending, whose words were laid behind those before it.
+pub fn with_pending(sofar: Sofar, size: usize) -> Sofar
+    requires { Bounded sofar × (sofar.arms < 2 ^ count_bits) × (size ≤ too_many) }
+    ensures { result ≡ with_pending sofar size }
 {
-    if arm.pending {
-        let decision = sofar.decision;
-        return Sofar {
-            decision,
-            begun: sofar.begun,
-            kept: sofar.kept,
-            size: sizes::plus(sofar.size, arm.size),
-            arms: sofar.arms + 1,
-            pending: true,
-        };
+    Sofar {
+        size: sizes::plus(sofar.size, size),
+        arms: sofar.arms + 1,
+        pending: true,
+        ..sofar
     }
-    with_decision(
-        words,
-        facts,
-        outcome,
-        every,
-        sofar,
-        arm.decision,
-        buf,
-        named,
-        front,
-    )
 }
 
-// One more arm of a list in sheet order, whose words were laid behind those before it, if it is pending; the node of a resolved one is laid there. Once an
-// arm is pending the list has no decision.
-pub fn with_arm_in_order(
+// One more arm of a list in sheet order that was resolved, whose node is laid behind the arms before it. Once an arm is pending the list has no decision.
+pub fn with_decision_in_order(
     words: &[u32],
     facts: &[u8],
     outcome: u16,
     every: bool,
     sofar: Sofar,
-    arm: ReducedPolicy,
+    incoming: Decision,
     buf: &mut [u8],
     named: &mut [u16],
     out: &mut [u32],
 ) -> Sofar
-    requires { Bounded sofar × (sofar.arms < 2 ^ count_bits) × Few arm.decision × (arm.size ≤ too_many) × RoomToUnite 2 buf.old × RoomToName words.now named.old }
-    ensures { ArmHeld every outcome (table_of facts.now) words.now sofar arm buf.old out.old buf.new out.new result }
+    requires { Bounded sofar × (sofar.arms < 2 ^ count_bits) × Few incoming × RoomToUnite 2 buf.old × RoomToName words.now named.old }
+    ensures { DecisionHeld every outcome (table_of facts.now) words.now sofar incoming buf.old out.old buf.new out.new result }
 {
     let decision = sofar.decision;
-    if arm.pending {
-        return Sofar {
-            decision,
-            begun: sofar.begun,
-            kept: sofar.kept,
-            size: sizes::plus(sofar.size, arm.size),
-            arms: sofar.arms + 1,
-            pending: true,
-        };
-    }
-    let incoming = arm.decision;
     let size = lay_node(words, facts, incoming, sofar.size, buf, named, out);
+    let arms = sofar.arms + 1;
     if sofar.pending {
         return Sofar {
-            decision,
-            begun: sofar.begun,
-            kept: sofar.kept,
             size,
-            arms: sofar.arms + 1,
-            pending: true,
+            arms,
+            ..sofar
         };
     }
     let folded = fold_next(words, outcome, every, decision, sofar.begun, incoming, buf);
     Sofar {
         decision: folded,
         begun: true,
-        kept: sofar.kept,
         size,
-        arms: sofar.arms + 1,
-        pending: false,
+        arms,
+        ..sofar
     }
 }
 
@@ -332,24 +262,15 @@ fn with_first_deny(
     requires { Bounded sofar × (sofar.arms < 2 ^ count_bits) × RoomToUnite 1 buf.old × RoomToName words.now named.old }
     ensures { NodesEnd every (table_of facts.now) words.now sofar buf.old front.old front.new result }
 {
-    if every {
-        return sofar;
-    }
-    if !sofar.begun {
-        return sofar;
-    }
     let decision = sofar.decision;
-    if decision.permit {
+    if every || !sofar.begun || decision.permit {
         return sofar;
     }
     let kept = residual::policy_from_decision(words, decision, facts, buf, named, front);
     Sofar {
-        decision,
-        begun: true,
         kept,
-        size: sofar.size,
         arms: sofar.arms + 1,
-        pending: sofar.pending,
+        ..sofar
     }
 }
 
@@ -359,49 +280,31 @@ pub fn end_list(
     facts: &[u8],
     every: bool,
     sofar: Sofar,
-    next: usize,
-    count: usize,
     buf: &mut [u8],
     named: &mut [u16],
     front: &mut [u32],
     out: &mut [u32],
-) -> ReducedPolicy
+) -> Reduced
     requires { Bounded sofar × (sofar.arms < 2 ^ count_bits) × RoomToUnite 1 buf.old × RoomToName words.now named.old }
-    ensures { ListEnds every (table_of facts.now) words.now sofar next count buf.old front.old out.old buf.new out.new result }
+    ensures { ListEnds every (table_of facts.now) words.now sofar buf.old front.old out.old buf.new out.new result }
 {
     if !sofar.pending {
-        return resolved(sofar.decision, next, count);
+        return Reduced::Resolved(sofar.decision);
     }
     let whole = with_first_deny(words, facts, every, sofar, buf, named, front);
     let first = lead(every, whole.arms);
     let size = residual::put_list(first, front, whole.kept, out, whole.size);
-    pending(size, words.len(), next, count)
-}
-
-// The first word of the output, if there is one.
-pub fn put_first(word: u32, out: &mut [u32])
-    ensures { out.new ≡ set out.old 0 word }
-{
-    if out.len() != 0 {
-        out[0] = word;
-    }
+    Reduced::Pending(size)
 }
 
 // A list in sheet order whose arms are all read: without pending arms it is resolved, else its lead is put before them.
-pub fn end_in_order(
-    every: bool,
-    sofar: Sofar,
-    none: usize,
-    next: usize,
-    count: usize,
-    out: &mut [u32],
-) -> ReducedPolicy
+pub fn end_in_order(every: bool, sofar: Sofar, out: &mut [u32]) -> Reduced
     requires { Bounded sofar × (sofar.arms ≤ 2 ^ count_bits) }
-    ensures { (T : Table) (W buf : List ℕ) → OrderEnds every T W sofar next count buf out.old out.new result }
+    ensures { (T : Table) (W buf : List ℕ) → OrderEnds every T W sofar buf out.old out.new result }
 {
     if !sofar.pending {
-        return resolved(sofar.decision, next, count);
+        return Reduced::Resolved(sofar.decision);
     }
-    put_first(lead(every, sofar.arms), out);
-    pending(sofar.size, none, next, count)
+    partial_condition::put_first(lead(every, sofar.arms), out);
+    Reduced::Pending(sofar.size)
 }

@@ -24,24 +24,27 @@ use Rattle.policy_model.specs.declared.PolicyHead.TheVariants.{OrElse}
 use Rattle.policy_model.specs.Heads.{policy_node}
 use Rattle.policy_model.specs.Span.{Skipped}
 use Rattle.policy_model.proofs.Policies.{policy_leaves}
-use Rattle.condition.specs.Listing.{Lent, lent}
-use Rattle.condition.proofs.Listing.{consults_none, consults_then, consults_as}
-use Rattle.decision.specs.Meaning.{denied_at, decision_of, past}
+use Rattle.consulted.specs.Listing.{Lent}
+use Rattle.consulted.proofs.Listing.{consults_none, consults_then, consults_as}
+use Rattle.decision.specs.Meaning.{decision_of, past}
 use Rattle.decision.proofs.Standing.{denied_is, sound_denied}
 use Rattle.decision.proofs.Buffers.{same_decision, same_sound, deny_decision, deny_sound, lent_front, lent_back}
 use Rattle.evaluate.proofs.Folds.{lent_folds}
 use Rattle.evaluate.proofs.Nodes.{node_holds}
 use Rattle.evaluate.proofs.Arms.{decides, decides_as, arms_more, skipped, one_passed}
-use Rattle.sizes.specs.Laid.{too_many, capped, Laid}
+use Rattle.sizes.specs.Laid.{capped, Laid}
 use Rattle.sizes.specs.LaidLaws.{laid_as, laid_none}
 use Rattle.residual.specs.Weight.{weight_d, weight, weights}
+use Rattle.decision.specs.declared.Decision.{Decision}
+use Rattle.partial_list.specs.declared.Reduced.{Reduced}
+use Rattle.partial_list.specs.declared.Reduced.TheVariants.{Resolved, Pending}
 use Rattle.partial_list.specs.declared.ReducedPolicy.{ReducedPolicy}
 use Rattle.partial_list.specs.declared.Sofar.{Sofar}
 use Rattle.partial_list.specs.Keeping.{Walked, walked, append, with_arm, stops, then_all, then_any, left_of, read_of, list_of, as_decisions, sofar_value, fold_of, fold_next, is_open, arms_with, end_of, weights_d, encodes_d}
 use Rattle.partial_list.specs.KeepingLaws.{left_more, read_more, left_stop, read_stop, read_none, read_start, value_more, begun_more, open_more, left_none, end_none, end_some, nodes_more, node_words_more, node_count_more, pend_more, pend_words_more, pend_count_more}
 use Rattle.partial_list.specs.Within.{LaidWithin}
 use Rattle.partial_list.specs.WithinLaws.{within, within_less, within_as, within_then, within_still, laid_still}
-use Rattle.partial_list.specs.Answers.{resolved_to, left_to, Result, sofar_of, Bounded, SofarIs, DecisionAdded, ArmAdded, ListEnds}
+use Rattle.partial_list.specs.Answers.{resolved_to, Resolves, Result, Fit, none_yet, with_pending, Bounded, SofarIs, DecisionAdded, ListEnds}
 use Rattle.partial_policy.specs.Reducing.{ReducedTo, ReducesP, ReducesBy, list_head, OrElsePut}
 use Rattle.partial_list.proofs.Adding.{clash}
 use Rattle.decision.specs.Room.{obligation_room}
@@ -61,32 +64,39 @@ back_part from mid part h =
     drop_at (take from mid) (part ++ drop (length mid - from) (drop from mid)) from (length-take-le from mid h) ∙ ap (λ us. part ++ us) none_left ∙ append-nil part
 
 -- ---- whether an arm stops the list
-module _ (T : Table) (W buf : List ℕ) (room : ℕ) (out : List ℕ) (a : ReducedPolicy) where
-  pub decided_as : (D : Decided Outcome) → Result (resolved D) T W buf room out a → a.decision.permit ≡ decides D
-  decided_as D x = sym (decides_as W T buf a.decision) ∙ ap decides x.decision_is
+pub decided_as : (T : Table) (W buf : List ℕ) (d : Decision) (D : Decided Outcome) → Resolves T W D buf d → d.permit ≡ decides D
+decided_as T W buf d D x = sym (decides_as W T buf d) ∙ ap decides x.decision_is
 
-  pub settled_as : (x : model.ReducedPolicy Outcome) → Result x T W buf room out a → (every : Bool) → stops every x ≡ (every && (not a.pending && not a.decision.permit))
-  settled_as x h false = refl
-  settled_as (resolved (permits p)) h true = rw (h.settled, decided_as (permits p) h)
-  settled_as (resolved (denies d)) h true = rw (h.settled, decided_as (denies d) h)
-  settled_as (pending q) h true = rw h.unsettled
+-- It does if it is resolved, and denies, under All.
+abbrev pub stops_list : Bool → Reduced → Bool
+stops_list every (Resolved d) = every && not d.permit
+stops_list every (Pending n) = false
+
+pub settled_as : (T : Table) (W buf : List ℕ) (room : ℕ) (out : List ℕ) (a : Reduced) (x : model.ReducedPolicy Outcome) → Result x T W buf room out a → (every : Bool) → stops every x ≡ stops_list every a
+settled_as T W buf room out (Resolved d) (resolved (permits p)) h true = rw (decided_as T W buf d (permits p) h) refl
+settled_as T W buf room out (Resolved d) (resolved (denies c)) h true = rw (decided_as T W buf d (denies c) h) refl
+settled_as T W buf room out (Resolved d) (resolved D) h false = refl
+settled_as T W buf room out (Resolved d) (pending q) h every = absurd h
+settled_as T W buf room out (Pending n) (resolved D) h every = absurd h
+settled_as T W buf room out (Pending n) (pending q) h true = refl
+settled_as T W buf room out (Pending n) (pending q) h false = refl
 
 -- ---- one more arm
 value_open : (every : Bool) (g : Option OutcomeTable) (k : Walked) (q : Policy Outcome) → sofar_value every g k ≡ sofar_value every g (with_arm k (pending q))
 value_open true g k q = refl
 value_open false g k q = refl
 
-module _ (every : Bool) (g : Option OutcomeTable) (T : Table) (W : List ℕ) (v : Sofar) (a : ReducedPolicy) (outcome : ℕ) (buf part front fpart out opart buf' front' : List ℕ) (behind from room : ℕ) (v' : Sofar)
-    (f : behind ≡ min v.kept (length front)) (o : from ≡ min v.size (length out))
-    (is : outcome ≡ fold_of every g v.decision.outcome a.decision.outcome) (added : ArmAdded every outcome T W v a (back obligation_room buf part) (back behind front fpart) buf' front' v') (flong : length front' ≡ length front)
-    (bounds : Bounded v) (few : a.decision.united ≤ length part) (wide : obligation_room ≤ length buf)
+module _ (every : Bool) (g : Option OutcomeTable) (T : Table) (W : List ℕ) (v : Sofar) (buf part front fpart out opart : List ℕ) (behind from room : ℕ)
+    (f : behind ≡ min v.kept (length front)) (o : from ≡ min v.size (length out)) (bounds : Bounded v) (wide : obligation_room ≤ length buf)
     (long : length fpart ≡ length front - behind) (rooms : room ≡ length front - behind) (olong : length opart ≡ length out - from) where
   abbrev bytes : take v.decision.united (back obligation_room buf part) ≡ take v.decision.united buf
   bytes = lent_front buf part (drop (length buf - obligation_room) (drop obligation_room buf)) wide v.decision.united bounds.few
 
-  open_more_arm : (k : Walked) (q : Policy Outcome) → SofarIs every g T W k v buf front out → Result (pending q) T W part room opart a →
-      SofarIs every g T W (with_arm k (pending q)) (sofar_of v.decision v.begun v.kept (capped (v.size + a.size)) (v.arms + 1) true) (back obligation_room buf part) (back behind front fpart) (back from out opart)
-  open_more_arm k q s x = record {
+  -- What was kept so far, with one arm more: a pending one,
+  pub sofar_open : (n : ℕ) (k : Walked) (x : model.ReducedPolicy Outcome) → SofarIs every g T W k v buf front out → Result x T W part room opart (Pending n) →
+      SofarIs every g T W (with_arm k x) (with_pending v n) (back obligation_room buf part) (back behind front fpart) (back from out opart)
+  sofar_open n k (resolved D) s x = absurd x
+  sofar_open n k (pending q) s x = record {
     sound = same_sound W buf (back obligation_room buf part) v.decision bytes s.sound;
     decision_is = same_decision W buf (back obligation_room buf part) v.decision bytes T ∙ s.decision_is ∙ value_open every g k q;
     begun_is = s.begun_is;
@@ -94,72 +104,70 @@ module _ (every : Bool) (g : Option OutcomeTable) (T : Table) (W : List ℕ) (v 
     free = s.free;
     left = within_as (let z : 1 + weights k.pend + weight q ≡ 1 + weights (append k.pend (pcons q pnil)) = omega (arith, pend_more k.pend q) in z)
         (ap (λ us. s.free ∷ us) (sym (pend_words_more k.pend q)))
-        (within_then (within_less (omega (arith, back_long behind front fpart (omega arith) long)) s.left) (within_less (omega (arith, back_long behind front fpart (omega arith) long)) x.left) o olong refl);
+        (within_then (within_less (omega (arith, back_long behind front fpart (omega arith) long)) s.left) (within_less (omega (arith, back_long behind front fpart (omega arith) long)) x) o olong refl);
     arms_are = omega (arith, s.arms_are, pend_count_more k.pend q);
     pending_is = sym (open_more k.pend q);
   }
 
-  known_more_arm : (k : Walked) (D : Decided Outcome) → SofarIs every g T W k v buf front out → Result (resolved D) T W part room opart a → stops every (resolved D) ≡ false →
-      DecisionAdded every outcome T W v a.decision (back obligation_room buf part) (back behind front fpart) buf' front' v' →
-      Laid (weights_d (as_decisions (with_arm k (resolved D)).permitted)) (encodes_d (as_decisions (with_arm k (resolved D)).permitted)) front' v'.kept →
-      v'.arms ≡ length (as_decisions (with_arm k (resolved D)).permitted) + count k.pend →
-      (every ≡ true → a.decision.permit ≡ true) → (with_arm k (resolved D)).pend ≡ k.pend →
-      SofarIs every g T W (with_arm k (resolved D)) v' buf' front' (back from out opart)
-  known_more_arm k D s x e d nodes arms q p =
-      let folds = lent_folds W buf part (drop (length buf - obligation_room) (drop obligation_room buf)) buf' v.decision a.decision v'.decision wide bounds.few few (fold_next every g v.begun) (d.folds g is q) in
-      record {
-        sound = folds.sound s.sound x.sound;
-        decision_is =
-            folds.folded s.sound x.sound T
-            ∙ ap₂ (fold_next every g v.begun) s.decision_is x.decision_is
-            ∙ ap (λ b. fold_next every g b (sofar_value every g k) D) s.begun_is
-            ∙ value_more every g k D e;
-        begun_is = d.begun_is ∙ sym (begun_more k D);
-        nodes = nodes;
-        free = s.free;
-        left = rw (p, d.size_is) (within_less (omega (arith, d.more)) (within_still opart s.left o olong));
-        arms_are = arms ∙ ap (λ (qs : Policies Outcome). length (as_decisions (with_arm k (resolved D)).permitted) + count qs) (sym p);
-        pending_is = d.pending_is ∙ s.pending_is ∙ ap is_open (sym p);
-      }
+  -- or a resolved one.
+  module _ (d : Decision) (outcome : ℕ) (buf' front' : List ℕ) (v' : Sofar) (is : outcome ≡ fold_of every g v.decision.outcome d.outcome)
+      (added : DecisionAdded every outcome T W v d (back obligation_room buf part) (back behind front fpart) buf' front' v') (few : d.united ≤ length part) where
+    known_more_arm : (k : Walked) (D : Decided Outcome) → SofarIs every g T W k v buf front out → Resolves T W D part d → stops every (resolved D) ≡ false → length front' ≡ length front →
+        Laid (weights_d (as_decisions (with_arm k (resolved D)).permitted)) (encodes_d (as_decisions (with_arm k (resolved D)).permitted)) front' v'.kept →
+        v'.arms ≡ length (as_decisions (with_arm k (resolved D)).permitted) + count k.pend →
+        (every ≡ true → d.permit ≡ true) → (with_arm k (resolved D)).pend ≡ k.pend →
+        SofarIs every g T W (with_arm k (resolved D)) v' buf' front' (back from out opart)
+    known_more_arm k D s x e flong nodes arms q p =
+        let folds = lent_folds W buf part (drop (length buf - obligation_room) (drop obligation_room buf)) buf' v.decision d v'.decision wide bounds.few few (fold_next every g v.begun) (added.folds g is q) in
+        record {
+          sound = folds.sound s.sound x.sound;
+          decision_is =
+              folds.folded s.sound x.sound T
+              ∙ ap₂ (fold_next every g v.begun) s.decision_is x.decision_is
+              ∙ ap (λ b. fold_next every g b (sofar_value every g k) D) s.begun_is
+              ∙ value_more every g k D e;
+          begun_is = added.begun_is ∙ sym (begun_more k D);
+          nodes = nodes;
+          free = s.free;
+          left = rw (p, added.size_is) (within_less (omega (arith, added.more)) (within_still opart s.left o olong));
+          arms_are = arms ∙ ap (λ (qs : Policies Outcome). length (as_decisions (with_arm k (resolved D)).permitted) + count qs) (sym p);
+          pending_is = added.pending_is ∙ s.pending_is ∙ ap is_open (sym p);
+        }
 
-  permit_arm : (k : Walked) (p : _) → SofarIs every g T W k v buf front out → Result (resolved (permits p)) T W part room opart a →
-      DecisionAdded every outcome T W v a.decision (back obligation_room buf part) (back behind front fpart) buf' front' v' → SofarIs every g T W (with_arm k (resolved (permits p))) v' buf' front' (back from out opart)
-  permit_arm k p s x d =
-      let permit = decided_as T W part room opart a (permits p) x in
-      let tail = lent_back buf part (drop (length buf - obligation_room) (drop obligation_room buf)) wide a.decision.united few in
-      let D : decision_of W T (drop obligation_room (back obligation_room buf part)) a.decision ≡ permits p = same_decision W part (drop obligation_room (back obligation_room buf part)) a.decision tail T ∙ x.decision_is in
-      known_more_arm k (permits p) s x (no_stop every p) d
-      (laid_as (ap (λ y. weights_d (as_decisions k.permitted) + weight_d y) D ∙ sym (nodes_more k.permitted p)) (ap (λ y. encodes_d (as_decisions k.permitted) ++ encode_d y) D ∙ sym (node_words_more k.permitted p))
-      (d.node permit (weights_d (as_decisions k.permitted)) (encodes_d (as_decisions k.permitted)) (same_sound W part (drop obligation_room (back obligation_room buf part)) a.decision tail x.sound) (laid_still fpart s.nodes f long)))
-      (omega (arith, d.arms_are, ap (λ b. arms_with b v.arms) permit, s.arms_are, node_count_more k.permitted p)) (λ _. permit) refl
-    where
-      no_stop : (b : Bool) (p : _) → stops b (resolved (permits p)) ≡ false
-      no_stop true p = refl
-      no_stop false p = refl
+    permit_arm : (k : Walked) (p : _) → SofarIs every g T W k v buf front out → Resolves T W (permits p) part d → length front' ≡ length front →
+        SofarIs every g T W (with_arm k (resolved (permits p))) v' buf' front' (back from out opart)
+    permit_arm k p s x flong =
+        let permit = decided_as T W part d (permits p) x in
+        let tail = lent_back buf part (drop (length buf - obligation_room) (drop obligation_room buf)) wide d.united few in
+        let D : decision_of W T (drop obligation_room (back obligation_room buf part)) d ≡ permits p = same_decision W part (drop obligation_room (back obligation_room buf part)) d tail T ∙ x.decision_is in
+        known_more_arm k (permits p) s x (no_stop every p) flong
+        (laid_as (ap (λ y. weights_d (as_decisions k.permitted) + weight_d y) D ∙ sym (nodes_more k.permitted p)) (ap (λ y. encodes_d (as_decisions k.permitted) ++ encode_d y) D ∙ sym (node_words_more k.permitted p))
+        (added.node permit (weights_d (as_decisions k.permitted)) (encodes_d (as_decisions k.permitted)) (same_sound W part (drop obligation_room (back obligation_room buf part)) d tail x.sound) (laid_still fpart s.nodes f long)))
+        (omega (arith, added.arms_are, ap (λ b. arms_with b v.arms) permit, s.arms_are, node_count_more k.permitted p)) (λ _. permit) refl
+      where
+        no_stop : (b : Bool) (p : _) → stops b (resolved (permits p)) ≡ false
+        no_stop true p = refl
+        no_stop false p = refl
 
-  deny_arm : (k : Walked) (c : _) → SofarIs every g T W k v buf front out → Result (resolved (denies c)) T W part room opart a → stops every (resolved (denies c)) ≡ false →
-      DecisionAdded every outcome T W v a.decision (back obligation_room buf part) (back behind front fpart) buf' front' v' → SofarIs every g T W (with_arm k (resolved (denies c))) v' buf' front' (back from out opart)
-  deny_arm k c s x e d =
-      let denied = decided_as T W part room opart a (denies c) x in
-      let None-more = d.none denied in
-      known_more_arm k (denies c) s x e d
-      (rw (None-more.0, None-more.1) (laid_still fpart s.nodes f long))
-      (d.arms_are ∙ ap (λ b. arms_with b v.arms) denied ∙ s.arms_are) (λ t. clash true refl (sym (ap (λ b. stops b (resolved (denies c))) t) ∙ e)) refl
+    deny_arm : (k : Walked) (c : _) → SofarIs every g T W k v buf front out → Resolves T W (denies c) part d → stops every (resolved (denies c)) ≡ false → length front' ≡ length front →
+        SofarIs every g T W (with_arm k (resolved (denies c))) v' buf' front' (back from out opart)
+    deny_arm k c s x e flong =
+        let denied = decided_as T W part d (denies c) x in
+        let None-more = added.none denied in
+        known_more_arm k (denies c) s x e flong
+        (rw (None-more.0, None-more.1) (laid_still fpart s.nodes f long))
+        (added.arms_are ∙ ap (λ b. arms_with b v.arms) denied ∙ s.arms_are) (λ t. clash true refl (sym (ap (λ b. stops b (resolved (denies c))) t) ∙ e)) refl
 
-  -- What was kept so far, with one arm more.
-  pub sofar_more : (k : Walked) (x : model.ReducedPolicy Outcome) → SofarIs every g T W k v buf front out → Result x T W part room opart a → stops every x ≡ false →
-      SofarIs every g T W (with_arm k x) v' buf' front' (back from out opart)
-  sofar_more k (resolved (permits p)) s x e = permit_arm k p s x (added.known_arm x.settled)
-  sofar_more k (resolved (denies c)) s x e = deny_arm k c s x e (added.known_arm x.settled)
-  sofar_more k (pending q) s x e =
-      let now = added.open_arm x.unsettled in
-      rw (now.0, now.1, now.2) (open_more_arm k q s x)
+    pub sofar_known : length front' ≡ length front → (k : Walked) (x : model.ReducedPolicy Outcome) → SofarIs every g T W k v buf front out → Result x T W part room opart (Resolved d) → stops every x ≡ false →
+        SofarIs every g T W (with_arm k x) v' buf' front' (back from out opart)
+    sofar_known flong k (resolved (permits p)) s x e = permit_arm k p s x flong
+    sofar_known flong k (resolved (denies c)) s x e = deny_arm k c s x e flong
+    sofar_known flong k (pending q) s x e = absurd x
 
 -- ---- arms
 -- The answer for the arms that are left, given what is kept so far. Of arms that don't read only the bounds are said.
 pub record ArmsLeft (every : Bool) (g : Option OutcomeTable) (P : Table) (W : List ℕ) (v : Sofar) (buf front out : List ℕ) (at depth arms : ℕ) (s : Lent) (r : ReducedPolicy) (t : Lent) (buf' out' : List ℕ) : Type 0 where
-  pub few : r.decision.united ≤ obligation_room
-  pub bound : r.size ≤ too_many
+  pub fit : Fit r.to
   pub says : (k : Walked) → SofarIs every g P W k v buf front out →
       Holds (λ ts rest. ReducedTo (left_of every g P k ts) (at + wordss ts) (read_of every g permits_first P ts) P W s r t buf' (length front) out') (many pnil pcons (read_policy true depth) arms (drop at W))
 
@@ -169,15 +177,14 @@ module _ (every : Bool) (g : Option OutcomeTable) (P : Table) (W : List ℕ) (de
   Whole k p ts rest = ReducedTo (left_of every g P k (pcons p ts)) (at + wordss (pcons p ts)) (read_of every g permits_first P (pcons p ts)) P W s r t buf' (length front) out'
 
   -- By the answer a to the first arm.
-  arm_first : r.decision.united ≤ obligation_room → r.size ≤ too_many →
+  arm_first : Fit r.to →
       ((k : Walked) (p : Policy Outcome) → SofarIs every g P W k v buf front out → ReducedTo (reduce_policy g permits_first P p) (at + words p) (walk g permits_first P p) P W s a m part room opart →
       Holds (Whole k p) (many pnil pcons (read_policy true depth) (arms - 1) (drop a.next W))) →
       ArmsLeft every g P W v buf front out at depth arms s r t buf' out'
-  arm_first few bound f =
+  arm_first fit f =
       let one = read_policy true depth in
       record {
-        few = few;
-        bound = bound;
+        fit = fit;
         says = λ k z. rw (arms_more one arms (drop at W) some)
             (then_holds (one (drop at W)) (λ p vs. next (many pnil pcons one (arms - 1) vs) (λ ps us. got (pcons p ps) us))
             (both_hold (one (drop at W)) (first.says true) (policy_leaves true depth (drop at W))) (λ p vs h.
@@ -188,74 +195,71 @@ module _ (every : Bool) (g : Option OutcomeTable) (P : Table) (W : List ℕ) (de
 
   -- An arm that does not stop the list: the others go on from what is kept with it.
   pub arm_goes : (v' : Sofar) (mid front' omid : List ℕ) → length front' ≡ length front →
-      ((k : Walked) (x : model.ReducedPolicy Outcome) → SofarIs every g P W k v buf front out → Result x P W part room opart a → stops every x ≡ false → SofarIs every g P W (with_arm k x) v' mid front' omid) →
-      false ≡ (every && (not a.pending && not a.decision.permit)) →
+      ((k : Walked) (x : model.ReducedPolicy Outcome) → SofarIs every g P W k v buf front out → Result x P W part room opart a.to → stops every x ≡ false → SofarIs every g P W (with_arm k x) v' mid front' omid) →
+      stops_list every a.to ≡ false →
       ArmsLeft every g P W v' mid front' omid a.next depth (arms - 1) m r t buf' out' → ArmsLeft every g P W v buf front out at depth arms s r t buf' out'
   arm_goes v' mid front' omid long more e rest =
-      arm_first rest.few rest.bound (λ k p z h.
+      arm_first rest.fit (λ k p z h.
       let x = reduce_policy g permits_first P p in
-      let on : stops every x ≡ false = settled_as P W part room opart a x h.result every ∙ sym e in
+      let on : stops every x ≡ false = settled_as P W part room opart a.to x h.result every ∙ e in
       weaker (many pnil pcons (read_policy true depth) (arms - 1) (drop a.next W)) (λ ts us i. record {
-        result = subst (λ n. Result (left_of every g P k (pcons p ts)) P W buf' n out' r) long
-            (subst (λ y. Result y P W buf' (length front') out' r) (sym (left_more every g P k p ts on)) i.result);
+        result = subst (λ n. Result (left_of every g P k (pcons p ts)) P W buf' n out' r.to) long
+            (subst (λ y. Result y P W buf' (length front') out' r.to) (sym (left_more every g P k p ts on)) i.result);
         next_is = omega (arith, h.next_is, i.next_is);
         log = consults_as (λ l. read_more every g permits_first P p ts l on) (consults_then h.log i.log);
       })
       (rest.says (with_arm k x) (more k x z h.result on)))
 
 -- An arm that stops the list is its answer; the others are passed over.
-stopped_by : (every : Bool) (P : Table) (W part mid : List ℕ) (room : ℕ) (opart out' : List ℕ) (a : ReducedPolicy) (n next count : ℕ) (x : model.ReducedPolicy Outcome) → stops every x ≡ true → Result x P W part room opart a →
-    Result x P W mid n out' (resolved_to a.decision next count)
-stopped_by false P W part mid room opart out' a n next count x e h = clash true refl (sym e)
-stopped_by true P W part mid room opart out' a n next count (resolved (permits p)) e h = clash true refl (sym e)
-stopped_by true P W part mid room opart out' a n next count (resolved (denies d)) e h =
-    let denied = decided_as P W part room opart a (denies d) h in
+stopped_by : (every : Bool) (P : Table) (W part mid : List ℕ) (room : ℕ) (opart out' : List ℕ) (d : Decision) (n : ℕ) (x : model.ReducedPolicy Outcome) → stops every x ≡ true → Result x P W part room opart (Resolved d) → Result x P W mid n out' (Resolved d)
+stopped_by false P W part mid room opart out' d n x e h = clash true refl (sym e)
+stopped_by true P W part mid room opart out' d n (resolved (permits p)) e h = clash true refl (sym e)
+stopped_by true P W part mid room opart out' d n (resolved (denies c)) e h =
+    let denied = decided_as P W part d (denies c) h in
     record {
-      settled = refl;
-      decision_is = deny_decision W part mid a.decision denied h.sound P ∙ h.decision_is;
-      sound = deny_sound W part mid a.decision denied h.sound;
+      decision_is = deny_decision W part mid d denied h.sound P ∙ h.decision_is;
+      sound = deny_sound W part mid d denied h.sound;
     }
-stopped_by true P W part mid room opart out' a n next count (pending q) e h = clash true refl (sym e)
+stopped_by true P W part mid room opart out' d n (pending q) e h = clash true refl (sym e)
 
-pub arm_stops : (every : Bool) (g : Option OutcomeTable) (P : Table) (W : List ℕ) (depth : ℕ) (s m : Lent) (a : ReducedPolicy) (v : Sofar) (buf front out part opart : List ℕ) (room : ℕ) (mid out' : List ℕ) (at arms end : ℕ) → (arms ≡ 0 → ⊥) →
-    ReducesP g permits_first P W at depth s a m part room opart → true ≡ (every && (not a.pending && not a.decision.permit)) →
+pub arm_stops : (every : Bool) (g : Option OutcomeTable) (P : Table) (W : List ℕ) (depth : ℕ) (s m : Lent) (a : ReducedPolicy) (d : Decision) (v : Sofar) (buf front out part opart : List ℕ) (room : ℕ) (mid out' : List ℕ) (at arms end : ℕ) → (arms ≡ 0 → ⊥) →
+    ReducesP g permits_first P W at depth s a m part room opart → a.to ≡ Resolved d → stops_list every (Resolved d) ≡ true →
     ((depth : ℕ) (res : Bool) → Skipped wordss a.next (many pnil pcons (read_policy res depth) (arms - 1) (drop a.next W)) end) →
-    ArmsLeft every g P W v buf front out at depth arms s (resolved_to a.decision end a.count) m mid out'
-arm_stops every g P W depth s m a v buf front out part opart room mid out' at arms end some first e k =
-    arm_first every g P W depth s m m a (resolved_to a.decision end a.count) v buf front out part opart room mid out' at arms some first first.few (omega arith) (λ w p z h.
+    ArmsLeft every g P W v buf front out at depth arms s (resolved_to d end) m mid out'
+arm_stops every g P W depth s m a d v buf front out part opart room mid out' at arms end some first is e k =
+    arm_first every g P W depth s m m a (resolved_to d end) v buf front out part opart room mid out' at arms some first (rw is at first.fit) (λ w p z h.
     let x = reduce_policy g permits_first P p in
-    let stop-here : stops every x ≡ true = settled_as P W part room opart a x h.result every ∙ sym e in
+    let result = rw is at h.result in
+    let stop-here : stops every x ≡ true = settled_as P W part room opart (Resolved d) x result every ∙ e in
     weaker (many pnil pcons (read_policy true depth) (arms - 1) (drop a.next W)) (λ ts us i. record {
-      result = subst (λ y. Result y P W mid (length front) out' (resolved_to a.decision end a.count)) (sym (left_stop every g P w p ts stop-here))
-          (stopped_by every P W part mid room opart out' a (length front) end a.count x stop-here h.result);
+      result = subst (λ y. Result y P W mid (length front) out' (Resolved d)) (sym (left_stop every g P w p ts stop-here))
+          (stopped_by every P W part mid room opart out' d (length front) x stop-here result);
       next_is = omega (arith, h.next_is, i);
       log = consults_as (λ l. read_stop every g permits_first P p ts l stop-here) h.log;
     })
     (skipped wordss a.next end (many pnil pcons (read_policy true depth) (arms - 1) (drop a.next W)) (k depth true)))
 
 -- No arm is left.
-ended_as : (every : Bool) (g : Option OutcomeTable) (P : Table) (W : List ℕ) (v : Sofar) (next count : ℕ) (buf front out buf' out' : List ℕ) (r : ReducedPolicy) (k : Walked) (b : Bool) → v.pending ≡ b → SofarIs every g P W k v buf front out →
-    ListEnds every P W v next count buf front out buf' out' r → Result (end_of every g P k) P W buf' (length front) out' r
-ended_as every g P W v next count buf front out buf' out' r k true p s e =
+ended_as : (every : Bool) (g : Option OutcomeTable) (P : Table) (W : List ℕ) (v : Sofar) (buf front out buf' out' : List ℕ) (r : Reduced) (k : Walked) (b : Bool) → v.pending ≡ b → SofarIs every g P W k v buf front out →
+    ListEnds every P W v buf front out buf' out' r → Result (end_of every g P k) P W buf' (length front) out' r
+ended_as every g P W v buf front out buf' out' r k true p s e =
     subst (λ y. Result y P W buf' (length front) out' r) (sym (end_some every g P k (sym s.pending_is ∙ p))) (e.pending_is p g k s)
-ended_as every g P W v next count buf front out buf' out' r k false p s e =
+ended_as every g P W v buf front out buf' out' r k false p s e =
     let is = e.resolved_is p in
     subst (λ y. Result y P W buf' (length front) out' r) (sym (end_none every g P k (sym s.pending_is ∙ p)))
-    (rw (is.0, is.1) (record { settled = refl; decision_is = s.decision_is; sound = s.sound }))
+    (rw (is.0, is.1) (record { decision_is = s.decision_is; sound = s.sound }))
 
-pub arms_end : (every : Bool) (g : Option OutcomeTable) (P : Table) (W : List ℕ) (v : Sofar) (buf front out : List ℕ) (at depth arms count : ℕ) (entries seen : List ℕ) (r : ReducedPolicy) (buf' out' : List ℕ) → arms ≡ 0 →
-    ListEnds every P W v at count buf front out buf' out' r → ArmsLeft every g P W v buf front out at depth arms (lent count entries seen) r (lent r.count entries seen) buf' out'
-arms_end every g P W v buf front out at depth arms listed entries seen r buf' out' z e =
-    subst (λ n. ArmsLeft every g P W v buf front out at depth arms (lent listed entries seen) r (lent n entries seen) buf' out') (sym e.count_is)
-    (rw z (record {
-      few = e.few;
-      bound = e.bound;
-      says = λ k s. fine (record {
-        result = subst (λ y. Result y P W buf' (length front) out' r) (sym (left_none every g P k)) (ended_as every g P W v at listed buf front out buf' out' r k v.pending refl s e);
-        next_is = omega (arith, e.next_is);
+pub arms_end : (every : Bool) (g : Option OutcomeTable) (P : Table) (W : List ℕ) (v : Sofar) (buf front out : List ℕ) (at depth arms : ℕ) (s : Lent) (r : Reduced) (buf' out' : List ℕ) → arms ≡ 0 →
+    ListEnds every P W v buf front out buf' out' r → ArmsLeft every g P W v buf front out at depth arms s (record { to = r; next = at }) s buf' out'
+arms_end every g P W v buf front out at depth arms s r buf' out' z e =
+    rw z (record {
+      fit = e.fit;
+      says = λ k i. fine (record {
+        result = subst (λ y. Result y P W buf' (length front) out' r) (sym (left_none every g P k)) (ended_as every g P W v buf front out buf' out' r k v.pending refl i e);
+        next_is = omega arith;
         log = consults_as (read_none every g permits_first P) consults_none;
       });
-    }))
+    })
 
 -- ---- the node that has the arms
 pub first_word : {room : ℕ} (out : List ℕ) → LaidWithin room 1 (get_or out 0 0 ∷ []) out 1
@@ -286,10 +290,6 @@ unfolding policy_node
 list_reads true pc p n ws = refl
 list_reads false pc p n ws = refl
 
--- What is kept before the first arm.
-abbrev pub none_yet : ℕ → Sofar
-none_yet end = sofar_of (denied_at end end) false 0 1 0 false
-
 module _ (every : Bool) (g : Option OutcomeTable) (P : Table) (W : List ℕ) (at depth n : ℕ) (s : Lent) (r : ReducedPolicy) (t : Lent) (buf front out buf' out' : List ℕ) (end : ℕ) (is : end ≡ length W) (lt : at < length W) where
   none_kept : SofarIs every g P W (walked [] none pnil) (none_yet end) buf front out
   none_kept = record {
@@ -305,27 +305,28 @@ module _ (every : Bool) (g : Option OutcomeTable) (P : Table) (W : List ℕ) (at
 
   pub list_node_lem : ArmsLeft every g P W (none_yet end) buf front out (at + 1) depth n s r t buf' out' → ReducesBy g permits_first (list_head every n) P W at depth s r t buf' (length front) out'
   list_node_lem a = record {
-    few = a.few;
-    bound = a.bound;
+    fit = a.fit;
     says = λ e. node_holds W at depth (list_head every n) lt e (rw (list_reads every _ (read_policy true depth) n (drop (at + 1) W))
         (then_holds (many pnil pcons (read_policy true depth) n (drop (at + 1) W)) (λ ts vs. got (list_of every ts) vs) (a.says (walked [] none pnil) none_kept) (λ ts rest h. fine (record {
-          result = subst (λ x. Result x P W buf' (length front) out' r) (start_left every g P ts) h.result;
+          result = subst (λ x. Result x P W buf' (length front) out' r.to) (start_left every g P ts) h.result;
           next_is = omega (arith, h.next_is, start_words every ts);
           log = consults_as (read_start every g permits_first P ts) h.log;
         }))));
   }
 
 -- ---- a loop over arms: what was lent first and what is now; what answers for the arms that are left answers for all
-pub record Going (Left Whole : ReducedPolicy → Lent → List ℕ → List ℕ → Type 0) (s u : Lent) (v : Sofar) (arms left : ℕ) (buf₀ buf named₀ named front₀ front out₀ out : List ℕ) : Type 0 where
-  pub entries_long : length u.entries ≡ length s.entries
-  pub seen_long : length u.seen ≡ length s.seen
-  pub buf_long : length buf ≡ length buf₀
-  pub named_long : length named ≡ length named₀
-  pub front_long : length front ≡ length front₀
-  pub out_long : length out ≡ length out₀
+pub record Going (Left Whole : ReducedPolicy → Lent → List ℕ → List ℕ → Type 0) (v : Sofar) (arms left : ℕ) : Type 0 where
   pub bounds : Bounded v
   pub arms_left : v.arms + left ≤ arms
   pub goes : (r : ReducedPolicy) (t : Lent) (buf' out' : List ℕ) → Left r t buf' out' → Whole r t buf' out'
+
+pub arms_with_most : (permit : Bool) (n : ℕ) → arms_with permit n ≤ n + 1
+arms_with_most true n = omega arith
+arms_with_most false n = omega arith
+
+-- A pending arm leaves the bounds.
+pub bounded_open : {v : Sofar} (n : ℕ) → Bounded v → Bounded (with_pending v n)
+bounded_open n b = record { few = b.few; kept_most = b.kept_most; size_most = omega arith; size_some = omega (arith, b.size_some) }
 
 -- ---- OrElse
 module _ {g : Option OutcomeTable} {order : Order} (P : Table) (W : List ℕ) (at depth : ℕ) (s m : Lent) (a : ReducedPolicy) (mid : List ℕ) (room : ℕ) (opart : List ℕ) (lt : at < length W) (first : ReducesP g order P W (at + 1) depth s a m mid room opart) where
@@ -333,14 +334,13 @@ module _ {g : Option OutcomeTable} {order : Order} (P : Table) (W : List ℕ) (a
   one = read_policy true depth
 
   -- By the answer a to the primary.
-  or_first_lem : (r : ReducedPolicy) (t : Lent) (buf : List ℕ) (n : ℕ) (out : List ℕ) → r.decision.united ≤ obligation_room → r.size ≤ too_many →
+  or_first_lem : (r : ReducedPolicy) (t : Lent) (buf : List ℕ) (n : ℕ) (out : List ℕ) → Fit r.to →
       ((x : Policy Outcome) → ReducedTo (reduce_policy g order P x) (at + 1 + words x) (walk g order P x) P W s a m mid room opart →
       Holds (λ y rest. ReducedTo (reduce_policy g order P (or_else x y)) (at + words (or_else x y)) (walk g order P (or_else x y)) P W s r t buf n out) (one (drop a.next W))) →
       ReducesBy g order OrElse P W at depth s r t buf n out
   unfolding policy_node
-  or_first_lem r t buf n out few bound f = record {
-    few = few;
-    bound = bound;
+  or_first_lem r t buf n out fit f = record {
+    fit = fit;
     says = λ e. node_holds W at depth OrElse lt e
         (then_holds (one (drop (at + 1) W)) (λ x vs. next (one vs) (λ y us. got (or_else x y) us))
         (both_hold (one (drop (at + 1) W)) (first.says true) (policy_leaves true depth (drop (at + 1) W))) (λ x vs h.
@@ -350,75 +350,85 @@ module _ {g : Option OutcomeTable} {order : Order} (P : Table) (W : List ℕ) (a
   }
 
   -- A resolved permit is the answer, and the fallback is passed over.
-  permits_first_lem : (x y : model.ReducedPolicy Outcome) (n : ℕ) (out : List ℕ) (end : ℕ) → Result x P W mid room opart a → a.pending ≡ false → a.decision.permit ≡ true →
-      Result (reduce_or_else x y) P W mid n out (resolved_to a.decision end a.count)
-  permits_first_lem (resolved (permits p)) y n out end h e q = record { settled = refl; decision_is = h.decision_is; sound = h.sound }
-  permits_first_lem (resolved (denies d)) y n out end h e q = clash a.decision.permit q (decided_as P W mid room opart a (denies d) h)
-  permits_first_lem (pending z) y n out end h e q = clash a.pending h.unsettled e
+  module _ (d : Decision) (is : a.to ≡ Resolved d) where
+    abbrev First : model.ReducedPolicy Outcome → Type 0
+    First x = Result x P W mid room opart (Resolved d)
 
-  permits_read : (x : model.ReducedPolicy Outcome) (here on : Consulted) → Result x P W mid room opart a → a.pending ≡ false → a.decision.permit ≡ true → unless_permitted x here on ≡ here
-  permits_read (resolved (permits p)) here on h e q = refl
-  permits_read (resolved (denies d)) here on h e q = clash a.decision.permit q (decided_as P W mid room opart a (denies d) h)
-  permits_read (pending z) here on h e q = clash a.pending h.unsettled e
+    permits_first_lem : (x y : model.ReducedPolicy Outcome) (n : ℕ) (out : List ℕ) → First x → d.permit ≡ true → Result (reduce_or_else x y) P W mid n out (Resolved d)
+    permits_first_lem (resolved (permits p)) y n out h q = record { decision_is = h.decision_is; sound = h.sound }
+    permits_first_lem (resolved (denies c)) y n out h q = clash d.permit q (decided_as P W mid d (denies c) h)
+    permits_first_lem (pending z) y n out h q = absurd h
 
-  pub or_permits : (end n : ℕ) (out : List ℕ) → a.pending ≡ false → a.decision.permit ≡ true →
-      ((depth : ℕ) (res : Bool) → Skipped wordss a.next (many pnil pcons (read_policy res depth) 1 (drop a.next W)) end) →
-      ReducesBy g order OrElse P W at depth s (resolved_to a.decision end a.count) m mid n out
-  or_permits end n out e q k =
-      or_first_lem (resolved_to a.decision end a.count) m mid n out first.few (omega arith) (λ x h.
-      weaker (one (drop a.next W)) (λ y rest i. record {
-        result = permits_first_lem (reduce_policy g order P x) (reduce_policy g order P y) n out end h.result e q;
-        next_is = omega (arith, h.next_is, i);
-        log = consults_as (λ l. permits_read (reduce_policy g order P x) (walk g order P x l) (walk g order P y (walk g order P x l)) h.result e q) h.log;
-      })
-      (one_passed a.next end (one (drop a.next W)) (skipped wordss a.next end (many pnil pcons one 1 (drop a.next W)) (k depth true))))
+    permits_read : (x : model.ReducedPolicy Outcome) (here on : Consulted) → First x → d.permit ≡ true → unless_permitted x here on ≡ here
+    permits_read (resolved (permits p)) here on h q = refl
+    permits_read (resolved (denies c)) here on h q = clash d.permit q (decided_as P W mid d (denies c) h)
+    permits_read (pending z) here on h q = absurd h
 
-  module _ (t : Lent) (b : ReducedPolicy) (buf : List ℕ) where
-    -- After a resolved deny the fallback is the answer.
-    denies_first : (x y : model.ReducedPolicy Outcome) (n : ℕ) (out : List ℕ) → Result x P W mid room opart a → a.pending ≡ false → a.decision.permit ≡ false → Result y P W buf n out b → Result (reduce_or_else x y) P W buf n out b
-    denies_first (resolved (permits p)) y n out h e q i = clash a.decision.permit (decided_as P W mid room opart a (permits p) h) q
-    denies_first (resolved (denies d)) y n out h e q i = i
-    denies_first (pending z) y n out h e q i = clash a.pending h.unsettled e
-
-    on_read_lem : (x : model.ReducedPolicy Outcome) (here on : Consulted) → Result x P W mid room opart a → (a.pending ≡ false → a.decision.permit ≡ false) → unless_permitted x here on ≡ on
-    on_read_lem (resolved (permits p)) here on h q = clash a.decision.permit (decided_as P W mid room opart a (permits p) h) (q h.settled)
-    on_read_lem (resolved (denies d)) here on h q = refl
-    on_read_lem (pending z) here on h q = refl
-
-    pub or_denies : (n : ℕ) (out : List ℕ) → a.pending ≡ false → a.decision.permit ≡ false → (n' : ℕ) → ReducesP g order P W a.next depth m b t buf n' out → n' ≡ n → ReducesBy g order OrElse P W at depth s b t buf n out
-    or_denies n out e q n' second₀ z =
-        let second : ReducesP g order P W a.next depth m b t buf n out = subst (λ i. ReducesP g order P W a.next depth m b t buf i out) z second₀ in
-        or_first_lem b t buf n out second.few second.bound (λ x h.
+    pub or_permits : (end n : ℕ) (out : List ℕ) → d.permit ≡ true →
+        ((depth : ℕ) (res : Bool) → Skipped wordss a.next (many pnil pcons (read_policy res depth) 1 (drop a.next W)) end) →
+        ReducesBy g order OrElse P W at depth s (resolved_to d end) m mid n out
+    or_permits end n out q k =
+        or_first_lem (resolved_to d end) m mid n out (rw is at first.fit) (λ x h.
+        let result = rw is at h.result in
         weaker (one (drop a.next W)) (λ y rest i. record {
-          result = denies_first (reduce_policy g order P x) (reduce_policy g order P y) n out h.result e q i.result;
+          result = permits_first_lem (reduce_policy g order P x) (reduce_policy g order P y) n out result q;
+          next_is = omega (arith, h.next_is, i);
+          log = consults_as (λ l. permits_read (reduce_policy g order P x) (walk g order P x l) (walk g order P y (walk g order P x l)) result q) h.log;
+        })
+        (one_passed a.next end (one (drop a.next W)) (skipped wordss a.next end (many pnil pcons one 1 (drop a.next W)) (k depth true))))
+
+    -- After a resolved deny the fallback is the answer.
+    denies_first : (b : Reduced) (buf : List ℕ) (x y : model.ReducedPolicy Outcome) (n : ℕ) (out : List ℕ) → First x → d.permit ≡ false → Result y P W buf n out b → Result (reduce_or_else x y) P W buf n out b
+    denies_first b buf (resolved (permits p)) y n out h q i = clash d.permit (decided_as P W mid d (permits p) h) q
+    denies_first b buf (resolved (denies c)) y n out h q i = i
+    denies_first b buf (pending z) y n out h q i = absurd h
+
+    denies_read : (x : model.ReducedPolicy Outcome) (here on : Consulted) → First x → d.permit ≡ false → unless_permitted x here on ≡ on
+    denies_read (resolved (permits p)) here on h q = clash d.permit (decided_as P W mid d (permits p) h) q
+    denies_read (resolved (denies c)) here on h q = refl
+    denies_read (pending z) here on h q = refl
+
+    pub or_denies : (t : Lent) (b : ReducedPolicy) (buf : List ℕ) (n : ℕ) (out : List ℕ) → d.permit ≡ false → (n' : ℕ) → ReducesP g order P W a.next depth m b t buf n' out → n' ≡ n → ReducesBy g order OrElse P W at depth s b t buf n out
+    or_denies t b buf n out q n' second₀ z =
+        let second : ReducesP g order P W a.next depth m b t buf n out = subst (λ i. ReducesP g order P W a.next depth m b t buf i out) z second₀ in
+        or_first_lem b t buf n out second.fit (λ x h.
+        let result = rw is at h.result in
+        weaker (one (drop a.next W)) (λ y rest i. record {
+          result = denies_first b.to buf (reduce_policy g order P x) (reduce_policy g order P y) n out result q i.result;
           next_is = omega (arith, h.next_is, i.next_is);
-          log = consults_as (λ l. on_read_lem (reduce_policy g order P x) (walk g order P x l) (walk g order P y (walk g order P x l)) h.result (λ _. q)) (consults_then h.log i.log);
+          log = consults_as (λ l. denies_read (reduce_policy g order P x) (walk g order P x l) (walk g order P y (walk g order P x l)) result q) (consults_then h.log i.log);
         })
         (second.says true))
 
-    -- With a pending primary both are kept.
-    open_first : (x y : model.ReducedPolicy Outcome) (out opart₂ buf' out' : List ℕ) (from behind used size end after listed : ℕ) → a.pending ≡ true → from ≡ min 1 (length out) → length opart ≡ length out - from → used ≡ capped (1 + a.size) →
+  -- With a pending primary both are kept.
+  module _ (left : ℕ) (is : a.to ≡ Pending left) where
+    open_read : (x : model.ReducedPolicy Outcome) (here on : Consulted) → Result x P W mid room opart (Pending left) → unless_permitted x here on ≡ on
+    open_read (resolved D) here on h = absurd h
+    open_read (pending z) here on h = refl
+
+    open_first : (b : Reduced) (buf : List ℕ) (x y : model.ReducedPolicy Outcome) (out opart₂ buf' out' : List ℕ) (from behind used size : ℕ) → from ≡ min 1 (length out) → length opart ≡ length out - from → used ≡ capped (1 + left) →
         behind ≡ min used (length (back from out opart)) → length opart₂ ≡ length (back from out opart) - behind → OrElsePut P W used b buf (back behind (back from out opart) opart₂) out' size →
-        Result x P W mid room opart a → Result y P W buf room opart₂ b → Result (reduce_or_else x y) P W buf' room out' (left_to size end after listed)
-    open_first (resolved D) y out opart₂ buf' out' from behind used size end after listed p f long u w long₂ k h i = clash a.pending p h.settled
-    open_first (pending q) y out opart₂ buf' out' from behind used size end after listed p f long u w long₂ k h i =
+        Result x P W mid room opart (Pending left) → Result y P W buf room opart₂ b → Result (reduce_or_else x y) P W buf' room out' (Pending size)
+    open_first b buf (resolved D) y out opart₂ buf' out' from behind used size f long u w long₂ k h i = absurd h
+    open_first b buf (pending q) y out opart₂ buf' out' from behind used size f long u w long₂ k h i =
         let out₁ = back from out opart in
         let one_word : LaidWithin room 1 (get_or out 0 0 ∷ []) out 1 = first_word out in
-        let two : LaidWithin room (1 + weight q) (get_or out 0 0 ∷ encode q) out₁ used = within_then one_word h.left f long u in
+        let two : LaidWithin room (1 + weight q) (get_or out 0 0 ∷ encode q) out₁ used = within_then one_word h f long u in
         let stays : LaidWithin room (1 + weight q) (get_or out 0 0 ∷ encode q) (back behind out₁ opart₂) used = within_still opart₂ two w long₂ in
         let there : opart₂ ≡ drop (min used (length (back behind out₁ opart₂))) (back behind out₁ opart₂) =
         sym (ap (λ i. drop i (back behind out₁ opart₂)) (ap (min used) (back_long behind out₁ opart₂ (omega arith) long₂) ∙ sym w) ∙ back_part behind out₁ opart₂ (omega arith)) in
-        record { unsettled = refl; left = k.put (weight q) (get_or out 0 0) room (encode q) y stays (subst (λ us. Result y P W buf room us b) there i) }
+        k.put (weight q) (get_or out 0 0) room (encode q) y stays (subst (λ us. Result y P W buf room us b) there i)
 
-    pub or_open : (out opart₂ buf' out' : List ℕ) (from behind used size end : ℕ) → a.pending ≡ true → from ≡ min 1 (length out) → length opart ≡ length out - from → used ≡ capped (1 + a.size) →
+    pub or_open : (t : Lent) (b : ReducedPolicy) (buf : List ℕ) (out opart₂ buf' out' : List ℕ) (from behind used size : ℕ) → from ≡ min 1 (length out) → length opart ≡ length out - from → used ≡ capped (1 + left) →
         behind ≡ min used (length (back from out opart)) → length opart₂ ≡ length (back from out opart) - behind → (room' : ℕ) → ReducesP g order P W a.next depth m b t buf room' opart₂ → room' ≡ room →
-        OrElsePut P W used b buf (back behind (back from out opart) opart₂) out' size → ReducesBy g order OrElse P W at depth s (left_to size end b.next b.count) t buf' room out'
-    or_open out opart₂ buf' out' from behind used size end p f long u w long₂ room' second₀ z k =
+        OrElsePut P W used b.to buf (back behind (back from out opart) opart₂) out' size → ReducesBy g order OrElse P W at depth s (record { to = Pending size; next = b.next }) t buf' room out'
+    or_open t b buf out opart₂ buf' out' from behind used size f long u w long₂ room' second₀ z k =
         let second : ReducesP g order P W a.next depth m b t buf room opart₂ = subst (λ i. ReducesP g order P W a.next depth m b t buf i opart₂) z second₀ in
-        or_first_lem (left_to size end b.next b.count) t buf' room out' (omega arith) k.bound (λ x h.
+        or_first_lem (record { to = Pending size; next = b.next }) t buf' room out' k.bound (λ x h.
+        let result = rw is at h.result in
         weaker (one (drop a.next W)) (λ y rest i. record {
-          result = open_first (reduce_policy g order P x) (reduce_policy g order P y) out opart₂ buf' out' from behind used size end b.next b.count p f long u w long₂ k h.result i.result;
+          result = open_first b.to buf (reduce_policy g order P x) (reduce_policy g order P y) out opart₂ buf' out' from behind used size f long u w long₂ k result i.result;
           next_is = omega (arith, h.next_is, i.next_is);
-          log = consults_as (λ l. on_read_lem (reduce_policy g order P x) (walk g order P x l) (walk g order P y (walk g order P x l)) h.result (λ q. clash a.pending p q)) (consults_then h.log i.log);
+          log = consults_as (λ l. open_read (reduce_policy g order P x) (walk g order P x l) (walk g order P y (walk g order P x l)) result) (consults_then h.log i.log);
         })
         (second.says true))

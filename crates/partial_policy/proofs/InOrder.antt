@@ -1,6 +1,6 @@
 -- The list rule in sheet order by its first arm and the others. Assumes nothing.
 use mathlib.Core.Path.{◌≡◌, refl, sym, ◌∙◌, ap, ap₂, subst}
-use mathlib.Core.Bool.{Bool, true, false, not, ◌&&◌}
+use mathlib.Core.Bool.{Bool, true, false}
 use mathlib.Core.Option.{Option}
 use mathlib.Core.List.{List, [], ◌∷◌, ◌++◌}
 use Prim.Native.Nat.{ℕ, ◌+◌, ◌-◌, ◌≤◌, ◌<◌, min}
@@ -20,19 +20,22 @@ use Rattle.laws.proofs.FieldLaws.{Holds, fine, weaker, then_holds, both_hold}
 use Rattle.laws.specs.Size.{words, wordss}
 use Rattle.policy_model.specs.Span.{Skipped}
 use Rattle.policy_model.proofs.Policies.{policy_leaves}
-use Rattle.condition.specs.Listing.{Lent, lent}
-use Rattle.condition.proofs.Listing.{consults_none, consults_then, consults_as}
+use Rattle.consulted.specs.Listing.{Lent}
+use Rattle.consulted.proofs.Listing.{consults_none, consults_then, consults_as}
 use Rattle.decision.specs.Meaning.{decision_of, past, Sound}
-use Rattle.decision.specs.Room.{obligation_room, Few}
+use Rattle.decision.specs.Room.{obligation_room}
 use Rattle.decision.proofs.Standing.{denied_is, sound_denied}
 use Rattle.decision.proofs.Buffers.{same_decision, same_sound, deny_decision, deny_sound, lent_back}
 use Rattle.evaluate.specs.Evaluating.{Folds}
 use Rattle.evaluate.proofs.Folds.{lent_folds}
 use Rattle.evaluate.proofs.Nodes.{node_holds}
 use Rattle.evaluate.proofs.Arms.{decides, arms_more, skipped}
-use Rattle.sizes.specs.Laid.{too_many, capped}
+use Rattle.sizes.specs.Laid.{capped}
 use Rattle.sizes.specs.LaidLaws.{laid_as}
 use Rattle.residual.specs.Weight.{weight_d, weight, weights}
+use Rattle.decision.specs.declared.Decision.{Decision}
+use Rattle.partial_list.specs.declared.Reduced.{Reduced}
+use Rattle.partial_list.specs.declared.Reduced.TheVariants.{Resolved, Pending}
 use Rattle.partial_list.specs.declared.ReducedPolicy.{ReducedPolicy}
 use Rattle.partial_list.specs.declared.Sofar.{Sofar}
 use Rattle.partial_list.specs.Keeping.{stops, list_of, fold_of, fold_next, read_of}
@@ -40,78 +43,78 @@ use Rattle.partial_list.specs.KeepingLaws.{read_more, read_stop, read_none, read
 use Rattle.partial_list.specs.Holding.{left_of, value_of, NoDeny}
 use Rattle.partial_list.specs.HoldingLaws.{left_start, left_more, left_last, left_none, end_pending, end_value, value_more, value_last, pending_more, pending_open, weights_more, words_more, count_more, going_more, begun_more}
 use Rattle.partial_list.specs.WithinLaws.{within_as, within_then, within_still}
-use Rattle.partial_list.specs.Answers.{resolved_to, Result, sofar_of, Bounded}
+use Rattle.partial_list.specs.Answers.{resolved_to, Resolves, Result, Fit, none_yet, with_pending, Bounded}
 use Rattle.partial_policy.specs.Reducing.{ReducedTo, ReducesP, ReducesBy, list_head}
-use Rattle.partial_list.specs.InOrder.{InOrderIs, KnownHeld, ArmHeld, OrderEnds}
+use Rattle.partial_list.specs.InOrder.{InOrderIs, DecisionHeld, OrderEnds}
 use Rattle.partial_list.proofs.Adding.{clash}
-use Rattle.partial_policy.proofs.Arms.{back, decided_as, settled_as, first_word, list_reads, start_words, none_yet}
+use Rattle.partial_policy.proofs.Arms.{back, decided_as, stops_list, settled_as, first_word, list_reads, start_words}
 
 -- ---- one more arm
-module _ (every : Bool) (g : Option OutcomeTable) (T : Table) (W : List ℕ) (v : Sofar) (a : ReducedPolicy) (outcome : ℕ) (buf part out opart buf' out' : List ℕ) (from room : ℕ) (v' : Sofar)
-    (o : from ≡ min v.size (length out)) (is : outcome ≡ fold_of every g v.decision.outcome a.decision.outcome) (added : ArmHeld every outcome T W v a (back obligation_room buf part) (back from out opart) buf' out' v')
-    (bounds : Bounded v) (few : a.decision.united ≤ length part) (wide : obligation_room ≤ length buf) (olong : length opart ≡ length out - from) where
-  open_more : (k : List (model.ReducedPolicy Outcome)) (q : Policy Outcome) → InOrderIs every g T W k v buf room out → Result (pending q) T W part room opart a →
-      InOrderIs every g T W (k ++ pending q ∷ []) (sofar_of v.decision v.begun v.kept (capped (v.size + a.size)) (v.arms + 1) true) (back obligation_room buf part) room (back from out opart)
-  open_more k q s x = record {
+module _ (every : Bool) (g : Option OutcomeTable) (T : Table) (W : List ℕ) (v : Sofar) (buf part out opart : List ℕ) (from room : ℕ)
+    (o : from ≡ min v.size (length out)) (bounds : Bounded v) (wide : obligation_room ≤ length buf) (olong : length opart ≡ length out - from) where
+  -- What was kept so far, with one arm more: a pending one,
+  pub order_open : (n : ℕ) (k : List (model.ReducedPolicy Outcome)) (x : model.ReducedPolicy Outcome) → InOrderIs every g T W k v buf room out → Result x T W part room opart (Pending n) →
+      InOrderIs every g T W (k ++ x ∷ []) (with_pending v n) (back obligation_room buf part) room (back from out opart)
+  order_open n k (resolved D) s x = absurd x
+  order_open n k (pending q) s x = record {
     pending_is = sym (pending_open k q);
     begun_is = λ w. clash (any_pending (k ++ pending q ∷ [])) (pending_open k q) w;
     sound = λ w. clash (any_pending (k ++ pending q ∷ [])) (pending_open k q) w;
     decision_is = λ w. clash (any_pending (k ++ pending q ∷ [])) (pending_open k q) w;
     free = s.free;
     left = within_as (let z : 1 + weights (in_order k) + weight q ≡ 1 + weights (in_order (k ++ pending q ∷ [])) = omega (arith, weights_more k (pending q)) in z)
-        (ap (λ us. s.free ∷ us) (sym (words_more k (pending q)))) (within_then s.left x.left o olong refl);
+        (ap (λ us. s.free ∷ us) (sym (words_more k (pending q)))) (within_then s.left x o olong refl);
     arms_are = omega (arith, s.arms_are, count_more k (pending q));
   }
 
-  known_more : (k : List (model.ReducedPolicy Outcome)) (D : Decided Outcome) → InOrderIs every g T W k v buf room out → Result (resolved D) T W part room opart a → (any_pending k ≡ false → NoDeny every k × (stops every (resolved D) ≡ false)) →
-      KnownHeld every outcome T W v a.decision (back obligation_room buf part) (back from out opart) buf' out' v' → InOrderIs every g T W (k ++ resolved D ∷ []) v' buf' room out'
-  known_more k D s x going h =
-      let rest = drop (length buf - obligation_room) (drop obligation_room buf) in
-      let tail = lent_back buf part rest wide a.decision.united few in
-      let same : decision_of W T (drop obligation_room (back obligation_room buf part)) a.decision ≡ D = same_decision W part (drop obligation_room (back obligation_room buf part)) a.decision tail T ∙ x.decision_is in
-      let sound : Sound W (drop obligation_room (back obligation_room buf part)) a.decision = same_sound W part (drop obligation_room (back obligation_room buf part)) a.decision tail x.sound in
-      let before : any_pending (k ++ resolved D ∷ []) ≡ false → any_pending k ≡ false = λ w. sym (pending_more k D) ∙ w in
-      let permit : stops every (resolved D) ≡ false → every ≡ true → a.decision.permit ≡ true = λ e t. decided_as T W part room opart a D x ∙ no_stop D (sym (ap (λ b. stops b (resolved D)) t) ∙ e) in
-      let folds : (w : any_pending k ≡ false) → Folds (fold_next every g v.begun) W v.decision buf a.decision part v'.decision buf' = λ w.
-      lent_folds W buf part rest buf' v.decision a.decision v'.decision wide bounds.few few (fold_next every g v.begun) (h.folds (s.pending_is ∙ w) g is (permit (going w).1)) in
-      let size : v'.size ≡ capped (1 + weights (in_order (k ++ resolved D ∷ []))) = omega (arith, h.size_is sound, ap weight_d same, s.left.size_is, weights_more k (resolved D)) in
-      record {
-        pending_is = h.pending_is ∙ s.pending_is ∙ sym (pending_more k D);
-        begun_is = λ w. h.begun_is (s.pending_is ∙ before w) ∙ sym (begun_more k (resolved D));
-        sound = λ w. (folds (before w)).sound (s.sound (before w)) x.sound;
-        decision_is = λ w.
-            let z = before w in
-            (folds z).folded (s.sound z) x.sound T
-            ∙ ap₂ (fold_next every g v.begun) (s.decision_is z) x.decision_is
-            ∙ ap (λ b. fold_next every g b (value_of every g k) D) (s.begun_is z)
-            ∙ value_more every g k D (going z).0 z;
-        free = s.free;
-        left = record {
-          size_is = size;
-          laid = λ fits. laid_as (let z : 1 + weights (in_order k) + weight_d (decision_of W T (drop obligation_room (back obligation_room buf part)) a.decision) ≡ 1 + weights (in_order (k ++ resolved D ∷ [])) = omega (arith, ap weight_d same, weights_more k (resolved D)) in z)
-              (ap (λ d. s.free ∷ (encodes (in_order k) ++ encode_d d)) same ∙ ap (λ us. s.free ∷ us) (sym (words_more k (resolved D))))
-              (h.node (1 + weights (in_order k)) (s.free ∷ encodes (in_order k)) sound ((within_still opart s.left o olong).laid (omega (arith, h.more))));
-        };
-        arms_are = omega (arith, added.arms_are, s.arms_are, count_more k (resolved D));
-      }
-    where
-      no_stop : (D : Decided Outcome) → stops true (resolved D) ≡ false → decides D ≡ true
-      no_stop (permits p) e = refl
-      no_stop (denies d) e = clash true refl e
+  -- or a resolved one.
+  module _ (d : Decision) (outcome : ℕ) (buf' out' : List ℕ) (v' : Sofar) (is : outcome ≡ fold_of every g v.decision.outcome d.outcome)
+      (h : DecisionHeld every outcome T W v d (back obligation_room buf part) (back from out opart) buf' out' v') (few : d.united ≤ length part) where
+    known_more : (k : List (model.ReducedPolicy Outcome)) (D : Decided Outcome) → InOrderIs every g T W k v buf room out → Resolves T W D part d → (any_pending k ≡ false → NoDeny every k × (stops every (resolved D) ≡ false)) →
+        InOrderIs every g T W (k ++ resolved D ∷ []) v' buf' room out'
+    known_more k D s x going =
+        let rest = drop (length buf - obligation_room) (drop obligation_room buf) in
+        let tail = lent_back buf part rest wide d.united few in
+        let same : decision_of W T (drop obligation_room (back obligation_room buf part)) d ≡ D = same_decision W part (drop obligation_room (back obligation_room buf part)) d tail T ∙ x.decision_is in
+        let sound : Sound W (drop obligation_room (back obligation_room buf part)) d = same_sound W part (drop obligation_room (back obligation_room buf part)) d tail x.sound in
+        let before : any_pending (k ++ resolved D ∷ []) ≡ false → any_pending k ≡ false = λ w. sym (pending_more k D) ∙ w in
+        let permit : stops every (resolved D) ≡ false → every ≡ true → d.permit ≡ true = λ e t. decided_as T W part d D x ∙ no_stop D (sym (ap (λ b. stops b (resolved D)) t) ∙ e) in
+        let folds : (w : any_pending k ≡ false) → Folds (fold_next every g v.begun) W v.decision buf d part v'.decision buf' = λ w.
+        lent_folds W buf part rest buf' v.decision d v'.decision wide bounds.few few (fold_next every g v.begun) (h.folds (s.pending_is ∙ w) g is (permit (going w).1)) in
+        let size : v'.size ≡ capped (1 + weights (in_order (k ++ resolved D ∷ []))) = omega (arith, h.size_is sound, ap weight_d same, s.left.size_is, weights_more k (resolved D)) in
+        record {
+          pending_is = h.pending_is ∙ s.pending_is ∙ sym (pending_more k D);
+          begun_is = λ w. h.begun_is (s.pending_is ∙ before w) ∙ sym (begun_more k (resolved D));
+          sound = λ w. (folds (before w)).sound (s.sound (before w)) x.sound;
+          decision_is = λ w.
+              let z = before w in
+              (folds z).folded (s.sound z) x.sound T
+              ∙ ap₂ (fold_next every g v.begun) (s.decision_is z) x.decision_is
+              ∙ ap (λ b. fold_next every g b (value_of every g k) D) (s.begun_is z)
+              ∙ value_more every g k D (going z).0 z;
+          free = s.free;
+          left = record {
+            size_is = size;
+            laid = λ fits. laid_as (let z : 1 + weights (in_order k) + weight_d (decision_of W T (drop obligation_room (back obligation_room buf part)) d) ≡ 1 + weights (in_order (k ++ resolved D ∷ [])) = omega (arith, ap weight_d same, weights_more k (resolved D)) in z)
+                (ap (λ e. s.free ∷ (encodes (in_order k) ++ encode_d e)) same ∙ ap (λ us. s.free ∷ us) (sym (words_more k (resolved D))))
+                (h.node (1 + weights (in_order k)) (s.free ∷ encodes (in_order k)) sound ((within_still opart s.left o olong).laid (omega (arith, h.more))));
+          };
+          arms_are = omega (arith, h.arms_are, s.arms_are, count_more k (resolved D));
+        }
+      where
+        no_stop : (D : Decided Outcome) → stops true (resolved D) ≡ false → decides D ≡ true
+        no_stop (permits p) e = refl
+        no_stop (denies c) e = clash true refl e
 
-  -- What was kept so far, with one arm more.
-  pub order_more : (k : List (model.ReducedPolicy Outcome)) (x : model.ReducedPolicy Outcome) → InOrderIs every g T W k v buf room out → Result x T W part room opart a → (any_pending k ≡ false → NoDeny every k × (stops every x ≡ false)) →
-      InOrderIs every g T W (k ++ x ∷ []) v' buf' room out'
-  order_more k (resolved D) s x n = known_more k D s x n (added.known_arm x.settled)
-  order_more k (pending q) s x n =
-      let now = added.open_arm x.unsettled in
-      rw (now.0, now.1, now.2) (open_more k q s x)
+    pub order_known : (k : List (model.ReducedPolicy Outcome)) (x : model.ReducedPolicy Outcome) → InOrderIs every g T W k v buf room out → Result x T W part room opart (Resolved d) → (any_pending k ≡ false → NoDeny every k × (stops every x ≡ false)) →
+        InOrderIs every g T W (k ++ x ∷ []) v' buf' room out'
+    order_known k (resolved D) s x n = known_more k D s x n
+    order_known k (pending q) s x n = absurd x
 
 -- ---- arms
 -- The answer for the arms that are left, given what is kept so far. Of arms that don't read only the bounds are said.
 pub record HeldLeft (every : Bool) (g : Option OutcomeTable) (P : Table) (W : List ℕ) (v : Sofar) (buf : List ℕ) (room : ℕ) (out : List ℕ) (at depth arms : ℕ) (s : Lent) (r : ReducedPolicy) (t : Lent) (buf' out' : List ℕ) : Type 0 where
-  pub few : Few r.decision
-  pub bound : r.size ≤ too_many
+  pub fit : Fit r.to
   pub says : (k : List (model.ReducedPolicy Outcome)) → NoDeny every k → InOrderIs every g P W k v buf room out →
       Holds (λ ts rest. ReducedTo (left_of every g P k ts) (at + wordss ts) (read_of every g sheet_order P ts) P W s r t buf' room out') (many pnil pcons (read_policy true depth) arms (drop at W))
 
@@ -123,15 +126,14 @@ module _ (every : Bool) (g : Option OutcomeTable) (P : Table) (W : List ℕ) (de
   abbrev Whole : List (model.ReducedPolicy Outcome) → Policy Outcome → Policies Outcome → List ℕ → Type 0
   Whole k p ts rest = ReducedTo (left_of every g P k (pcons p ts)) (at + wordss (pcons p ts)) (read_of every g sheet_order P (pcons p ts)) P W s r t buf' room out'
 
-  held_first : Few r.decision → r.size ≤ too_many →
+  held_first : Fit r.to →
       ((k : List (model.ReducedPolicy Outcome)) (p : Policy Outcome) → NoDeny every k → InOrderIs every g P W k v buf room out → ReducedTo (reduce_policy g sheet_order P p) (at + words p) (walk g sheet_order P p) P W s a m part room opart →
       Holds (Whole k p) (many pnil pcons (read_policy true depth) (arms - 1) (drop a.next W))) →
       HeldLeft every g P W v buf room out at depth arms s r t buf' out'
-  held_first few bound f =
+  held_first fit f =
       let one = read_policy true depth in
       record {
-        few = few;
-        bound = bound;
+        fit = fit;
         says = λ k n z. rw (arms_more one arms (drop at W) some)
             (then_holds (one (drop at W)) (λ p vs. next (many pnil pcons one (arms - 1) vs) (λ ps us. got (pcons p ps) us))
             (both_hold (one (drop at W)) (first.says true) (policy_leaves true depth (drop at W))) (λ p vs h.
@@ -142,102 +144,94 @@ module _ (every : Bool) (g : Option OutcomeTable) (P : Table) (W : List ℕ) (de
 
   -- An arm that does not end the list: the others go on from what is kept with it.
   pub held_goes : (v' : Sofar) (mid omid : List ℕ) →
-      ((k : List (model.ReducedPolicy Outcome)) (x : model.ReducedPolicy Outcome) → InOrderIs every g P W k v buf room out → Result x P W part room opart a → (any_pending k ≡ false → NoDeny every k × (stops every x ≡ false)) → InOrderIs every g P W (k ++ x ∷ []) v' mid room omid) →
-      false ≡ (every && (not a.pending && not a.decision.permit)) →
+      ((k : List (model.ReducedPolicy Outcome)) (x : model.ReducedPolicy Outcome) → InOrderIs every g P W k v buf room out → Result x P W part room opart a.to → (any_pending k ≡ false → NoDeny every k × (stops every x ≡ false)) → InOrderIs every g P W (k ++ x ∷ []) v' mid room omid) →
+      stops_list every a.to ≡ false →
       HeldLeft every g P W v' mid room omid a.next depth (arms - 1) m r t buf' out' → HeldLeft every g P W v buf room out at depth arms s r t buf' out'
   held_goes v' mid omid more e rest =
-      held_first rest.few rest.bound (λ k p n z h.
+      held_first rest.fit (λ k p n z h.
       let x = reduce_policy g sheet_order P p in
-      let on : stops every x ≡ false = settled_as P W part room opart a x h.result every ∙ sym e in
+      let on : stops every x ≡ false = settled_as P W part room opart a.to x h.result every ∙ e in
       weaker (many pnil pcons (read_policy true depth) (arms - 1) (drop a.next W)) (λ ts us i. record {
-        result = subst (λ y. Result y P W buf' room out' r) (sym (left_more every g P k p ts on)) i.result;
+        result = subst (λ y. Result y P W buf' room out' r.to) (sym (left_more every g P k p ts on)) i.result;
         next_is = omega (arith, h.next_is, i.next_is);
         log = consults_as (λ l. read_more every g sheet_order P p ts l on) (consults_then h.log i.log);
       })
       (rest.says (k ++ x ∷ []) (going_more every k x n on) (more k x z h.result (λ _. (n, on)))))
 
 -- An arm that ends the list, the others being passed over: by what the list comes to with it.
-module _ (every : Bool) (g : Option OutcomeTable) (P : Table) (W : List ℕ) (depth : ℕ) (s m : Lent) (a r : ReducedPolicy) (v : Sofar) (buf out part opart : List ℕ) (room : ℕ) (buf' out' : List ℕ) (at arms end : ℕ) (some : arms ≡ 0 → ⊥)
-    (room₀ : ℕ) (first : ReducesP g sheet_order P W at depth s a m part room₀ opart) (same : room₀ ≡ room) (e : true ≡ (every && (not a.pending && not a.decision.permit)))
+module _ (every : Bool) (g : Option OutcomeTable) (P : Table) (W : List ℕ) (depth : ℕ) (s m : Lent) (a : ReducedPolicy) (d : Decision) (v : Sofar) (buf out part opart : List ℕ) (room : ℕ) (mid out' : List ℕ) (at arms end : ℕ) (some : arms ≡ 0 → ⊥)
+    (room₀ : ℕ) (first : ReducesP g sheet_order P W at depth s a m part room₀ opart) (same : room₀ ≡ room) (is : a.to ≡ Resolved d) (e : stops_list every (Resolved d) ≡ true)
     (pass : (depth : ℕ) (res : Bool) → Skipped wordss a.next (many pnil pcons (read_policy res depth) (arms - 1) (drop a.next W)) end) where
-  held_by_lem : Few r.decision → r.size ≤ too_many → r.next ≡ end →
-      ((k : List (model.ReducedPolicy Outcome)) (x : model.ReducedPolicy Outcome) → NoDeny every k → InOrderIs every g P W k v buf room out → Result x P W part room opart a → stops every x ≡ true → Result (end_in_order g (list_of every) P (k ++ x ∷ [])) P W buf' room out' r) →
-      HeldLeft every g P W v buf room out at depth arms s r m buf' out'
-  held_by_lem few bound e' f =
-      held_first every g P W depth s m m a r v buf out part opart room buf' out' at arms some room₀ first same few bound (λ k p n z h.
+  abbrev Last : model.ReducedPolicy Outcome → Type 0
+  Last x = Result x P W part room opart (Resolved d)
+
+  held_by_lem : (r : Reduced) → Fit r →
+      ((k : List (model.ReducedPolicy Outcome)) (x : model.ReducedPolicy Outcome) → NoDeny every k → InOrderIs every g P W k v buf room out → Last x → stops every x ≡ true → Result (end_in_order g (list_of every) P (k ++ x ∷ [])) P W mid room out' r) →
+      HeldLeft every g P W v buf room out at depth arms s (record { to = r; next = end }) m mid out'
+  held_by_lem r fit f =
+      held_first every g P W depth s m m a (record { to = r; next = end }) v buf out part opart room mid out' at arms some room₀ first same fit (λ k p n z h.
       let x = reduce_policy g sheet_order P p in
-      let stop-here : stops every x ≡ true = settled_as P W part room opart a x h.result every ∙ sym e in
+      let result = rw is at h.result in
+      let stop-here : stops every x ≡ true = settled_as P W part room opart (Resolved d) x result every ∙ e in
       weaker (many pnil pcons (read_policy true depth) (arms - 1) (drop a.next W)) (λ ts us i. record {
-        result = subst (λ y. Result y P W buf' room out' r) (sym (left_last every g P k p ts stop-here)) (f k x n z h.result stop-here);
-        next_is = omega (arith, e', h.next_is, i);
+        result = subst (λ y. Result y P W mid room out' r) (sym (left_last every g P k p ts stop-here)) (f k x n z result stop-here);
+        next_is = omega (arith, h.next_is, i);
         log = consults_as (λ l. read_stop every g sheet_order P p ts l stop-here) h.log;
       })
       (skipped wordss a.next end (many pnil pcons (read_policy true depth) (arms - 1) (drop a.next W)) (pass depth true)))
 
--- Where no arm is pending it is the answer.
-answers_with : (every : Bool) (g : Option OutcomeTable) (P : Table) (W part mid opart out' : List ℕ) (room : ℕ) (a : ReducedPolicy) (end count : ℕ) (k : List (model.ReducedPolicy Outcome)) (x : model.ReducedPolicy Outcome) → NoDeny every k → any_pending k ≡ false → Result x P W part room opart a → stops every x ≡ true →
-    Result (end_in_order g (list_of every) P (k ++ x ∷ [])) P W mid room out' (resolved_to a.decision end count)
-answers_with false g P W part mid opart out' room a end count k x n w h e = clash true refl (sym e)
-answers_with true g P W part mid opart out' room a end count k (resolved (permits p)) n w h e = clash true refl (sym e)
-answers_with true g P W part mid opart out' room a end count k (resolved (denies d)) n w h e =
-    let denied = decided_as P W part room opart a (denies d) h in
-    subst (λ y. Result y P W mid room out' (resolved_to a.decision end count)) (sym (end_value true g P (k ++ resolved (denies d) ∷ []) (pending_more k (denies d) ∙ w) ∙ ap resolved (value_last g k d n w)))
-    (record {
-      settled = refl;
-      decision_is = deny_decision W part mid a.decision denied h.sound P ∙ h.decision_is;
-      sound = deny_sound W part mid a.decision denied h.sound;
-    })
-answers_with true g P W part mid opart out' room a end count k (pending q) n w h e = clash true refl (sym e)
+  -- Where no arm is pending it is the answer.
+  answers_with : (every' : Bool) (k : List (model.ReducedPolicy Outcome)) (x : model.ReducedPolicy Outcome) → NoDeny every' k → any_pending k ≡ false → Last x → stops every' x ≡ true →
+      Result (end_in_order g (list_of every') P (k ++ x ∷ [])) P W mid room out' (Resolved d)
+  answers_with false k x n w h q = clash true refl (sym q)
+  answers_with true k (resolved (permits p)) n w h q = clash true refl (sym q)
+  answers_with true k (resolved (denies c)) n w h q =
+      let denied = decided_as P W part d (denies c) h in
+      subst (λ y. Result y P W mid room out' (Resolved d)) (sym (end_value true g P (k ++ resolved (denies c) ∷ []) (pending_more k (denies c) ∙ w) ∙ ap resolved (value_last g k c n w)))
+      (record {
+        decision_is = deny_decision W part mid d denied h.sound P ∙ h.decision_is;
+        sound = deny_sound W part mid d denied h.sound;
+      })
+  answers_with true k (pending q) n w h z = clash true refl (sym z)
 
-pub held_answers : (every : Bool) (g : Option OutcomeTable) (P : Table) (W : List ℕ) (depth : ℕ) (s m : Lent) (a : ReducedPolicy) (v : Sofar) (buf out part opart : List ℕ) (room : ℕ) (mid out' : List ℕ) (at arms end : ℕ) → (arms ≡ 0 → ⊥) →
-    (room₀ : ℕ) → ReducesP g sheet_order P W at depth s a m part room₀ opart → room₀ ≡ room → true ≡ (every && (not a.pending && not a.decision.permit)) → v.pending ≡ false →
-    ((depth : ℕ) (res : Bool) → Skipped wordss a.next (many pnil pcons (read_policy res depth) (arms - 1) (drop a.next W)) end) →
-    HeldLeft every g P W v buf room out at depth arms s (resolved_to a.decision end a.count) m mid out'
-held_answers every g P W depth s m a v buf out part opart room mid out' at arms end some room₀ first same e p pass =
-    held_by_lem every g P W depth s m a (resolved_to a.decision end a.count) v buf out part opart room mid out' at arms end some room₀ first same e pass first.few (omega arith) refl
-    (λ k x n z h stop-here. answers_with every g P W part mid opart out' room a end a.count k x n (sym z.pending_is ∙ p) h stop-here)
+  pub held_answers : v.pending ≡ false → HeldLeft every g P W v buf room out at depth arms s (resolved_to d end) m mid out'
+  held_answers p = held_by_lem (Resolved d) (rw is at first.fit) (λ k x n z h stop-here. answers_with every k x n (sym z.pending_is ∙ p) h stop-here)
 
--- Where one is, it is the last arm that is held.
-pending_with : (every : Bool) (k : List (model.ReducedPolicy Outcome)) (x : model.ReducedPolicy Outcome) → stops every x ≡ true → any_pending k ≡ true → any_pending (k ++ x ∷ []) ≡ true
-pending_with every k (resolved D) e w = pending_more k D ∙ w
-pending_with every k (pending q) e w = pending_open k q
+  -- Where one is, it is the last arm that is held.
+  pending_with : (k : List (model.ReducedPolicy Outcome)) (x : model.ReducedPolicy Outcome) → any_pending k ≡ true → any_pending (k ++ x ∷ []) ≡ true
+  pending_with k (resolved D) w = pending_more k D ∙ w
+  pending_with k (pending q) w = pending_open k q
 
-pub held_last : (every : Bool) (g : Option OutcomeTable) (P : Table) (W : List ℕ) (depth : ℕ) (s : Lent) (entries seen : List ℕ) (a r : ReducedPolicy) (v v' : Sofar) (buf out part opart : List ℕ) (room : ℕ) (mid omid out' : List ℕ) (at arms end : ℕ) → (arms ≡ 0 → ⊥) →
-    (room₀ : ℕ) → ReducesP g sheet_order P W at depth s a (lent a.count entries seen) part room₀ opart → room₀ ≡ room → true ≡ (every && (not a.pending && not a.decision.permit)) → v.pending ≡ true →
-    ((depth : ℕ) (res : Bool) → Skipped wordss a.next (many pnil pcons (read_policy res depth) (arms - 1) (drop a.next W)) end) →
-    ((k : List (model.ReducedPolicy Outcome)) (x : model.ReducedPolicy Outcome) → InOrderIs every g P W k v buf room out → Result x P W part room opart a → (any_pending k ≡ false → NoDeny every k × (stops every x ≡ false)) → InOrderIs every g P W (k ++ x ∷ []) v' mid room omid) →
-    OrderEnds every P W v' end a.count mid omid out' r → HeldLeft every g P W v buf room out at depth arms s r (lent r.count entries seen) mid out'
-held_last every g P W depth s entries seen a r v v' buf out part opart room mid omid out' at arms end some room₀ first same e p pass more ends =
-    subst (λ n. HeldLeft every g P W v buf room out at depth arms s r (lent n entries seen) mid out') (sym ends.count_is)
-    (held_by_lem every g P W depth s (lent a.count entries seen) a r v buf out part opart room mid out' at arms end some room₀ first same e pass ends.few ends.bound ends.next_is
-    (λ k x n z h stop-here.
-    let w : any_pending k ≡ true = sym z.pending_is ∙ p in
-    let with_it = more k x z h (λ q. clash (any_pending k) w q) in
-    let open-now = pending_with every k x stop-here w in
-    subst (λ y. Result y P W mid room out' r) (sym (end_pending every g P (k ++ x ∷ []) open-now)) (ends.pending_is (with_it.pending_is ∙ open-now) g (k ++ x ∷ []) room with_it)))
+  pub held_last : (v' : Sofar) (omid : List ℕ) (r : Reduced) → v.pending ≡ true →
+      ((k : List (model.ReducedPolicy Outcome)) (x : model.ReducedPolicy Outcome) → InOrderIs every g P W k v buf room out → Last x → (any_pending k ≡ false → NoDeny every k × (stops every x ≡ false)) → InOrderIs every g P W (k ++ x ∷ []) v' mid room omid) →
+      OrderEnds every P W v' mid omid out' r → HeldLeft every g P W v buf room out at depth arms s (record { to = r; next = end }) m mid out'
+  held_last v' omid r p more ends =
+      held_by_lem r ends.fit (λ k x n z h stop-here.
+      let w : any_pending k ≡ true = sym z.pending_is ∙ p in
+      let with_it = more k x z h (λ q. clash (any_pending k) w q) in
+      let open-now = pending_with k x w in
+      subst (λ y. Result y P W mid room out' r) (sym (end_pending every g P (k ++ x ∷ []) open-now)) (ends.pending_is (with_it.pending_is ∙ open-now) g (k ++ x ∷ []) room with_it))
 
 -- No arm is left.
-ended_as : (every : Bool) (g : Option OutcomeTable) (P : Table) (W : List ℕ) (v : Sofar) (next listed : ℕ) (buf out out' : List ℕ) (room : ℕ) (r : ReducedPolicy) (k : List (model.ReducedPolicy Outcome)) (b : Bool) → v.pending ≡ b → InOrderIs every g P W k v buf room out →
-    OrderEnds every P W v next listed buf out out' r → Result (end_in_order g (list_of every) P k) P W buf room out' r
-ended_as every g P W v next listed buf out out' room r k true p s e =
+ended_as : (every : Bool) (g : Option OutcomeTable) (P : Table) (W : List ℕ) (v : Sofar) (buf out out' : List ℕ) (room : ℕ) (r : Reduced) (k : List (model.ReducedPolicy Outcome)) (b : Bool) → v.pending ≡ b → InOrderIs every g P W k v buf room out →
+    OrderEnds every P W v buf out out' r → Result (end_in_order g (list_of every) P k) P W buf room out' r
+ended_as every g P W v buf out out' room r k true p s e =
     subst (λ y. Result y P W buf room out' r) (sym (end_pending every g P k (sym s.pending_is ∙ p))) (e.pending_is p g k room s)
-ended_as every g P W v next listed buf out out' room r k false p s e =
+ended_as every g P W v buf out out' room r k false p s e =
     let w = sym s.pending_is ∙ p in
-    subst (λ y. Result y P W buf room out' r) (sym (end_value every g P k w)) (rw (e.resolved_is p) (record { settled = refl; decision_is = s.decision_is w; sound = s.sound w }))
+    subst (λ y. Result y P W buf room out' r) (sym (end_value every g P k w)) (rw (e.resolved_is p) (record { decision_is = s.decision_is w; sound = s.sound w }))
 
-pub held_end : (every : Bool) (g : Option OutcomeTable) (P : Table) (W : List ℕ) (v : Sofar) (buf : List ℕ) (room : ℕ) (out : List ℕ) (at depth arms listed : ℕ) (entries seen : List ℕ) (r : ReducedPolicy) (out' : List ℕ) → arms ≡ 0 →
-    OrderEnds every P W v at listed buf out out' r → HeldLeft every g P W v buf room out at depth arms (lent listed entries seen) r (lent r.count entries seen) buf out'
-held_end every g P W v buf room out at depth arms listed entries seen r out' z e =
-    subst (λ n. HeldLeft every g P W v buf room out at depth arms (lent listed entries seen) r (lent n entries seen) buf out') (sym e.count_is)
-    (rw z (record {
-      few = e.few;
-      bound = e.bound;
-      says = λ k n s. fine (record {
-        result = subst (λ y. Result y P W buf room out' r) (sym (left_none every g P k)) (ended_as every g P W v at listed buf out out' room r k v.pending refl s e);
-        next_is = omega (arith, e.next_is);
+pub held_end : (every : Bool) (g : Option OutcomeTable) (P : Table) (W : List ℕ) (v : Sofar) (buf : List ℕ) (room : ℕ) (out : List ℕ) (at depth arms : ℕ) (s : Lent) (r : Reduced) (out' : List ℕ) → arms ≡ 0 →
+    OrderEnds every P W v buf out out' r → HeldLeft every g P W v buf room out at depth arms s (record { to = r; next = at }) s buf out'
+held_end every g P W v buf room out at depth arms s r out' z e =
+    rw z (record {
+      fit = e.fit;
+      says = λ k n i. fine (record {
+        result = subst (λ y. Result y P W buf room out' r) (sym (left_none every g P k)) (ended_as every g P W v buf out out' room r k v.pending refl i e);
+        next_is = omega arith;
         log = consults_as (read_none every g sheet_order P) consults_none;
       });
-    }))
+    })
 
 -- ---- the node that has the arms
 start_value : (every : Bool) (g : Option OutcomeTable) → value_of every g [] ≡ denies generic_deny
@@ -262,11 +256,10 @@ module _ (every : Bool) (g : Option OutcomeTable) (P : Table) (W : List ℕ) (at
 
   pub order_node : HeldLeft every g P W (none_yet end) buf room out (at + 1) depth n s r t buf' out' → ReducesBy g sheet_order (list_head every n) P W at depth s r t buf' room out'
   order_node a = record {
-    few = a.few;
-    bound = a.bound;
+    fit = a.fit;
     says = λ e. node_holds W at depth (list_head every n) lt e (rw (list_reads every _ (read_policy true depth) n (drop (at + 1) W))
         (then_holds (many pnil pcons (read_policy true depth) n (drop (at + 1) W)) (λ ts vs. got (list_of every ts) vs) (a.says [] (start_going every) none_held) (λ ts rest h. fine (record {
-          result = subst (λ x. Result x P W buf' room out' r) (left_start every g P ts) h.result;
+          result = subst (λ x. Result x P W buf' room out' r.to) (left_start every g P ts) h.result;
           next_is = omega (arith, h.next_is, start_words every ts);
           log = consults_as (read_start every g sheet_order P ts) h.log;
         }))));

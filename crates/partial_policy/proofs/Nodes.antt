@@ -40,10 +40,9 @@ use Rattle.policy_model.specs.HeadLaws.{permit_word}
 use Rattle.policy_model.specs.PlainLaws.{plain_reads}
 use Rattle.policy_model.proofs.Checking.{no_word}
 use Rattle.grant.specs.Fields.{outcome_at, obligations_at}
-use Rattle.condition.specs.declared.ConditionEval.{ConditionEval}
 use Rattle.condition.specs.Evaluating.{is_satisfied, EvaluatesHas}
-use Rattle.condition.specs.Listing.{Lent, lent}
-use Rattle.condition.proofs.Listing.{consults_as}
+use Rattle.consulted.specs.Listing.{Lent}
+use Rattle.consulted.proofs.Listing.{consults_as}
 use Rattle.decision.specs.Nodes.{node_at}
 use Rattle.decision.specs.Meaning.{permitted_at}
 use Rattle.decision.proofs.Standing.{node_reads}
@@ -52,29 +51,30 @@ use Rattle.evaluate.specs.Evaluating.{granted_at, EvaluatesP}
 use Rattle.evaluate.proofs.Nodes.{held_at, in_fewer, in_sheet, node_holds, node_knows, grant_reads}
 use Rattle.evaluate.proofs.Evaluating.{nothing_there, no_levels, one_level, eval_permit_word, granted_is, granted_sound, granted_few}
 use Rattle.evaluate.proofs.Grants.{grant_fields}
-use Rattle.sizes.specs.Laid.{too_many, capped, Laid}
+use Rattle.sizes.specs.Laid.{capped, Laid}
 use Rattle.sizes.specs.LaidLaws.{laid_then, laid_as}
+use Rattle.partial_condition.specs.declared.Reduced.TheVariants.{Known, Pending}
 use Rattle.partial_condition.specs.declared.ReducedCondition.{ReducedCondition}
 use Rattle.partial_condition.specs.Reducing as condition
 use Rattle.residual.specs.Weight.{weight}
 use Rattle.partial_list.specs.declared.ReducedPolicy.{ReducedPolicy}
+use Rattle.partial_list.specs.declared.Reduced.TheVariants.{Resolved}
+use Rattle.partial_list.specs.declared.Reduced.TheVariants as list
 use Rattle.partial_list.specs.WithinLaws.{within}
-use Rattle.partial_list.specs.Answers.{resolved_to, left_to, Result}
+use Rattle.partial_list.specs.Answers.{resolved_to, Result, Fit}
 use Rattle.partial_policy.specs.Reducing.{ReducedTo, ReducesP, ReducesBy, ReducesConstant, SettledGrant}
-use Rattle.partial_list.proofs.Adding.{clash}
-use Rattle.decision.specs.Room.{obligation_room}
 
 -- ---- a policy by its head
 module _ {g : Option OutcomeTable} {order : Order} (P : Table) (W : List ℕ) (at depth : ℕ) (s : Lent) (r : ReducedPolicy) (t : Lent) (buf : List ℕ) (room : ℕ) (out : List ℕ) where
   pub by_head : (h : PolicyHead) → (depth ≡ 0 → ⊥) → h ≡ policy_head (get_or W at 0) true → ReducesBy g order h P W at (depth - 1) s r t buf room out → ReducesP g order P W at depth s r t buf room out
-  by_head h f e a = record { few = a.few; bound = a.bound; says = in_sheet depth (drop at W) (one_level depth (drop at W) f (a.says e)) }
+  by_head h f e a = record { fit = a.fit; says = in_sheet depth (drop at W) (one_level depth (drop at W) f (a.says e)) }
 
   -- Words that don't read.
-  pub reduce_end : t ≡ s → r.decision.united ≤ obligation_room → r.size ≤ too_many → length W ≤ at → ReducesP g order P W at depth s r t buf room out
-  reduce_end e few bound h = rw e (record { few = few; bound = bound; says = λ res. rw (no_word W at h, nothing_there res depth) nothing })
+  pub reduce_end : t ≡ s → Fit r.to → length W ≤ at → ReducesP g order P W at depth s r t buf room out
+  reduce_end e fit h = rw e (record { fit = fit; says = λ res. rw (no_word W at h, nothing_there res depth) nothing })
 
-  pub reduce_limit : t ≡ s → r.decision.united ≤ obligation_room → r.size ≤ too_many → depth ≡ 0 → ReducesP g order P W at depth s r t buf room out
-  reduce_limit e few bound z = rw e (record { few = few; bound = bound; says = λ res. rw z (no_levels res (drop at W)) })
+  pub reduce_limit : t ≡ s → Fit r.to → depth ≡ 0 → ReducesP g order P W at depth s r t buf room out
+  reduce_limit e fit z = rw e (record { fit = fit; says = λ res. rw z (no_levels res (drop at W)) })
 
 -- ---- what is evaluated: the tags of its heads
 abbrev constants : List ℕ
@@ -104,14 +104,13 @@ constant_there pc p P BadField ws k = nothing
 
 -- The answer is that of evaluation.
 evaluated : {g : Option OutcomeTable} {order : Order} (P : Table) (W : List ℕ) (at depth : ℕ) (s : Lent) (e : PolicyEval) (t : Lent) (buf : List ℕ) (room : ℕ) (out : List ℕ) → EvaluatesP g P W at depth s e t buf →
-    Holds (Constant g order P) (policy_at W at depth) → ReducesP g order P W at depth s (resolved_to e.decision e.next e.count) t buf room out
+    Holds (Constant g order P) (policy_at W at depth) → ReducesP g order P W at depth s (resolved_to e.decision e.next) t buf room out
 evaluated P W at depth s e t buf room out answers c = record {
-  few = answers.few;
-  bound = omega arith;
+  fit = answers.few;
   says = in_sheet depth (drop at W)
       (weaker (policy_at W at depth) (λ p rest h.
       record {
-        result = rw h.1.value_is (record { settled = refl; decision_is = h.0.decision_is; sound = h.0.sound });
+        result = rw h.1.value_is (record { decision_is = h.0.decision_is; sound = h.0.sound });
         next_is = h.0.next_is;
         log = consults_as h.1.read_is h.0.log;
       })
@@ -175,6 +174,13 @@ pub any_below : (w n : ℕ) → Any n ≡ policy_head w true → n < 4096
 any_below w n e = few_arms w (Any n) e
 
 -- ---- a grant
+-- No answer to a condition is both known and left, and a known one has one value.
+not_both : {v : Bool} {n : ℕ} {A : Type 0} → Known v ≡ Pending n → A
+not_both e = let z : ◌≡◌ {A = ℕ} 0 1 = cc in absurd (omega arith)
+
+same_known : {v b : Bool} → Known v ≡ Known b → v ≡ b
+same_known e = cc
+
 same_value : (x : model-condition.ConditionEval) → staging.is_satisfied x ≡ is_satisfied x
 same_value (satisfied fs) = refl
 same_value (unsatisfied fs) = refl
@@ -193,11 +199,10 @@ own_words g c d rest n long =
 
 module _ (P : Table) (W : List ℕ) (at depth : ℕ) (hidden : Bool) (n o own : ℕ) (lt : at < length W) (deep : depth < 32) (own_is : own ≡ 2 + (n + 3) / 4) where
   -- A grant that ends early.
-  pub grant_short : {g : Option OutcomeTable} {order : Order} (s : Lent) (r : ReducedPolicy) (buf : List ℕ) (room : ℕ) (out : List ℕ) → r.decision.united ≤ obligation_room → r.size ≤ too_many → length W - at < own → ReducesBy g order (Grant hidden n o) P W at depth s r s buf room out
+  pub grant_short : {g : Option OutcomeTable} {order : Order} (s : Lent) (r : ReducedPolicy) (buf : List ℕ) (room : ℕ) (out : List ℕ) → Fit r.to → length W - at < own → ReducesBy g order (Grant hidden n o) P W at depth s r s buf room out
   unfolding policy_node
-  grant_short s r buf room out few bound h = record {
-    few = few;
-    bound = bound;
+  grant_short s r buf room out fit h = record {
+    fit = fit;
     says = λ e. node_holds W at depth (Grant hidden n o) lt e
         (weaker _ (λ p rest g. absurd (omega (arith, g.fits, length-drop (at + 1) W))) (grant_reads depth hidden n o (drop (at + 1) W)));
   }
@@ -241,34 +246,30 @@ module _ (P : Table) (W : List ℕ) (at depth : ℕ) (hidden : Bool) (n o own : 
     value_is : (b : Bool) → reduce_condition P c ≡ known b → b ≡ is_satisfied (eval_condition P c)
     value_is b e = sym (known_again P c b e) ∙ same_value (eval_condition P c)
 
-    decides_at : (x : model.ReducedCondition) → reduce_condition P c ≡ x → condition.Left x a part → a.pending ≡ false →
-        Result (reduce_grant g (eval_condition P c) x) P W buf room out (resolved_to (granted_at a.satisfied o at (length W)) a.next a.count)
-    decides_at (known b) e l p = subst (λ i. Result (reduce_grant g (eval_condition P c) (known b)) P W buf room out (resolved_to (granted_at a.satisfied i at (length W)) a.next a.count)) is (record {
-      settled = refl;
-      decision_is = granted_is P W at buf g c rest node a.satisfied (eval_condition P c) refl (l.1 ∙ value_is b e);
-      sound = granted_sound P W at buf g c rest node a.satisfied;
+    decides_at : (x : model.ReducedCondition) (v : Bool) → reduce_condition P c ≡ x → condition.Left x a.to part → a.to ≡ Known v →
+        Result (reduce_grant g (eval_condition P c) x) P W buf room out (Resolved (granted_at v o at (length W)))
+    decides_at (known b) v e l p = subst (λ i. Result (reduce_grant g (eval_condition P c) (known b)) P W buf room out (Resolved (granted_at v i at (length W)))) is (record {
+      decision_is = granted_is P W at buf g c rest node v (eval_condition P c) refl (same_known (sym p ∙ l) ∙ value_is b e);
+      sound = granted_sound P W at buf g c rest node v;
     })
-    decides_at (pending_c d) e l p = clash a.pending l.0 p
+    decides_at (pending_c d) v e l p = not_both (sym p ∙ l.0)
 
-    open_at : (mid : List ℕ) (from size none next count : ℕ) → length g.obligations ≡ n → encode (grant g c) ++ rest ≡ drop at W → Laid own (take own (drop at W)) mid own → from ≡ min own (length mid) → length part ≡ length mid - from → size ≡ capped (own + a.size) →
-        out ≡ take from mid ++ (part ++ drop (length mid - from) (drop from mid)) → (x : model.ReducedCondition) → condition.Left x a part → a.pending ≡ true →
-        Result (reduce_grant g (eval_condition P c) x) P W buf room out (left_to size none next count)
-    open_at mid from size none next count long were l f m e z (known b) x p = clash a.pending p x.0
-    open_at mid from size none next count long were l f m e z (pending_c d) x p = record {
-      unsettled = refl;
-      left = within (rw z (laid_as (let w : own + words_c d ≡ weight (grant g d) = omega arith in w)
-          (ap₂ (λ k us. take k us ++ encode_c d) own_is (sym were) ∙ own_words g c d rest n long) (laid_then l x.1 f m e)));
-    }
+    open_at : (mid : List ℕ) (from size n' : ℕ) → length g.obligations ≡ n → encode (grant g c) ++ rest ≡ drop at W → Laid own (take own (drop at W)) mid own → from ≡ min own (length mid) → length part ≡ length mid - from → size ≡ capped (own + n') →
+        out ≡ take from mid ++ (part ++ drop (length mid - from) (drop from mid)) → (x : model.ReducedCondition) → condition.Left x a.to part → a.to ≡ Pending n' →
+        Result (reduce_grant g (eval_condition P c) x) P W buf room out (list.Pending size)
+    open_at mid from size n' long were l f m e z (known b) x p = not_both (sym x ∙ p)
+    open_at mid from size n' long were l f m e z (pending_c d) x p =
+        within (rw z (laid_as (let w : own + words_c d ≡ weight (grant g d) = omega arith in w)
+        (ap₂ (λ k us. take k us ++ encode_c d) own_is (sym were) ∙ own_words g c d rest n long) (laid_then l (rw p at x.1) f m e)))
 
   -- Its answer, by the condition's.
   module _ (a : ReducedCondition) (s t : Lent) (part : List ℕ) (buf : List ℕ) (room : ℕ) (out : List ℕ) (c : condition.ReducesC P W (at + own) depth s a t part) where
-    granted : {g : Option OutcomeTable} {order : Order} (r : ReducedPolicy) → r.decision.united ≤ obligation_room → r.size ≤ too_many → r.next ≡ a.next →
-        ((d : Condition) (k : Clause Outcome) (rest : List ℕ) → node_at W at ≡ got (grant k d) rest → k.outcome ≡ o → length k.obligations ≡ n → encode (grant k d) ++ rest ≡ drop at W → condition.Left (reduce_condition P d) a part →
-        Result (reduce_policy g order P (grant k d)) P W buf room out r) →
+    granted : {g : Option OutcomeTable} {order : Order} (r : ReducedPolicy) → Fit r.to → r.next ≡ a.next →
+        ((d : Condition) (k : Clause Outcome) (rest : List ℕ) → node_at W at ≡ got (grant k d) rest → k.outcome ≡ o → length k.obligations ≡ n → encode (grant k d) ++ rest ≡ drop at W → condition.Left (reduce_condition P d) a.to part →
+        Result (reduce_policy g order P (grant k d)) P W buf room out r.to) →
         ReducesBy g order (Grant hidden n o) P W at depth s r t buf room out
-    granted {g} {order} r few bound e f = record {
-      few = few;
-      bound = bound;
+    granted {g} {order} r fit e f = record {
+      fit = fit;
       says = λ h. weaker (policy_at W at (suc depth)) (λ p rest k.
           subst (λ q. ReducedTo (reduce_policy g order P q) (at + words q) (walk g order P q) P W s r t buf room out) (sym k.policy_is) (record {
             result = f k.inner k.clause rest k.node k.outcome_is k.long k.were k.answer.left;
@@ -277,22 +278,21 @@ module _ (P : Table) (W : List ℕ) (at depth : ℕ) (hidden : Bool) (n o own : 
           })) (grant_known a s t part c h);
     }
 
-    pub grant_decides : {g : Option OutcomeTable} {order : Order} → a.pending ≡ false → ReducesBy g order (Grant hidden n o) P W at depth s (resolved_to (granted_at a.satisfied o at (length W)) a.next a.count) t buf room out
-    grant_decides p =
-        granted (resolved_to (granted_at a.satisfied o at (length W)) a.next a.count) (granted_few a.satisfied o at (length W)) (omega arith) refl (λ d k rest node is long were l.
-        decides_at buf room out part a d k rest node is (reduce_condition P d) refl l p)
+    pub grant_decides : {g : Option OutcomeTable} {order : Order} (v : Bool) → a.to ≡ Known v → ReducesBy g order (Grant hidden n o) P W at depth s (resolved_to (granted_at v o at (length W)) a.next) t buf room out
+    grant_decides v p =
+        granted (resolved_to (granted_at v o at (length W)) a.next) (granted_few v o at (length W)) refl (λ d k rest node is long were l.
+        decides_at buf room out part a d k rest node is (reduce_condition P d) v refl l p)
 
-    pub grant_pending : {g : Option OutcomeTable} {order : Order} (mid : List ℕ) (from size none : ℕ) → a.pending ≡ true → Laid own (take own (drop at W)) mid own → from ≡ min own (length mid) → length part ≡ length mid - from → size ≡ capped (own + a.size) →
-        out ≡ take from mid ++ (part ++ drop (length mid - from) (drop from mid)) → ReducesBy g order (Grant hidden n o) P W at depth s (left_to size none a.next a.count) t buf room out
-    grant_pending mid from size none p l f m e z =
-        granted (left_to size none a.next a.count) (omega arith) (omega arith) refl (λ d k rest node is long were x. open_at buf room out part a d k rest node is mid from size none a.next a.count long were l f m e z (reduce_condition P d) x p)
+    pub grant_pending : {g : Option OutcomeTable} {order : Order} (mid : List ℕ) (from size n' : ℕ) → a.to ≡ Pending n' → Laid own (take own (drop at W)) mid own → from ≡ min own (length mid) → length part ≡ length mid - from → size ≡ capped (own + n') →
+        out ≡ take from mid ++ (part ++ drop (length mid - from) (drop from mid)) → ReducesBy g order (Grant hidden n o) P W at depth s (record { to = list.Pending size; next = a.next }) t buf room out
+    grant_pending mid from size n' p l f m e z =
+        granted (record { to = list.Pending size; next = a.next }) (omega arith) refl (λ d k rest node is long were x. open_at buf room out part a d k rest node is mid from size n' long were l f m e z (reduce_condition P d) x p)
 
 -- The answer to a grant by its first word is the answer to it by its head.
 pub grant_by_word : {g : Option OutcomeTable} {order : Order} {P : Table} {W : List ℕ} {at depth : ℕ} {s : Lent} {r : ReducedPolicy} {t : Lent} {buf : List ℕ} {room : ℕ} {out : List ℕ} (hidden : Bool) (n o : ℕ) →
     ReducesBy g order (Grant hidden (obligations_at W at) (outcome_at W at)) P W at depth s r t buf room out → ReducesBy g order (Grant hidden n o) P W at depth s r t buf room out
 grant_by_word {W = W} {at} hidden n o a = record {
-  few = a.few;
-  bound = a.bound;
+  fit = a.fit;
   says = λ e. let f = grant_fields (get_or W at 0) hidden n o e in a.says (sym (ap₂ (λ i j. Grant hidden i j) f.0 f.1) ∙ e);
 }
 
@@ -302,28 +302,27 @@ unfolding policy_node
 permit_constant P W at zero lt e = no_levels true (drop at W)
 permit_constant P W at (suc depth) lt e = node_holds W at depth (Permit (get_or W at 0 % 65536)) lt (permit_word (get_or W at 0) true e) (fine (record { value_is = refl; read_is = λ l. refl }))
 
-pub reduce_permit : {g : Option OutcomeTable} {order : Order} (P : Table) (W : List ℕ) (at depth count : ℕ) (entries seen buf : List ℕ) (room : ℕ) (out : List ℕ) → at < length W → get_or W at 0 / 65536 ≡ 24576 →
-    ReducesP g order P W at depth (lent count entries seen) (resolved_to (permitted_at (get_or W at 0 % 65536) (length W) (length W) 0) (at + 1) count) (lent count entries seen) buf room out
-reduce_permit P W at depth count entries seen buf room out lt e =
-    evaluated P W at depth (lent count entries seen) _ (lent count entries seen) buf room out (eval_permit_word _ P W at depth count entries seen buf lt e) (permit_constant P W at depth lt e)
+pub reduce_permit : {g : Option OutcomeTable} {order : Order} (P : Table) (W : List ℕ) (at depth : ℕ) (s : Lent) (buf : List ℕ) (room : ℕ) (out : List ℕ) → at < length W → get_or W at 0 / 65536 ≡ 24576 →
+    ReducesP g order P W at depth s (resolved_to (permitted_at (get_or W at 0 % 65536) (length W) (length W) 0) (at + 1)) s buf room out
+reduce_permit P W at depth s buf room out lt e =
+    evaluated P W at depth s _ s buf room out (eval_permit_word _ P W at depth s buf lt e) (permit_constant P W at depth lt e)
 
 -- A grant on one settled fact, at every level: with too few levels for its condition it isn't read.
-pub reduce_plain : {g : Option OutcomeTable} {order : Order} (P : Table) (W : List ℕ) (at depth : ℕ) (s : Lent) (a : ConditionEval) (t : Lent) (buf : List ℕ) (room : ℕ) (out : List ℕ) → SettledGrant P W at → EvaluatesHas P (get_or W (at + 2) 0 % 1024) (at + 3) s a t →
-    ReducesP g order P W at depth s (resolved_to (granted_at a.satisfied (get_or W at 0 % 65536) at (length W)) a.next a.count) t buf room out
-reduce_plain P W at depth s a t buf room out k h =
+pub reduce_plain : {g : Option OutcomeTable} {order : Order} (P : Table) (W : List ℕ) (at depth : ℕ) (s : Lent) (v : Bool) (t : Lent) (buf : List ℕ) (room : ℕ) (out : List ℕ) → SettledGrant P W at → EvaluatesHas P (get_or W (at + 2) 0 % 1024) s v t →
+    ReducesP g order P W at depth s (resolved_to (granted_at v (get_or W at 0 % 65536) at (length W)) (at + 3)) t buf room out
+reduce_plain P W at depth s v t buf room out k h =
     let f = get_or W (at + 2) 0 % 1024 in
     let rest = drop (at + 3) W in
     let node = node_reads W at 2 true _ rest (omega arith) (plain_reads W at k.plain true 0) in
-    let r = resolved_to (granted_at a.satisfied (get_or W at 0 % 65536) at (length W)) a.next a.count in
+    let r = Resolved (granted_at v (get_or W at 0 % 65536) at (length W)) in
     record {
-      few = granted_few a.satisfied (get_or W at 0 % 65536) at (length W);
-      bound = omega arith;
+      fit = granted_few v (get_or W at 0 % 65536) at (length W);
       says = in_fewer depth (suc (suc depth)) (drop at W) (omega arith)
           (rw (plain_reads W at k.plain true depth)
           (fine (record {
             result = subst (λ x. Result x P W buf room out r) (sym (ap (reduce_grant _ (eval_has f (P f))) (settled_known f (P f) k.known)))
-                (record { settled = refl; decision_is = granted_is P W at buf _ _ rest node a.satisfied _ refl h.says.satisfied_is; sound = granted_sound P W at buf _ _ rest node a.satisfied });
-            next_is = h.says.next_is;
-            log = consults_as (λ l. settled_consulted l f (P f) k.known) h.says.log;
+                (record { decision_is = granted_is P W at buf _ _ rest node v _ refl h.satisfied_is; sound = granted_sound P W at buf _ _ rest node v });
+            next_is = refl;
+            log = consults_as (λ l. settled_consulted l f (P f) k.known) h.log;
           })));
     }

@@ -1,6 +1,5 @@
 -- What stands for the parts of an OrElse in a residual, and words that are laid as they stand. Assumes nothing.
 use mathlib.Core.Path.{◌≡◌, sym, ◌∙◌, ap, subst}
-use mathlib.Core.Bool.{true, false}
 use mathlib.Core.List.{List, ◌∷◌, ◌++◌}
 use Prim.Native.Nat.{ℕ, ◌+◌, ◌-◌, ◌≤◌, ◌<◌, min}
 use native.Mathlib.Omega.{arith}
@@ -17,36 +16,35 @@ use Rattle.sizes.specs.Laid.{most_words, too_many, capped, Laid}
 use Rattle.sizes.specs.LaidLaws.{laid_as, laid_lead}
 use Rattle.residual.specs.Weight.{weight_d, weight}
 use Rattle.residual.specs.Answers.{NodeLaid}
-use Rattle.partial_list.specs.declared.ReducedPolicy.{ReducedPolicy}
+use Rattle.decision.specs.declared.Decision.{Decision}
+use Rattle.partial_list.specs.declared.Reduced.{Reduced}
+use Rattle.partial_list.specs.declared.Reduced.TheVariants.{Resolved, Pending}
 use Rattle.partial_list.specs.Within.{LaidWithin}
 use Rattle.partial_list.specs.WithinLaws.{within, within_then}
 use Rattle.partial_list.specs.Answers.{Result}
-use Rattle.partial_list.proofs.Adding.{clash}
 use Rattle.partial_policy.specs.Reducing.{ResidualLaid, OrElsePut}
 
 -- ---- OrElse
-open_at : (T : Table) (W : List ℕ) (b : ReducedPolicy) (buf out : List ℕ) → b.pending ≡ true → (y : model.ReducedPolicy Outcome) (room : ℕ) → Result y T W buf room out b →
-    LaidWithin room (weight (as_residual y)) (encode (as_residual y)) out b.size
-open_at T W b buf out p (resolved D) room x = clash b.pending p x.settled
-open_at T W b buf out p (pending q) room x = x.left
+open_at : (T : Table) (W : List ℕ) (n : ℕ) (buf out : List ℕ) → (y : model.ReducedPolicy Outcome) (room : ℕ) → Result y T W buf room out (Pending n) → LaidWithin room (weight (as_residual y)) (encode (as_residual y)) out n
+open_at T W n buf out (resolved D) room x = absurd x
+open_at T W n buf out (pending q) room x = x
 
-pub residual_open : {T : Table} {W : List ℕ} {b : ReducedPolicy} (buf out : List ℕ) → b.size ≤ too_many → b.pending ≡ true → ResidualLaid T W b buf out out b.size
-residual_open {T} {W} {b} buf out most p = record { bound = most; laid = open_at T W b buf out p }
+pub residual_open : {T : Table} {W : List ℕ} {n : ℕ} (buf out : List ℕ) → n ≤ too_many → ResidualLaid T W (Pending n) buf out out n
+residual_open {T} {W} {n} buf out most = record { bound = most; laid = open_at T W n buf out }
 
-node_at_lem : (T : Table) (W : List ℕ) (b : ReducedPolicy) (buf out : List ℕ) {buf' out' : List ℕ} {r : ℕ} → b.pending ≡ false → NodeLaid W T b.decision buf buf' out' r →
-    (y : model.ReducedPolicy Outcome) (room : ℕ) → Result y T W buf room out b → LaidWithin room (weight (as_residual y)) (encode (as_residual y)) out' r
-node_at_lem T W b buf out p l (resolved D) room x = within (laid_as (ap weight_d x.decision_is) (ap encode_d x.decision_is) (l.laid x.sound))
-node_at_lem T W b buf out p l (pending q) room x = clash b.pending x.unsettled p
+node_at_lem : (T : Table) (W : List ℕ) (d : Decision) (buf out : List ℕ) {buf' out' : List ℕ} {r : ℕ} → NodeLaid W T d buf buf' out' r →
+    (y : model.ReducedPolicy Outcome) (room : ℕ) → Result y T W buf room out (Resolved d) → LaidWithin room (weight (as_residual y)) (encode (as_residual y)) out' r
+node_at_lem T W d buf out l (resolved D) room x = within (laid_as (ap weight_d x.decision_is) (ap encode_d x.decision_is) (l.laid x.sound))
+node_at_lem T W d buf out l (pending q) room x = absurd x
 
-pub residual_node : {T : Table} {W : List ℕ} {b : ReducedPolicy} {buf buf' : List ℕ} (out : List ℕ) {out' : List ℕ} {r : ℕ} → b.pending ≡ false → NodeLaid W T b.decision buf buf' out' r →
-    ResidualLaid T W b buf out out' r
-residual_node {T} {W} {b} {buf} out p l = record { bound = l.bound; laid = node_at_lem T W b buf out p l }
+pub residual_node : {T : Table} {W : List ℕ} {d : Decision} {buf buf' : List ℕ} (out : List ℕ) {out' : List ℕ} {r : ℕ} → NodeLaid W T d buf buf' out' r → ResidualLaid T W (Resolved d) buf out out' r
+residual_node {T} {W} {d} {buf} out l = record { bound = l.bound; laid = node_at_lem T W d buf out l }
 
 -- Another lead.
 within_lead : (w : ℕ) {room free n r : ℕ} {ws : List ℕ} (out : List ℕ) → 0 < n → LaidWithin room n (free ∷ ws) out r → LaidWithin room n (w ∷ ws) (set out 0 w) r
 within_lead w out h l = record { size_is = l.size_is; laid = λ k. laid_lead w out h (l.laid k) }
 
-pub or_else_put : {T : Table} {W : List ℕ} {used : ℕ} {b : ReducedPolicy} {buf out : List ℕ} {from size r : ℕ} (part : List ℕ) → from ≡ min used (length out) → length part ≡ length out - from →
+pub or_else_put : {T : Table} {W : List ℕ} {used : ℕ} {b : Reduced} {buf out : List ℕ} {from size r : ℕ} (part : List ℕ) → from ≡ min used (length out) → length part ≡ length out - from →
     ResidualLaid T W b buf (take (length out - from) (drop from out)) part size → r ≡ capped (used + size) →
     OrElsePut T W used b buf out (set (take from out ++ (part ++ drop (length out - from) (drop from out))) 0 (word 11 0)) r
 or_else_put {T} {W} {used} {b} {buf} {out} {from} {size} {r} part f long l e = record {

@@ -15,19 +15,19 @@ use Rattle.policy_model.specs.declared.PolicyHead.{PolicyHead}
 use Rattle.policy_model.specs.declared.PolicyHead.TheVariants as policy
 use Rattle.policy_model.specs.Heads.{policy_head}
 use Rattle.policy_model.specs.Plain.{plain_grant}
-use Rattle.condition.specs.Listing.{Lent, Consults}
+use Rattle.consulted.specs.Listing.{Lent, Consults}
 use Rattle.evaluate.specs.declared.PolicyEval.{PolicyEval}
 use Rattle.evaluate.specs.Evaluating.{EvaluatesP}
 use Rattle.sizes.specs.Laid.{too_many}
 use Rattle.residual.specs.Weight.{weight}
-use Rattle.decision.specs.Room.{Few}
+use Rattle.partial_list.specs.declared.Reduced.{Reduced}
 use Rattle.partial_list.specs.declared.ReducedPolicy.{ReducedPolicy}
 use Rattle.partial_list.specs.Within.{LaidWithin}
-use Rattle.partial_list.specs.Answers.{resolved_to, Result}
+use Rattle.partial_list.specs.Answers.{resolved_to, Result, Fit}
 
 -- The answer to what reduces to x, takes the words up to `end` and consults as `reads` does. `buf` and `out` are as they stand afterwards.
 pub record ReducedTo (x : model.ReducedPolicy Outcome) (end : ℕ) (reads : Consulted → Consulted) (T : Table) (W : List ℕ) (s : Lent) (r : ReducedPolicy) (t : Lent) (buf : List ℕ) (room : ℕ) (out : List ℕ) : Type 0 where
-  pub result : Result x T W buf room out r
+  pub result : Result x T W buf room out r.to
   pub next_is : r.next ≡ end
   pub log : Consults reads s t
 
@@ -38,22 +38,20 @@ order_of true = sheet_order
 
 -- The answer to a policy at `at`, of at most `depth` levels, in a sheet or a residual. Of words that don't read only the bounds are said.
 pub record ReducesP (g : Option OutcomeTable) (o : Order) (P : Table) (W : List ℕ) (at depth : ℕ) (s : Lent) (r : ReducedPolicy) (t : Lent) (buf : List ℕ) (room : ℕ) (out : List ℕ) : Type 0 where
-  pub few : Few r.decision
-  pub bound : r.size ≤ too_many
+  pub fit : Fit r.to
   pub says : (res : Bool) →
       Holds (λ p rest. ReducedTo (reduce_policy g o P p) (at + words p) (walk g o P p) P W s r t buf room out) (read_policy res depth (drop at W))
 
 -- The same where its first word has this head and `depth` levels are left for what stands below.
 pub record ReducesBy (g : Option OutcomeTable) (o : Order) (h : PolicyHead) (P : Table) (W : List ℕ) (at depth : ℕ) (s : Lent) (r : ReducedPolicy) (t : Lent) (buf : List ℕ) (room : ℕ) (out : List ℕ) : Type 0 where
-  pub few : Few r.decision
-  pub bound : r.size ≤ too_many
+  pub fit : Fit r.to
   pub says : h ≡ policy_head (get_or W at 0) true →
       Holds (λ p rest. ReducedTo (reduce_policy g o P p) (at + words p) (walk g o P p) P W s r t buf room out) (policy_at W at (suc depth))
 
 -- The same of what is evaluated.
 pub record ReducesConstant (g : Option OutcomeTable) (P : Table) (W : List ℕ) (at depth : ℕ) (s : Lent) (r : ReducedPolicy) (t : Lent) (buf : List ℕ) : Type 0 where
   pub eval : PolicyEval
-  pub is : r ≡ resolved_to eval.decision eval.next eval.count
+  pub is : r ≡ resolved_to eval.decision eval.next
   pub evaluates : EvaluatesP g P W at depth s eval t buf
 
 -- A grant on one fact, told by its three words, whose fact is settled.
@@ -69,12 +67,12 @@ list_head false n = policy.Any n
 
 -- ---- OrElse
 -- What stands for a part in a residual was laid: what is left of it, which stood there, or its node.
-pub record ResidualLaid (T : Table) (W : List ℕ) (b : ReducedPolicy) (buf out out' : List ℕ) (r : ℕ) : Type 0 where
+pub record ResidualLaid (T : Table) (W : List ℕ) (b : Reduced) (buf out out' : List ℕ) (r : ℕ) : Type 0 where
   pub bound : r ≤ too_many
   pub laid : (y : model.ReducedPolicy Outcome) (room : ℕ) → Result y T W buf room out b → LaidWithin room (weight (as_residual y)) (encode (as_residual y)) out' r
 
 -- The fallback was laid behind the primary, and the lead before both. What is left of the fallback stood behind the primary.
-pub record OrElsePut (T : Table) (W : List ℕ) (used : ℕ) (b : ReducedPolicy) (buf out out' : List ℕ) (r : ℕ) : Type 0 where
+pub record OrElsePut (T : Table) (W : List ℕ) (used : ℕ) (b : Reduced) (buf out out' : List ℕ) (r : ℕ) : Type 0 where
   pub bound : r ≤ too_many
   pub put : (n free room : ℕ) (ws : List ℕ) (y : model.ReducedPolicy Outcome) → LaidWithin room (1 + n) (free ∷ ws) out used → Result y T W buf room (drop (min used (length out)) out) b →
       LaidWithin room (1 + n + weight (as_residual y)) (word 11 0 ∷ (ws ++ encode (as_residual y))) out' r

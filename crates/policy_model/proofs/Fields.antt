@@ -1,4 +1,5 @@
 -- Lists of fields, word by word: what is left to come, and where the list ends. For fields of any width. Assumes nothing.
+use Rattle.std.specs.Prelude.{Result, Ok, Err}
 use mathlib.Core.Path.{◌≡◌, refl, sym, ◌∙◌, ap, subst}
 use mathlib.Core.Bool.{Bool, true, false, cond}
 use mathlib.Core.List.{List, [], ◌∷◌, ◌++◌, map}
@@ -11,15 +12,13 @@ use Rattle.model.specs.Fields.{words_for, per_word, pack}
 use Rattle.model.specs.Reading.{Parsed, refuse, got, Fields, bad, ok, put, take_fields, read_list}
 use Rattle.laws.proofs.FieldLaws.{bad_fields, Holds, weaker, same_list_lem}
 use Rattle.laws.proofs.Lengths.{length_pack}
-use Rattle.policy_model.specs.declared.Checked.{Checked}
-use Rattle.policy_model.specs.declared.Checked.TheVariants.{Next, Refused}
 use Rattle.policy_model.specs.Answers.{checked}
 use Rattle.policy_model.proofs.Checking.{Leaves}
 
 -- A list that was read ends at `end`.
-abbrev pub up_to : {A : Type 0} → ℕ → Parsed A → Checked
-up_to end (refuse n) = Refused n
-up_to end (got a ws) = Next end
+abbrev pub up_to : {A : Type 0} → ℕ → Parsed A → Result ℕ ℕ
+up_to end (refuse n) = Err n
+up_to end (got a ws) = Ok end
 
 module _ {A : Type 0} (chk : List A → ℕ → Parsed A) where
   abbrev pub LeftAt : ℕ → Fields A → Type 0
@@ -54,7 +53,7 @@ module _ {A : Type 0} (e : A → ℕ) (chk : List A → ℕ → Parsed A) (same 
   ends_at : (at k : ℕ) (q : Parsed (List A)) → Holds (λ xs vs. length xs ≡ k) q → checked (λ xs. words_for (per_word width) (length xs)) at q ≡ up_to (at + words_for (per_word width) k) q
   unfolding checked
   ends_at at k (refuse m) h = refl
-  ends_at at k (got xs vs) h = ap (λ l. Next (at + words_for (per_word width) l)) h.it
+  ends_at at k (got xs vs) h = ap (λ l. Ok (at + words_for (per_word width) l)) h.it
 
   pub list_ends : (at k : ℕ) (us : List ℕ) → checked (λ xs. words_for (per_word width) (length xs)) at (read_list chk width k us) ≡ up_to (at + words_for (per_word width) k) (read_list chk width k us)
   list_ends at k us = ends_at at k (read_list chk width k us) (weaker (read_list chk width k us) (λ xs vs h. h.long) (same_list_lem e chk same width n k us whole))

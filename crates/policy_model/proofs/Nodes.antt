@@ -1,4 +1,5 @@
 -- The checks of what follows the first word of a Grant, a PermitWithTrace and a DenyWithTrace. Assumes nothing.
+use Rattle.std.specs.Prelude.{Result, Ok, Err}
 use mathlib.Core.Path.{◌≡◌, refl, sym, ◌∙◌, ap, subst}
 use mathlib.Core.Bool.{Bool, true, false, cond, ◌||◌, or-false, or-true}
 use mathlib.Core.Option.{Option, none, some}
@@ -14,8 +15,6 @@ use Rattle.model.specs.Writing.{obligation_bits, entry_bits}
 use Rattle.model.specs.Reading.{Parsed, refuse, got, next, unless, another, read_list, obligation, listed, mark, shape_of, read_condition}
 use Rattle.model.specs.Products.{Outcome, grant_more, more12, more13}
 use Rattle.laws.specs.Size.{quads, pairs, words_c, words_d, words}
-use Rattle.policy_model.specs.declared.Checked.{Checked}
-use Rattle.policy_model.specs.declared.Checked.TheVariants.{Next, Refused}
 use Rattle.policy_model.specs.Answers.{checked}
 use Rattle.policy_model.specs.Lists.{mark_fits, marks_fit}
 use Rattle.policy_model.specs.Heads.{bit_of, denied_by, grant_node, permit_trace_node, deny_trace_node}
@@ -37,30 +36,30 @@ judge_mark : (h : ℕ) → h < 65536 → Judged (mark_fits h) (mark h)
 unfolding mark_fits
 judge_mark h lt = mark_at h lt (ltb h 32768) refl
 
-module _ {C : Type 0} (size : C → ℕ) (at : ℕ) (r : Checked) where
+module _ {C : Type 0} (size : C → ℕ) (at : ℕ) (r : Result ℕ ℕ) where
   -- A test that was passed, and one that wasn't.
   judged_passes : {A : Type 0} (t : Bool) (q : Parsed A) (k : A → List ℕ → Parsed C) → Judged t q → t ≡ true → ((a : A) (ws : List ℕ) → r ≡ checked size at (k a ws)) → r ≡ checked size at (next q k)
   judged_passes true (got a ws) k j e f = f a ws
   judged_passes true (refuse n) k j e f = absurd j.it
   judged_passes false q k j e f = cc
 
-  judged_fails : {A : Type 0} (t : Bool) (q : Parsed A) (k : A → List ℕ → Parsed C) → Judged t q → t ≡ false → r ≡ Refused 8 → r ≡ checked size at (next q k)
+  judged_fails : {A : Type 0} (t : Bool) (q : Parsed A) (k : A → List ℕ → Parsed C) → Judged t q → t ≡ false → r ≡ Err 8 → r ≡ checked size at (next q k)
   unfolding checked
   judged_fails true q k j e h = cc
   judged_fails false (got a ws) k j e h = absurd j.it
-  judged_fails false (refuse n) k j e h = h ∙ ap Refused (sym j.it)
+  judged_fails false (refuse n) k j e h = h ∙ ap Err (sym j.it)
 
   test_passes : (t : Bool) (n : ℕ) (q : Parsed C) → t ≡ true → r ≡ checked size at q → r ≡ checked size at (unless t n q)
   test_passes t n q e h = h ∙ ap (λ b. checked size at (unless b n q)) (sym e)
 
-  test_fails : (t : Bool) (n : ℕ) (q : Parsed C) → t ≡ false → r ≡ Refused n → r ≡ checked size at (unless t n q)
+  test_fails : (t : Bool) (n : ℕ) (q : Parsed C) → t ≡ false → r ≡ Err n → r ≡ checked size at (unless t n q)
   unfolding checked
   test_fails t n q e h = h ∙ ap (λ b. checked size at (unless b n q)) (sym e)
 
   mark_passes : (h : ℕ) (k : Option ℕ → List ℕ → Parsed C) → h < 65536 → mark_fits h ≡ true → ((l : Option ℕ) (ws : List ℕ) → r ≡ checked size at (k l ws)) → r ≡ checked size at (next (mark h) k)
   mark_passes h k lt e f = judged_passes (mark_fits h) (mark h) k (judge_mark h lt) e f
 
-  mark_fails : (h : ℕ) (k : Option ℕ → List ℕ → Parsed C) → h < 65536 → mark_fits h ≡ false → r ≡ Refused 8 → r ≡ checked size at (next (mark h) k)
+  mark_fails : (h : ℕ) (k : Option ℕ → List ℕ → Parsed C) → h < 65536 → mark_fits h ≡ false → r ≡ Err 8 → r ≡ checked size at (next (mark h) k)
   mark_fails h k lt e f = judged_fails (mark_fits h) (mark h) k (judge_mark h lt) e f
 
   both_true : (t u : Bool) → cond t u false ≡ true → (t ≡ true) × (u ≡ true)
@@ -76,14 +75,14 @@ module _ {C : Type 0} (size : C → ℕ) (at : ℕ) (r : Checked) where
       mark_passes (w / 65536) (λ l _. next (mark (w % 65536)) (λ m _. k l m)) (omega arith) both.0 (λ l _.
       mark_passes (w % 65536) (λ m _. k l m) (omega arith) both.1 (λ m _. f l m))
 
-  marks_at : (w : ℕ) (k : Option ℕ → Option ℕ → Parsed C) → w < 4294967296 → (t : Bool) → mark_fits (w / 65536) ≡ t → cond t (mark_fits (w % 65536)) false ≡ false → r ≡ Refused 8 →
+  marks_at : (w : ℕ) (k : Option ℕ → Option ℕ → Parsed C) → w < 4294967296 → (t : Bool) → mark_fits (w / 65536) ≡ t → cond t (mark_fits (w % 65536)) false ≡ false → r ≡ Err 8 →
       r ≡ checked size at (next (mark (w / 65536)) (λ l _. next (mark (w % 65536)) (λ m _. k l m)))
   marks_at w k lt true g e h =
       mark_passes (w / 65536) (λ l _. next (mark (w % 65536)) (λ m _. k l m)) (omega arith) g (λ l _.
       mark_fails (w % 65536) (λ m _. k l m) (omega arith) e h)
   marks_at w k lt false g e h = mark_fails (w / 65536) (λ l _. next (mark (w % 65536)) (λ m _. k l m)) (omega arith) g h
 
-  marks_fail : (w : ℕ) (k : Option ℕ → Option ℕ → Parsed C) → w < 4294967296 → marks_fit w ≡ false → r ≡ Refused 8 →
+  marks_fail : (w : ℕ) (k : Option ℕ → Option ℕ → Parsed C) → w < 4294967296 → marks_fit w ≡ false → r ≡ Err 8 →
       r ≡ checked size at (next (mark (w / 65536)) (λ l _. next (mark (w % 65536)) (λ m _. k l m)))
   unfolding marks_fit
   marks_fail w k lt e h = marks_at w k lt (mark_fits (w / 65536)) refl e h
@@ -93,18 +92,18 @@ module _ {C : Type 0} (size : C → ℕ) (at : ℕ) (r : Checked) where
       r ≡ checked size at (another (drop from words) k)
   word_there words from k lt h = h ∙ ap (λ us. checked size at (another us k)) (sym (word_at words from lt))
 
-  word_missing : (words : List ℕ) (from : ℕ) (k : ℕ → List ℕ → Parsed C) → length words ≤ from → r ≡ Refused 6 → r ≡ checked size at (another (drop from words) k)
+  word_missing : (words : List ℕ) (from : ℕ) (k : ℕ → List ℕ → Parsed C) → length words ≤ from → r ≡ Err 6 → r ≡ checked size at (another (drop from words) k)
   unfolding checked
   word_missing words from k lt h = h ∙ ap (λ us. checked size at (another us k)) (sym (no_word words from lt))
 
 -- ---- Grant
 module _ (ws : List ℕ) (at depth n : ℕ) (hidden : Bool) (o : ℕ) where
-  abbrev pub GrantAt : Checked
+  abbrev pub GrantAt : Result ℕ ℕ
   GrantAt = checked words at (grant_node (read_condition depth) hidden n o (drop (at + 1) ws))
 
-  pub grant_short : length ws ≤ at + 1 → Refused 6 ≡ GrantAt
+  pub grant_short : length ws ≤ at + 1 → Err 6 ≡ GrantAt
   unfolding grant_node
-  grant_short lt = word_missing words at (Refused 6) ws (at + 1) (λ w vs. grant_more (read_condition depth) (bit_of hidden) n o (w / 65536) (w % 65536) vs) lt refl
+  grant_short lt = word_missing words at (Err 6) ws (at + 1) (λ w vs. grant_more (read_condition depth) (bit_of hidden) n o (w / 65536) (w % 65536) vs) lt refl
 
   module _ (lt : at + 1 < length ws) (fits : get_or ws (at + 1) 0 < 4294967296) where
     abbrev more : Option ℕ → Option ℕ → Parsed (Policy Outcome)
@@ -112,22 +111,22 @@ module _ (ws : List ℕ) (at depth n : ℕ) (hidden : Bool) (o : ℕ) where
         next (read_list obligation obligation_bits n (drop (at + 1 + 1) ws)) (λ os vs.
         next (read_condition depth vs) (λ c us. got (grant (record { outcome = o; obligations = os; label = l; reason = m; shape = shape_of (bit_of hidden) }) c) us))
 
-    pub grant_marks : marks_fit (get_or ws (at + 1) 0) ≡ false → Refused 8 ≡ GrantAt
+    pub grant_marks : marks_fit (get_or ws (at + 1) 0) ≡ false → Err 8 ≡ GrantAt
     unfolding grant_node
     grant_marks e =
-        word_there words at (Refused 8) ws (at + 1) (λ w vs. grant_more (read_condition depth) (bit_of hidden) n o (w / 65536) (w % 65536) vs) lt
-        (marks_fail words at (Refused 8) (get_or ws (at + 1) 0) more fits e refl)
+        word_there words at (Err 8) ws (at + 1) (λ w vs. grant_more (read_condition depth) (bit_of hidden) n o (w / 65536) (w % 65536) vs) lt
+        (marks_fail words at (Err 8) (get_or ws (at + 1) 0) more fits e refl)
 
-    then_list : (r : Checked) → marks_fit (get_or ws (at + 1) 0) ≡ true → ((l m : Option ℕ) → r ≡ checked words at (more l m)) → r ≡ GrantAt
+    then_list : (r : Result ℕ ℕ) → marks_fit (get_or ws (at + 1) 0) ≡ true → ((l m : Option ℕ) → r ≡ checked words at (more l m)) → r ≡ GrantAt
     unfolding grant_node
     then_list r e f =
         word_there words at r ws (at + 1) (λ w vs. grant_more (read_condition depth) (bit_of hidden) n o (w / 65536) (w % 65536) vs) lt
         (marks_pass words at r (get_or ws (at + 1) 0) more fits e f)
 
-    pub grant_refused : (number : ℕ) → marks_fit (get_or ws (at + 1) 0) ≡ true → Refused number ≡ checked quads (at + 1 + 1) (read_list obligation obligation_bits n (drop (at + 1 + 1) ws)) → Refused number ≡ GrantAt
-    grant_refused number e g = then_list (Refused number) e (λ l m. give_up quads words ws (at + 1 + 1) at number (read_list obligation obligation_bits n (drop (at + 1 + 1) ws)) (λ os vs. next (read_condition depth vs) (λ c us. got (grant (record { outcome = o; obligations = os; label = l; reason = m; shape = shape_of (bit_of hidden) }) c) us)) g)
+    pub grant_refused : (number : ℕ) → marks_fit (get_or ws (at + 1) 0) ≡ true → Err number ≡ checked quads (at + 1 + 1) (read_list obligation obligation_bits n (drop (at + 1 + 1) ws)) → Err number ≡ GrantAt
+    grant_refused number e g = then_list (Err number) e (λ l m. give_up quads words ws (at + 1 + 1) at number (read_list obligation obligation_bits n (drop (at + 1 + 1) ws)) (λ os vs. next (read_condition depth vs) (λ c us. got (grant (record { outcome = o; obligations = os; label = l; reason = m; shape = shape_of (bit_of hidden) }) c) us)) g)
 
-    pub grant_goes_on : (r : Checked) (after : ℕ) → marks_fit (get_or ws (at + 1) 0) ≡ true → Next after ≡ checked quads (at + 1 + 1) (read_list obligation obligation_bits n (drop (at + 1 + 1) ws)) →
+    pub grant_goes_on : (r : Result ℕ ℕ) (after : ℕ) → marks_fit (get_or ws (at + 1) 0) ≡ true → Ok after ≡ checked quads (at + 1 + 1) (read_list obligation obligation_bits n (drop (at + 1 + 1) ws)) →
         r ≡ checked words_c after (read_condition depth (drop after ws)) → r ≡ GrantAt
     grant_goes_on r after e g h =
         then_list r e (λ l m.
@@ -137,7 +136,7 @@ module _ (ws : List ℕ) (at depth n : ℕ) (hidden : Bool) (o : ℕ) where
 
 -- ---- PermitWithTrace
 module _ (ws : List ℕ) (at n o : ℕ) where
-  abbrev pub PermitAt : Checked
+  abbrev pub PermitAt : Result ℕ ℕ
   PermitAt = checked words_d at (permit_trace_node n o (drop (at + 1) ws))
 
   abbrev w₂ : ℕ
@@ -149,36 +148,36 @@ module _ (ws : List ℕ) (at n o : ℕ) where
   abbrev permit_more : Option ℕ → Parsed (Decision Outcome)
   permit_more l = next (read_list obligation obligation_bits n (drop (at + 1 + 1) ws)) (permit_list l)
 
-  pub permit_short : length ws ≤ at + 1 → Refused 6 ≡ PermitAt
+  pub permit_short : length ws ≤ at + 1 → Err 6 ≡ PermitAt
   unfolding permit_trace_node
-  permit_short lt = word_missing words_d at (Refused 6) ws (at + 1) (λ w vs. more12 n o (w / 65536) (w % 65536) vs) lt refl
+  permit_short lt = word_missing words_d at (Err 6) ws (at + 1) (λ w vs. more12 n o (w / 65536) (w % 65536) vs) lt refl
 
   module _ (lt : at + 1 < length ws) (fits : w₂ < 4294967296) where
-    pub permit_mark : mark_fits (w₂ / 65536) ≡ false → Refused 8 ≡ PermitAt
+    pub permit_mark : mark_fits (w₂ / 65536) ≡ false → Err 8 ≡ PermitAt
     unfolding permit_trace_node
     permit_mark e =
-        word_there words_d at (Refused 8) ws (at + 1) (λ w vs. more12 n o (w / 65536) (w % 65536) vs) lt
-        (mark_fails words_d at (Refused 8) (w₂ / 65536) (λ l _. unless (ltb (w₂ % 65536) 4096) 8 (permit_more l)) (omega arith) e refl)
+        word_there words_d at (Err 8) ws (at + 1) (λ w vs. more12 n o (w / 65536) (w % 65536) vs) lt
+        (mark_fails words_d at (Err 8) (w₂ / 65536) (λ l _. unless (ltb (w₂ % 65536) 4096) 8 (permit_more l)) (omega arith) e refl)
 
-    permit_marked : (r : Checked) → mark_fits (w₂ / 65536) ≡ true → ((l : Option ℕ) → r ≡ checked words_d at (unless (ltb (w₂ % 65536) 4096) 8 (permit_more l))) → r ≡ PermitAt
+    permit_marked : (r : Result ℕ ℕ) → mark_fits (w₂ / 65536) ≡ true → ((l : Option ℕ) → r ≡ checked words_d at (unless (ltb (w₂ % 65536) 4096) 8 (permit_more l))) → r ≡ PermitAt
     unfolding permit_trace_node
     permit_marked r e f =
         word_there words_d at r ws (at + 1) (λ w vs. more12 n o (w / 65536) (w % 65536) vs) lt
         (mark_passes words_d at r (w₂ / 65536) (λ l _. unless (ltb (w₂ % 65536) 4096) 8 (permit_more l)) (omega arith) e (λ l _. f l))
 
-    pub permit_count : mark_fits (w₂ / 65536) ≡ true → 4096 ≤ w₂ % 65536 → Refused 8 ≡ PermitAt
-    permit_count e h = permit_marked (Refused 8) e (λ l. test_fails words_d at (Refused 8) (ltb (w₂ % 65536) 4096) 8 (permit_more l) (le-ltb (w₂ % 65536) 4096 h) refl)
+    pub permit_count : mark_fits (w₂ / 65536) ≡ true → 4096 ≤ w₂ % 65536 → Err 8 ≡ PermitAt
+    permit_count e h = permit_marked (Err 8) e (λ l. test_fails words_d at (Err 8) (ltb (w₂ % 65536) 4096) 8 (permit_more l) (le-ltb (w₂ % 65536) 4096 h) refl)
 
-    permit_counted : (r : Checked) → mark_fits (w₂ / 65536) ≡ true → w₂ % 65536 < 4096 → ((l : Option ℕ) → r ≡ checked words_d at (permit_more l)) → r ≡ PermitAt
+    permit_counted : (r : Result ℕ ℕ) → mark_fits (w₂ / 65536) ≡ true → w₂ % 65536 < 4096 → ((l : Option ℕ) → r ≡ checked words_d at (permit_more l)) → r ≡ PermitAt
     permit_counted r e h f = permit_marked r e (λ l. test_passes words_d at r (ltb (w₂ % 65536) 4096) 8 (permit_more l) (lt-ltb (w₂ % 65536) 4096 h) (f l))
 
     pub permit_refused : (number : ℕ) → mark_fits (w₂ / 65536) ≡ true → w₂ % 65536 < 4096 →
-        Refused number ≡ checked quads (at + 1 + 1) (read_list obligation obligation_bits n (drop (at + 1 + 1) ws)) → Refused number ≡ PermitAt
+        Err number ≡ checked quads (at + 1 + 1) (read_list obligation obligation_bits n (drop (at + 1 + 1) ws)) → Err number ≡ PermitAt
     permit_refused number e h g =
-        permit_counted (Refused number) e h (λ l. give_up quads words_d ws (at + 1 + 1) at number (read_list obligation obligation_bits n (drop (at + 1 + 1) ws)) (permit_list l) g)
+        permit_counted (Err number) e h (λ l. give_up quads words_d ws (at + 1 + 1) at number (read_list obligation obligation_bits n (drop (at + 1 + 1) ws)) (permit_list l) g)
 
-    pub permit_goes_on : (r : Checked) (after : ℕ) → mark_fits (w₂ / 65536) ≡ true → w₂ % 65536 < 4096 →
-        Next after ≡ checked quads (at + 1 + 1) (read_list obligation obligation_bits n (drop (at + 1 + 1) ws)) →
+    pub permit_goes_on : (r : Result ℕ ℕ) (after : ℕ) → mark_fits (w₂ / 65536) ≡ true → w₂ % 65536 < 4096 →
+        Ok after ≡ checked quads (at + 1 + 1) (read_list obligation obligation_bits n (drop (at + 1 + 1) ws)) →
         r ≡ checked pairs after (read_list listed entry_bits (w₂ % 65536) (drop after ws)) → r ≡ PermitAt
     permit_goes_on r after e h g f =
         permit_counted r e h (λ l.
@@ -187,7 +186,7 @@ module _ (ws : List ℕ) (at n o : ℕ) where
 
 -- ---- DenyWithTrace
 module _ (ws : List ℕ) (at : ℕ) (hidden denied : Bool) (o : ℕ) where
-  abbrev pub DenyAt : Checked
+  abbrev pub DenyAt : Result ℕ ℕ
   DenyAt = checked words_d at (deny_trace_node hidden denied o (drop (at + 1) ws))
 
   abbrev denial : Option ℕ → Option ℕ → List ℕ → Decision Outcome
@@ -205,32 +204,32 @@ module _ (ws : List ℕ) (at : ℕ) (hidden denied : Bool) (o : ℕ) where
   abbrev u₃ : ℕ
   u₃ = get_or ws (at + 1 + 1) 0
 
-  pub deny_short : length ws ≤ at + 1 → Refused 6 ≡ DenyAt
+  pub deny_short : length ws ≤ at + 1 → Err 6 ≡ DenyAt
   unfolding deny_trace_node
-  deny_short lt = word_missing words_d at (Refused 6) ws (at + 1) (λ w vs. more13 (bit_of hidden) (denied_by denied o) (w / 65536) (w % 65536) vs) lt refl
+  deny_short lt = word_missing words_d at (Err 6) ws (at + 1) (λ w vs. more13 (bit_of hidden) (denied_by denied o) (w / 65536) (w % 65536) vs) lt refl
 
   module _ (lt : at + 1 < length ws) (fits : u₂ < 4294967296) where
-    pub deny_marks : marks_fit u₂ ≡ false → Refused 8 ≡ DenyAt
+    pub deny_marks : marks_fit u₂ ≡ false → Err 8 ≡ DenyAt
     unfolding deny_trace_node
     deny_marks e =
-        word_there words_d at (Refused 8) ws (at + 1) (λ w vs. more13 (bit_of hidden) (denied_by denied o) (w / 65536) (w % 65536) vs) lt
-        (marks_fail words_d at (Refused 8) u₂ deny_more fits e refl)
+        word_there words_d at (Err 8) ws (at + 1) (λ w vs. more13 (bit_of hidden) (denied_by denied o) (w / 65536) (w % 65536) vs) lt
+        (marks_fail words_d at (Err 8) u₂ deny_more fits e refl)
 
-    deny_marked : (r : Checked) → marks_fit u₂ ≡ true → ((l m : Option ℕ) → r ≡ checked words_d at (deny_more l m)) → r ≡ DenyAt
+    deny_marked : (r : Result ℕ ℕ) → marks_fit u₂ ≡ true → ((l m : Option ℕ) → r ≡ checked words_d at (deny_more l m)) → r ≡ DenyAt
     unfolding deny_trace_node
     deny_marked r e f =
         word_there words_d at r ws (at + 1) (λ w vs. more13 (bit_of hidden) (denied_by denied o) (w / 65536) (w % 65536) vs) lt
         (marks_pass words_d at r u₂ deny_more fits e f)
 
-    pub deny_short_third : marks_fit u₂ ≡ true → length ws ≤ at + 1 + 1 → Refused 6 ≡ DenyAt
-    deny_short_third e h = deny_marked (Refused 6) e (λ l m. word_missing words_d at (Refused 6) ws (at + 1 + 1) (deny_list l m) h refl)
+    pub deny_short_third : marks_fit u₂ ≡ true → length ws ≤ at + 1 + 1 → Err 6 ≡ DenyAt
+    deny_short_third e h = deny_marked (Err 6) e (λ l m. word_missing words_d at (Err 6) ws (at + 1 + 1) (deny_list l m) h refl)
 
-    pub deny_count : marks_fit u₂ ≡ true → at + 1 + 1 < length ws → 4096 ≤ u₃ → Refused 8 ≡ DenyAt
+    pub deny_count : marks_fit u₂ ≡ true → at + 1 + 1 < length ws → 4096 ≤ u₃ → Err 8 ≡ DenyAt
     deny_count e h g =
-        deny_marked (Refused 8) e (λ l m. word_there words_d at (Refused 8) ws (at + 1 + 1) (deny_list l m) h
-        (test_fails words_d at (Refused 8) (ltb u₃ 4096) 8 (next (read_list listed entry_bits u₃ (drop (at + 1 + 1 + 1) ws)) (λ fs us. got (denial l m fs) us)) (le-ltb u₃ 4096 g) refl))
+        deny_marked (Err 8) e (λ l m. word_there words_d at (Err 8) ws (at + 1 + 1) (deny_list l m) h
+        (test_fails words_d at (Err 8) (ltb u₃ 4096) 8 (next (read_list listed entry_bits u₃ (drop (at + 1 + 1 + 1) ws)) (λ fs us. got (denial l m fs) us)) (le-ltb u₃ 4096 g) refl))
 
-    pub deny_facts : (r : Checked) → marks_fit u₂ ≡ true → at + 1 + 1 < length ws → u₃ < 4096 → r ≡ checked pairs (at + 1 + 1 + 1) (read_list listed entry_bits u₃ (drop (at + 1 + 1 + 1) ws)) → r ≡ DenyAt
+    pub deny_facts : (r : Result ℕ ℕ) → marks_fit u₂ ≡ true → at + 1 + 1 < length ws → u₃ < 4096 → r ≡ checked pairs (at + 1 + 1 + 1) (read_list listed entry_bits u₃ (drop (at + 1 + 1 + 1) ws)) → r ≡ DenyAt
     deny_facts r e h g f =
         deny_marked r e (λ l m. word_there words_d at r ws (at + 1 + 1) (deny_list l m) h
         (test_passes words_d at r (ltb u₃ 4096) 8 (next (read_list listed entry_bits u₃ (drop (at + 1 + 1 + 1) ws)) (λ fs us. got (denial l m fs) us)) (lt-ltb u₃ 4096 g)

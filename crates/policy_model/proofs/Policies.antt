@@ -1,4 +1,5 @@
 -- The check of a policy by its first word. Assumes nothing.
+use Rattle.std.specs.Prelude.{Result, Ok, Err}
 use mathlib.Core.Path.{◌≡◌, refl, sym, ◌∙◌, ap}
 use mathlib.Core.Bool.{Bool, true, false, cond}
 use mathlib.Core.Option.{none, some}
@@ -20,18 +21,15 @@ use Rattle.laws.specs.Size.{words_d, words, wordss}
 use Rattle.laws.specs.Form.{IfThere}
 use Rattle.laws.proofs.Lengths.{length_encode}
 use Rattle.laws.proofs.Canon.{same_t}
-use Rattle.policy_model.specs.declared.Checked.{Checked}
-use Rattle.policy_model.specs.declared.Checked.TheVariants.{Next, Refused}
 use Rattle.policy_model.specs.declared.PolicyHead.{PolicyHead}
 use Rattle.policy_model.specs.declared.PolicyHead.TheVariants.{All, Any, OrElse, PermitWithTrace, DenyWithTrace}
-use Rattle.policy_model.specs.declared.Step.{Step}
-use Rattle.policy_model.specs.Answers.{checked, Stepped, step_of}
+use Rattle.policy_model.specs.declared.Step.TheVariants.{Leaf}
+use Rattle.policy_model.specs.Answers.{checked, Lists, Stepped}
 use Rattle.policy_model.specs.Heads.{policy_head, within_most, policy_node, permit_trace_node, deny_trace_node, deep_policy}
 use Rattle.policy_model.specs.HeadLaws.{policy_node_by, policy_deep_by}
 use Rattle.policy_model.specs.Plain.{plain_grant}
 use Rattle.policy_model.specs.PlainLaws.{plain_reads_by}
 use Rattle.policy_model.proofs.Checking.{word_at, no_word, clash, Leaves, leaves_of, end_with, many_first, many_none}
-use Rattle.policy_model.proofs.Levels.{Lists}
 
 -- A number that stands for an outcome is its number.
 only_at : (v : ℕ) (t : Bool) → IfThere (λ o. o ≡ v) (cond t (some v) none)
@@ -67,14 +65,14 @@ node_there most res zero w ws f = absurd (f refl)
 node_there most res (suc depth) w ws f = rw sub-one (sym (policy_node_by most res depth w ws))
 
 module _ (most : ℕ) (ws : List ℕ) (at depth : ℕ) (res : Bool) where
-  abbrev pub Asked : Checked
+  abbrev pub Asked : Result ℕ ℕ
   Asked = checked words at (read_by most res depth (drop at ws))
 
-  pub no_policy : length ws ≤ at → Refused 6 ≡ Asked
+  pub no_policy : length ws ≤ at → Err 6 ≡ Asked
   unfolding checked
   no_policy h = sym (ap (checked words at) (ap (read_by most res depth) (no_word ws at h) ∙ nothing_there most res depth))
 
-  pub too_deep : (n : ℕ) (h : PolicyHead) → at < length ws → depth ≡ 0 → h ≡ policy_head (get_or ws at 0) res → n ≡ deep_policy h → Refused n ≡ Asked
+  pub too_deep : (n : ℕ) (h : PolicyHead) → at < length ws → depth ≡ 0 → h ≡ policy_head (get_or ws at 0) res → n ≡ deep_policy h → Err n ≡ Asked
   unfolding checked
   too_deep n h lt z e f =
       sym (ap (checked words at) (ap (λ d. read_by most res d (drop at ws)) z ∙ ap (read_by most res 0) (word_at ws at lt)
@@ -92,7 +90,7 @@ module _ (most : ℕ) (ws : List ℕ) (at depth : ℕ) (res : Bool) where
   by_head h lt f e g = judged h true lt f e g
 
   -- 8 where the outcome is none.
-  pub not_within : (h : PolicyHead) → at < length ws → (depth ≡ 0 → ⊥) → h ≡ policy_head (get_or ws at 0) res → false ≡ within_most most h → Refused 8 ≡ Asked
+  pub not_within : (h : PolicyHead) → at < length ws → (depth ≡ 0 → ⊥) → h ≡ policy_head (get_or ws at 0) res → false ≡ within_most most h → Err 8 ≡ Asked
   unfolding checked
   not_within h lt f e g = judged h false lt f e g
 
@@ -111,7 +109,7 @@ module _ (pc : List ℕ → Parsed Condition) (p : List ℕ → Parsed (Policy O
       checked wordss (at + 1) (next (next q (λ b ts. got (pcons b pnil) ts)) (λ xs ts. got (pcons a xs) ts)) ≡ checked words at (next q (λ b ts. got (or_else a b) ts))
   unfolding checked
   second_arm a (refuse n) = refl
-  second_arm a (got b ts) = ap Next (omega arith)
+  second_arm a (got b ts) = ap Ok (omega arith)
 
   two_arms : (q : Parsed (Policy Outcome)) →
       checked wordss (at + 1) (next q (λ a vs. next (next (p vs) (λ b ts. got (pcons b pnil) ts)) (λ xs ts. got (pcons a xs) ts)))
@@ -134,7 +132,7 @@ module _ (pc : List ℕ → Parsed Condition) (p : List ℕ → Parsed (Policy O
 
 -- The list rule.
 module _ (most : ℕ) (ws : List ℕ) (depth : ℕ) (res : Bool) where
-  abbrev pub AskedAll : ℕ → ℕ → Checked
+  abbrev pub AskedAll : ℕ → ℕ → Result ℕ ℕ
   AskedAll at count = checked wordss at (many pnil pcons (read_by most res depth) count (drop at ws))
 
 pub policy_lists : (most : ℕ) (ws : List ℕ) (res : Bool) → Lists (λ d at. Asked most ws at d res) (λ d. AskedAll most ws d res)
@@ -155,7 +153,7 @@ some_words (or_else a b) = omega arith
 some_words (stored (permits p)) = omega arith
 some_words (stored (denies d)) = omega arith
 
-ends_later : (at after : ℕ) (q : Parsed (Policy Outcome)) → Next after ≡ checked words at q → at < after
+ends_later : (at after : ℕ) (q : Parsed (Policy Outcome)) → Ok after ≡ checked words at q → at < after
 unfolding checked
 ends_later at after (refuse n) e = clash after n e
 ends_later at after (got t vs) e =
@@ -163,14 +161,13 @@ ends_later at after (got t vs) e =
     let ends : after ≡ at + words t = cc in
     omega arith
 
--- The check of a whole node is a step.
-pub whole_node : (most : ℕ) (ws : List ℕ) (at depth : ℕ) (res : Bool) (c : Checked) (r : Step) → at < length ws → c ≡ Asked most ws at depth res → r ≡ step_of c →
-    Stepped ws at depth (Asked most ws at depth res) (AskedAll most ws (depth - 1) res (at + 1)) r
-whole_node most ws at depth res (Next after) r lt e f = rw f (e, lt, ends_later at after (read_by most res depth (drop at ws)) e)
-whole_node most ws at depth res (Refused n) r lt e f = rw f e
+-- A whole node that is passed is a step.
+pub whole_node : (most : ℕ) (ws : List ℕ) (at depth : ℕ) (res : Bool) (after : ℕ) → at < length ws → Ok after ≡ Asked most ws at depth res →
+    Stepped ws at depth (Asked most ws at depth res) (AskedAll most ws (depth - 1) res (at + 1)) (Ok (Leaf after))
+whole_node most ws at depth res after lt e = (e, lt, ends_later at after (read_by most res depth (drop at ws)) e)
 
 -- A plain grant is passed, with a level below it for its condition, where its outcome is one.
-pub plain_passed : (most : ℕ) (ws : List ℕ) (at depth : ℕ) (res : Bool) → get_or ws at 0 % 65536 < most → plain_grant (drop at ws) ≡ true → 2 ≤ depth → Next (at + 3) ≡ Asked most ws at depth res
+pub plain_passed : (most : ℕ) (ws : List ℕ) (at depth : ℕ) (res : Bool) → get_or ws at 0 % 65536 < most → plain_grant (drop at ws) ≡ true → 2 ≤ depth → Ok (at + 3) ≡ Asked most ws at depth res
 unfolding checked
 plain_passed most ws at zero res m plain h = absurd (omega arith)
 plain_passed most ws at (suc zero) res m plain h = absurd (omega arith)

@@ -1,4 +1,5 @@
 -- A list of obligations, word by word: how many are to come. Assumes nothing.
+use Rattle.std.specs.Prelude.{Result, Ok, Err}
 use mathlib.Core.Path.{◌≡◌, refl, sym, ◌∙◌, ap, ap₂}
 use mathlib.Core.Bool.{Bool, true, false, cond}
 use mathlib.Core.List.{List, [], ◌∷◌}
@@ -15,11 +16,6 @@ use Rattle.laws.specs.Size.{quads}
 use Rattle.laws.proofs.FieldLaws.{bad_words_lem}
 use Rattle.laws.proofs.WordLaws.{words_for_none, words_for_more}
 use Rattle.laws.proofs.ReadForm.{same_obligation}
-use Rattle.policy_model.specs.declared.Checked.{Checked}
-use Rattle.policy_model.specs.declared.Checked.TheVariants.{Next}
-use Rattle.policy_model.specs.declared.Checked.TheVariants as check
-use Rattle.policy_model.specs.declared.Obligations.{Obligations}
-use Rattle.policy_model.specs.declared.Obligations.TheVariants.{Left, Refused}
 use Rattle.policy_model.specs.Answers.{checked}
 use Rattle.policy_model.specs.Lists.{seen_one, seen_all}
 use Rattle.policy_model.proofs.Checking.{word_at, no_word, Leaves}
@@ -28,15 +24,15 @@ use Rattle.policy_model.proofs.Fields.{Left as ToCome}
 
 -- ---- fields
 -- What was taken: how many are to come.
-abbrev state_of : Fields ℕ → Obligations
-state_of (bad n) = Refused n
-state_of (ok xs k) = Left k
+abbrev state_of : Fields ℕ → Result ℕ ℕ
+state_of (bad n) = Err n
+state_of (ok xs k) = Ok k
 
-last_zero : (xs : List ℕ) (t : Bool) → cond t (Left 0) (Refused 8) ≡ state_of (cond t (ok xs zero) (bad 8))
+last_zero : (xs : List ℕ) (t : Bool) → cond t (Ok 0) (Err 8) ≡ state_of (cond t (ok xs zero) (bad 8))
 last_zero xs true = refl
 last_zero xs false = refl
 
-one_seen : (xs : List ℕ) (k b : ℕ) (t : Bool) → cond t (Left k) (Refused 8) ≡ state_of (put xs k (unless t 8 (got b [])))
+one_seen : (xs : List ℕ) (k b : ℕ) (t : Bool) → cond t (Ok k) (Err 8) ≡ state_of (put xs k (unless t 8 (got b [])))
 one_seen xs k b true = refl
 one_seen xs k b false = refl
 
@@ -53,13 +49,13 @@ seen_all_lem (b ∷ bs) t = ap (λ s. seen_all s bs) (seen_one_lem t b) ∙ seen
 
 -- ---- words
 -- The words of a list, by how many are to come.
-unfoldable pub walk : ℕ → List ℕ → Obligations → Checked
-walk at [] (Refused n) = check.Refused n
-walk at [] (Left zero) = Next at
-walk at [] (Left (suc k)) = check.Refused 6
-walk at (w ∷ ws) (Refused n) = check.Refused n
-walk at (w ∷ ws) (Left zero) = Next at
-walk at (w ∷ ws) (Left (suc k)) = walk (at + 1) ws (seen_all (Left (suc k)) (split obligation_bits 4 w))
+unfoldable pub walk : ℕ → List ℕ → Result ℕ ℕ → Result ℕ ℕ
+walk at [] (Err n) = Err n
+walk at [] (Ok zero) = Ok at
+walk at [] (Ok (suc k)) = Err 6
+walk at (w ∷ ws) (Err n) = Err n
+walk at (w ∷ ws) (Ok zero) = Ok at
+walk at (w ∷ ws) (Ok (suc k)) = walk (at + 1) ws (seen_all (Ok (suc k)) (split obligation_bits 4 w))
 
 abbrev to_come : Fields ℕ → ℕ
 to_come (bad n) = 0
@@ -75,8 +71,8 @@ same_end at k ws (ok xs m) h =
     let g : at + 1 + words_for 4 m ≡ at + words_for 4 (suc k) = omega (arith, words_for_more 3 k) in
     ap (λ n. up_to n (read_words obligation obligation_bits 4 ws (ok xs m))) g
 
-ended : (at : ℕ) → Next at ≡ Next (at + words_for 4 0)
-ended at = ap Next (omega (arith, words_for_none 3))
+ended : (at : ℕ) → ◌≡◌ {A = Result ℕ ℕ} (Ok at) (Ok (at + words_for 4 0))
+ended at = ap Ok (omega (arith, words_for_none 3))
 
 walk_is : (ws : List ℕ) (at : ℕ) (t : Fields ℕ) → walk at ws (state_of t) ≡ up_to (at + words_for 4 (to_come t)) (read_words obligation obligation_bits 4 ws t)
 unfolding walk
@@ -91,46 +87,46 @@ walk_is (w ∷ ws) at (ok xs (suc k)) =
     ap (walk (at + 1) ws) (seen_all_lem bs (ok xs (suc k))) ∙ walk_is ws (at + 1) t ∙ same_end at k ws t (left obligation bs xs (suc k))
 
 -- The loop over the words: a word more, and its three ends.
-one_word : (at w k : ℕ) (ws : List ℕ) → (k ≡ 0 → ⊥) → walk (at + 1) ws (seen_all (Left k) (split obligation_bits 4 w)) ≡ walk at (w ∷ ws) (Left k)
+one_word : (at w k : ℕ) (ws : List ℕ) → (k ≡ 0 → ⊥) → walk (at + 1) ws (seen_all (Ok k) (split obligation_bits 4 w)) ≡ walk at (w ∷ ws) (Ok k)
 unfolding walk
 one_word at w zero ws f = absurd (f refl)
 one_word at w (suc k) ws f = refl
 
-no_word_left : (at k : ℕ) → (k ≡ 0 → ⊥) → check.Refused 6 ≡ walk at [] (Left k)
+no_word_left : (at k : ℕ) → (k ≡ 0 → ⊥) → Err 6 ≡ walk at [] (Ok k)
 unfolding walk
 no_word_left at zero f = absurd (f refl)
 no_word_left at (suc k) f = refl
 
-all_seen : (at : ℕ) (ws : List ℕ) → Next at ≡ walk at ws (Left 0)
+all_seen : (at : ℕ) (ws : List ℕ) → Ok at ≡ walk at ws (Ok 0)
 unfolding walk
 all_seen at [] = refl
 all_seen at (w ∷ ws) = refl
 
-refused_at : (at n : ℕ) (ws : List ℕ) → check.Refused n ≡ walk at ws (Refused n)
+refused_at : (at n : ℕ) (ws : List ℕ) → Err n ≡ walk at ws (Err n)
 unfolding walk
 refused_at at n [] = refl
 refused_at at n (w ∷ ws) = refl
 
 module _ (words : List ℕ) (at left : ℕ) where
-  pub walk_word : (s : Obligations) → at < length words → (left ≡ 0 → ⊥) → s ≡ seen_all (Left left) (split obligation_bits 4 (get_or words at 0)) →
-      walk (at + 1) (drop (at + 1) words) s ≡ walk at (drop at words) (Left left)
+  pub walk_word : (s : Result ℕ ℕ) → at < length words → (left ≡ 0 → ⊥) → s ≡ seen_all (Ok left) (split obligation_bits 4 (get_or words at 0)) →
+      walk (at + 1) (drop (at + 1) words) s ≡ walk at (drop at words) (Ok left)
   walk_word s h f e =
       ap (walk (at + 1) (drop (at + 1) words)) e
       ∙ one_word at (get_or words at 0) left (drop (at + 1) words) f
-      ∙ ap (λ us. walk at us (Left left)) (sym (word_at words at h))
+      ∙ ap (λ us. walk at us (Ok left)) (sym (word_at words at h))
 
-  pub walk_refused : (n : ℕ) → at < length words → (left ≡ 0 → ⊥) → Refused n ≡ seen_all (Left left) (split obligation_bits 4 (get_or words at 0)) →
-      check.Refused n ≡ walk at (drop at words) (Left left)
-  walk_refused n h f e = refused_at (at + 1) n (drop (at + 1) words) ∙ walk_word (Refused n) h f e
+  pub walk_refused : (n : ℕ) → at < length words → (left ≡ 0 → ⊥) → Err n ≡ seen_all (Ok left) (split obligation_bits 4 (get_or words at 0)) →
+      Err n ≡ walk at (drop at words) (Ok left)
+  walk_refused n h f e = refused_at (at + 1) n (drop (at + 1) words) ∙ walk_word (Err n) h f e
 
-  pub walk_short : length words ≤ at → (left ≡ 0 → ⊥) → check.Refused 6 ≡ walk at (drop at words) (Left left)
-  walk_short h f = no_word_left at left f ∙ ap (λ us. walk at us (Left left)) (sym (no_word words at h))
+  pub walk_short : length words ≤ at → (left ≡ 0 → ⊥) → Err 6 ≡ walk at (drop at words) (Ok left)
+  walk_short h f = no_word_left at left f ∙ ap (λ us. walk at us (Ok left)) (sym (no_word words at h))
 
-  pub walk_done : left ≡ 0 → Next at ≡ walk at (drop at words) (Left left)
-  walk_done e = all_seen at (drop at words) ∙ ap (λ k. walk at (drop at words) (Left k)) (sym e)
+  pub walk_done : left ≡ 0 → Ok at ≡ walk at (drop at words) (Ok left)
+  walk_done e = all_seen at (drop at words) ∙ ap (λ k. walk at (drop at words) (Ok k)) (sym e)
 
 -- The walk from the first word on is the check of the list.
-pub walk_list : (words : List ℕ) (at k : ℕ) → walk at (drop at words) (Left k) ≡ checked quads at (read_list obligation obligation_bits k (drop at words))
+pub walk_list : (words : List ℕ) (at k : ℕ) → walk at (drop at words) (Ok k) ≡ checked quads at (read_list obligation obligation_bits k (drop at words))
 walk_list words at k = walk_is (drop at words) at (ok [] k) ∙ sym (list_ends (λ o. o) obligation same_obligation obligation_bits 3 refl at k (drop at words))
 
 pub obligations_leave : (k : ℕ) (us : List ℕ) → Leaves quads us (read_list obligation obligation_bits k us)
@@ -143,7 +139,7 @@ four_fields w =
     let b : w % 16777216 % 65536 % 256 ≡ w % 256 = omega arith in
     ap₂ (λ x y. w / 16777216 ∷ w % 16777216 / 65536 ∷ x ∷ y ∷ []) (ap (λ n. n / 256) a) (div-one (w % 16777216 % 65536 % 256) ∙ b)
 
-pub four_seen : (w : ℕ) (s s₁ s₂ s₃ r : Obligations) → s₁ ≡ seen_one s (w / 16777216) → s₂ ≡ seen_one s₁ (w % 16777216 / 65536) → s₃ ≡ seen_one s₂ (w % 65536 / 256) →
+pub four_seen : (w : ℕ) (s s₁ s₂ s₃ r : Result ℕ ℕ) → s₁ ≡ seen_one s (w / 16777216) → s₂ ≡ seen_one s₁ (w % 16777216 / 65536) → s₃ ≡ seen_one s₂ (w % 65536 / 256) →
     r ≡ seen_one s₃ (w % 256) → r ≡ seen_all s (split obligation_bits 4 w)
 unfolding seen_all
 four_seen w s s₁ s₂ s₃ r e₁ e₂ e₃ e₄ =

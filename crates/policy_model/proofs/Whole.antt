@@ -1,4 +1,5 @@
 -- The checks of whole sheets and records. Assumes nothing.
+use Rattle.std.specs.Prelude.{Result, Ok, Err}
 use mathlib.Core.Path.{◌≡◌, refl, sym, ◌∙◌, ap, ap₂, subst}
 use mathlib.Core.Bool.{Bool, true, false, cond, ◌&&◌}
 use mathlib.Core.Option.{Option, none, some}
@@ -6,7 +7,7 @@ use mathlib.Core.List.{List, [], ◌∷◌}
 use Prim.Native.Nat.{ℕ, zero, suc, ◌+◌, ◌-◌, ◌/◌, ◌%◌, ◌≤◌, ◌<◌}
 use native.Mathlib.Omega.{arith}
 use borrow.Author.Tests.{leb-true, lt-ltb, le-ltb, le-leb, lt-leb}
-use lib.Dec.{eqb, ltb, leb}
+use lib.Dec.{ltb, leb}
 use lib.ListN.{length, drop, get_or, length-drop}
 use lib.Seq.{drop-drop}
 use Rattle.model.specs.Outcome.{below}
@@ -22,9 +23,9 @@ use Rattle.model.specs.Reading as reading
 use Rattle.model.specs.Products.{Outcome, lead_kind, as_stored, as_resolved}
 use Rattle.laws.specs.Size.{pairs, words}
 use Rattle.laws.proofs.FieldLaws.{Holds, fine, nothing, if_holds}
-use Rattle.policy_model.specs.declared.Checked.{Checked}
-use Rattle.policy_model.specs.declared.Checked.TheVariants.{Next, Refused}
-use Rattle.policy_model.specs.Answers.{checked, at_end, refusal, words_b, lead_of, record_lead, record_of}
+use Rattle.policy_model.specs.declared.Status.{Status}
+use Rattle.policy_model.specs.declared.Status.TheVariants.{Resolved, Pending}
+use Rattle.policy_model.specs.Answers.{checked, at_end, refusal, words_b, lead_of, kind_by, Lead}
 use Rattle.policy_model.specs.Answers as answers
 use Rattle.policy_model.proofs.Checking.{word_at, no_word, clash, Leaves}
 use Rattle.policy_model.proofs.Policies.{leaves_by}
@@ -41,9 +42,9 @@ whole_checked : {A : Type 0} (size : A → ℕ) (ws : List ℕ) (at : ℕ) (q : 
 unfolding checked at_end
 whole_checked size ws at (refuse n) l = refl
 whole_checked size ws at (got a []) l =
-    ap (λ t. cond t (Refused 10) (Next (at + size a))) (nothing_after ws (at + size a) (sym (drop-drop (size a) at ws) ∙ l.it))
+    ap (λ t. cond t (Err 10) (Ok (at + size a))) (nothing_after ws (at + size a) (sym (drop-drop (size a) at ws) ∙ l.it))
 whole_checked size ws at (got a (w ∷ vs)) l =
-    ap (λ t. cond t (Refused 10) (Next (at + size a))) (word_after ws (at + size a) w vs (sym (drop-drop (size a) at ws) ∙ l.it))
+    ap (λ t. cond t (Err 10) (Ok (at + size a))) (word_after ws (at + size a) w vs (sym (drop-drop (size a) at ws) ∙ l.it))
 
 -- By a number of outcomes.
 module _ (most : ℕ) where
@@ -77,7 +78,7 @@ module _ (most : ℕ) where
   abbrev node_p : Bool → (List ℕ → Parsed Condition) → (List ℕ → Parsed (Policy Outcome)) → ℕ → ℕ → List ℕ → Parsed (Policy Outcome)
   node_p = reading.node_p (below most)
 
-  abbrev body_at : Bool → List ℕ → Parsed (ReducedPolicy Outcome)
+  abbrev body_at : Status → List ℕ → Parsed (ReducedPolicy Outcome)
   body_at = answers.body_at most
 
   abbrev policy_at : List ℕ → ℕ → ℕ → Parsed (Policy Outcome)
@@ -97,24 +98,24 @@ module _ (most : ℕ) where
     fair_sheet : (length ws ≡ 0 → ⊥) → length ws ≤ 4096 → refusal (whole (read_policy false 32 ws)) ≡ refusal (read_sheet ws)
     fair_sheet f h = ap₂ sheet_by (sym (le-leb 1 (length ws) (omega arith))) (sym (le-leb (length ws) 4096 h))
 
-    accepted : {A : Type 0} (size : A → ℕ) (n : ℕ) (q : Parsed A) → Next n ≡ checked size 0 q → none ≡ refusal q
+    accepted : {A : Type 0} (size : A → ℕ) (n : ℕ) (q : Parsed A) → Ok n ≡ checked size 0 q → none ≡ refusal q
     unfolding checked
     accepted size n (refuse m) e = clash n m e
     accepted size n (got a vs) e = refl
 
-    turned_back_lem : {A : Type 0} (size : A → ℕ) (n : ℕ) (q : Parsed A) → Refused n ≡ checked size 0 q → some n ≡ refusal q
+    turned_back_lem : {A : Type 0} (size : A → ℕ) (n : ℕ) (q : Parsed A) → Err n ≡ checked size 0 q → some n ≡ refusal q
     unfolding checked
     turned_back_lem size n (refuse m) e = let k : n ≡ m = cc in ap some k
     turned_back_lem size n (got a vs) e = clash (0 + size a) n (sym e)
 
-    to_the_last : (found r : Checked) → found ≡ checked words 0 (read_policy false 32 ws) → r ≡ at_end (length ws) found → r ≡ checked words 0 (whole (read_policy false 32 ws))
+    to_the_last : (found r : Result ℕ ℕ) → found ≡ checked words 0 (read_policy false 32 ws) → r ≡ at_end (length ws) found → r ≡ checked words 0 (whole (read_policy false 32 ws))
     to_the_last found r e g = g ∙ ap (at_end (length ws)) e ∙ whole_checked words ws 0 (read_policy false 32 ws) (leaves_by most false 32 ws)
 
-    pub sheet_accepted : (n : ℕ) (found : Checked) → (length ws ≡ 0 → ⊥) → length ws ≤ 4096 → found ≡ checked words 0 (read_policy false 32 ws) → Next n ≡ at_end (length ws) found → none ≡ refusal (read_sheet ws)
-    sheet_accepted n found f h e g = accepted words n (whole (read_policy false 32 ws)) (to_the_last found (Next n) e g) ∙ fair_sheet f h
+    pub sheet_accepted : (n : ℕ) (found : Result ℕ ℕ) → (length ws ≡ 0 → ⊥) → length ws ≤ 4096 → found ≡ checked words 0 (read_policy false 32 ws) → Ok n ≡ at_end (length ws) found → none ≡ refusal (read_sheet ws)
+    sheet_accepted n found f h e g = accepted words n (whole (read_policy false 32 ws)) (to_the_last found (Ok n) e g) ∙ fair_sheet f h
 
-    pub sheet_refused : (n : ℕ) (found : Checked) → (length ws ≡ 0 → ⊥) → length ws ≤ 4096 → found ≡ checked words 0 (read_policy false 32 ws) → Refused n ≡ at_end (length ws) found → some n ≡ refusal (read_sheet ws)
-    sheet_refused n found f h e g = turned_back_lem words n (whole (read_policy false 32 ws)) (to_the_last found (Refused n) e g) ∙ fair_sheet f h
+    pub sheet_refused : (n : ℕ) (found : Result ℕ ℕ) → (length ws ≡ 0 → ⊥) → length ws ≤ 4096 → found ≡ checked words 0 (read_policy false 32 ws) → Err n ≡ at_end (length ws) found → some n ≡ refusal (read_sheet ws)
+    sheet_refused n found f h e g = turned_back_lem words n (whole (read_policy false 32 ws)) (to_the_last found (Err n) e g) ∙ fair_sheet f h
 
   -- ---- the tree of a Resolved record is one node of a residual tree
   one_node : (at : ℕ) (q : Parsed (Decision Outcome)) → checked words at (as_stored q) ≡ checked words_b at (as_resolved q)
@@ -132,7 +133,7 @@ module _ (most : ℕ) where
         ap (λ i. checked words at (node_p true pc p i r vs)) e
 
   module _ (ws : List ℕ) (at : ℕ) where
-    pub no_tree : length ws ≤ at → Refused 6 ≡ checked words_b at (parse14 (drop at ws))
+    pub no_tree : length ws ≤ at → Err 6 ≡ checked words_b at (parse14 (drop at ws))
     unfolding checked
     no_tree h = ap (λ us. checked words_b at (parse14 us)) (sym (no_word ws at h))
 
@@ -145,7 +146,7 @@ module _ (most : ℕ) where
           ap (λ b. checked words_b at (unless b 5 (node14 (k - 12) (get_or ws at 0 % 268435456) (drop (at + 1) ws)))) (sym e)
           ∙ ap (λ us. checked words_b at (parse14 us)) (sym (word_at ws at lt))
 
-      pub other_tree : k < 12 → Refused 5 ≡ checked words_b at (parse14 (drop at ws))
+      pub other_tree : k < 12 → Err 5 ≡ checked words_b at (parse14 (drop at ws))
       unfolding checked
       other_tree h = tree_by false (lt-leb 12 k h)
 
@@ -169,7 +170,7 @@ module _ (most : ℕ) where
   whole_pending (got t []) = refl
   whole_pending (got t (w ∷ vs)) = refl
 
-  pending_body : (at : ℕ) (us : List ℕ) → checked words at (whole (read_policy true 32 us)) ≡ checked words_b at (whole (body_at true us))
+  pending_body : (at : ℕ) (us : List ℕ) → checked words at (whole (read_policy true 32 us)) ≡ checked words_b at (whole (body_at Pending us))
   unfolding answers.body_at
   pending_body at us = pending_tree at (whole (read_policy true 32 us)) ∙ ap (checked words_b at) (whole_pending (read_policy true 32 us))
 
@@ -198,8 +199,8 @@ module _ (most : ℕ) where
       residual_leaves (λ us. read_condition 0 us) (λ us. read_policy true 0 us) (w ∷ vs) (k - 12) r vs (subst (Leaves words (w ∷ vs)) same (leaves_by most true 1 (w ∷ vs))))
 
   -- The tree of a record, to the last word.
-  module _ (ws : List ℕ) (at : ℕ) (p : Bool) (found r : Checked) where
-    pub to_pending : p ≡ true → found ≡ checked words at (policy_at ws at 32) → r ≡ at_end (length ws) found → r ≡ checked words_b at (whole (body_at p (drop at ws)))
+  module _ (ws : List ℕ) (at : ℕ) (s : Status) (found r : Result ℕ ℕ) where
+    pub to_pending : s ≡ Pending → found ≡ checked words at (policy_at ws at 32) → r ≡ at_end (length ws) found → r ≡ checked words_b at (whole (body_at s (drop at ws)))
     to_pending e f g =
         g
         ∙ ap (at_end (length ws)) f
@@ -207,7 +208,7 @@ module _ (most : ℕ) where
         ∙ pending_body at (drop at ws)
         ∙ ap (λ t. checked words_b at (whole (body_at t (drop at ws)))) (sym e)
 
-    pub to_resolved : p ≡ false → found ≡ checked words_b at (parse14 (drop at ws)) → r ≡ at_end (length ws) found → r ≡ checked words_b at (whole (body_at p (drop at ws)))
+    pub to_resolved : s ≡ Resolved → found ≡ checked words_b at (parse14 (drop at ws)) → r ≡ at_end (length ws) found → r ≡ checked words_b at (whole (body_at s (drop at ws)))
     unfolding answers.body_at
     to_resolved e f g =
         g
@@ -216,10 +217,6 @@ module _ (most : ℕ) where
         ∙ ap (λ t. checked words_b at (whole (body_at t (drop at ws)))) (sym e)
 
   -- The kind of the lead, by what was read under it.
-  abbrev kind_if : Bool → ℕ
-  kind_if true = 15
-  kind_if false = 14
-
   pending_kind : (q : Parsed (Policy Outcome)) → Holds (λ b _. lead_kind b ≡ 15) (next q (λ t vs. got (pending t) vs))
   pending_kind (refuse n) = nothing
   pending_kind (got t vs) = fine refl
@@ -237,55 +234,57 @@ module _ (most : ℕ) where
   tree14_kind [] = nothing
   tree14_kind (w ∷ vs) = if_holds (leb 12 (w / 268435456)) 5 (node14 (w / 268435456 - 12) (w % 268435456) vs) (λ _. node14_kind (w / 268435456 - 12) (w % 268435456) vs)
 
-  body_kind : (p : Bool) (us : List ℕ) → Holds (λ b _. lead_kind b ≡ kind_if p) (body_at p us)
+  body_kind : (s : Status) (us : List ℕ) → Holds (λ b _. lead_kind b ≡ kind_by s) (body_at s us)
   unfolding answers.body_at
-  body_kind true us = pending_kind (read_policy true 32 us)
-  body_kind false us = tree14_kind us
+  body_kind Pending us = pending_kind (read_policy true 32 us)
+  body_kind Resolved us = tree14_kind us
 
-  module _ (es : Consulted) where
+  -- The lead by what the check of the tree found.
+  abbrev pub lead_by : Status → ℕ → ℕ → Result ℕ ℕ → Parsed Lead
+  lead_by s count tree (Err n) = refuse n
+  lead_by s count tree (Ok n) = got (record { kind = kind_by s; consulted = count; tree = tree }) []
+
+  module _ (es : Consulted) (s : Status) where
     abbrev record_with : ReducedPolicy Outcome → List ℕ → Parsed (Record Outcome)
     record_with b ts = got (record { body = b; log = es }) ts
 
-    by_kind : (p : Bool) (b : ReducedPolicy Outcome) (n : ℕ) → lead_kind b ≡ kind_if p →
-        record_lead (record_of (Next n) p (length es) (1 + pairs es)) ≡ lead_of (record_with b [])
-    unfolding lead_of
-    by_kind true b n e = ap (λ k. got (record { kind = k; consulted = length es; tree = 1 + pairs es }) []) (sym e)
-    by_kind false b n e = ap (λ k. got (record { kind = k; consulted = length es; tree = 1 + pairs es }) []) (sym e)
-
-    by_body : (p : Bool) (q : Parsed (ReducedPolicy Outcome)) (at : ℕ) → Holds (λ b _. lead_kind b ≡ kind_if p) q →
-        record_lead (record_of (checked words_b at (whole q)) p (length es) (1 + pairs es)) ≡ lead_of (whole (next q record_with))
+    by_body : (q : Parsed (ReducedPolicy Outcome)) (at : ℕ) → Holds (λ b _. lead_kind b ≡ kind_by s) q →
+        lead_by s (length es) (1 + pairs es) (checked words_b at (whole q)) ≡ lead_of (whole (next q record_with))
     unfolding lead_of checked
-    by_body p (refuse n) at h = refl
-    by_body p (got b []) at h = by_kind p b (at + words_b b) h.it
-    by_body p (got b (w ∷ vs)) at h = refl
+    by_body (refuse n) at h = refl
+    by_body (got b []) at h = ap (λ k. got (record { kind = k; consulted = length es; tree = 1 + pairs es }) []) (sym h.it)
+    by_body (got b (w ∷ vs)) at h = refl
 
   -- The entries, and then the tree.
-  module _ (ws : List ℕ) (p : Bool) where
+  module _ (ws : List ℕ) (s : Status) where
     abbrev and_tree : Consulted → List ℕ → Parsed (Record Outcome)
-    and_tree es vs = next (body_at p vs) (λ b ts. got (record { body = b; log = es }) ts)
+    and_tree es vs = next (body_at s vs) (λ b ts. got (record { body = b; log = es }) ts)
 
-    entries_then : (count tree : ℕ) (q : Parsed Consulted) → Holds (λ es vs. length es ≡ count) q → Leaves pairs (drop 1 ws) q → Next tree ≡ checked pairs 1 q →
-        record_lead (record_of (checked words_b tree (whole (body_at p (drop tree ws)))) p count tree) ≡ lead_of (whole (next q and_tree))
+    entries_then : (count tree : ℕ) (q : Parsed Consulted) → Holds (λ es vs. length es ≡ count) q → Leaves pairs (drop 1 ws) q → Ok tree ≡ checked pairs 1 q →
+        lead_by s count tree (checked words_b tree (whole (body_at s (drop tree ws)))) ≡ lead_of (whole (next q and_tree))
     unfolding checked
     entries_then count tree (refuse n) h l e = clash tree n e
     entries_then count tree (got es vs) h l e =
         let ends : tree ≡ 1 + pairs es = cc in
         let rest : drop tree ws ≡ vs = ap (λ n. drop n ws) ends ∙ sym (drop-drop (pairs es) 1 ws) ∙ l.it in
-        ap₂ (λ us n. record_lead (record_of (checked words_b tree (whole (body_at p us))) p count n)) rest ends
-        ∙ ap (λ n. record_lead (record_of (checked words_b tree (whole (body_at p vs))) p n (1 + pairs es))) (sym h.it)
-        ∙ by_body es p (body_at p vs) tree (body_kind p vs)
+        ap₂ (λ us n. lead_by s count n (checked words_b tree (whole (body_at s us)))) rest ends
+        ∙ ap (λ n. lead_by s n (1 + pairs es) (checked words_b tree (whole (body_at s vs)))) (sym h.it)
+        ∙ by_body es s (body_at s vs) tree (body_kind s vs)
 
-    entries_refused : (n : ℕ) (q : Parsed Consulted) → Refused n ≡ checked pairs 1 q → refuse n ≡ lead_of (whole (next q and_tree))
+    entries_refused : (n : ℕ) (q : Parsed Consulted) → Err n ≡ checked pairs 1 q → refuse n ≡ lead_of (whole (next q and_tree))
     unfolding checked lead_of
     entries_refused n (refuse m) e = let k : n ≡ m = cc in ap refuse k
     entries_refused n (got es vs) e = clash (1 + pairs es) n (sym e)
 
-  -- The lead.
-  lead_by : (j r : ℕ) (vs : List ℕ) → j < 2 → rest (below most) (body_at (eqb (14 + j) 15)) r vs ≡ leads j r vs
+  -- What stands under a lead.
+  under_lead : (s : Status) (r : ℕ) (vs : List ℕ) → rest (below most) (body_at s) r vs ≡ leads (kind_by s - 14) r vs
   unfolding answers.body_at
-  lead_by zero r vs h = refl
-  lead_by (suc zero) r vs h = refl
-  lead_by (suc (suc j)) r vs h = let z : ⊥ = omega arith in absurd z
+  under_lead Resolved r vs = refl
+  under_lead Pending r vs = refl
+
+  leb_kind : (s : Status) → leb 14 (kind_by s) ≡ true
+  leb_kind Resolved = refl
+  leb_kind Pending = refl
 
   module _ (ws : List ℕ) where
     abbrev record_by : Bool → Bool → Parsed (Record Outcome)
@@ -326,22 +325,21 @@ module _ (most : ℕ) where
       abbrev n₁ : ℕ
       n₁ = w₁ % 4096
 
-      module _ (low : 14 ≤ k₁) (fits : w₁ < 4294967296) where
-        known_lead : whole (next (read_list consulted entry_bits n₁ (drop 1 ws)) (and_tree ws (eqb k₁ 15))) ≡ read_record ws
+      module _ (s : Status) (known : k₁ ≡ kind_by s) where
+        known_lead : whole (next (read_list consulted entry_bits n₁ (drop 1 ws)) (and_tree ws s)) ≡ read_record ws
         known_lead =
-            let j : 14 + (k₁ - 14) ≡ k₁ = omega arith in
             let m : n₁ ≡ r₁ % 4096 = omega arith in
-            ap (λ n. whole (next (read_list consulted entry_bits n (drop 1 ws)) (and_tree ws (eqb k₁ 15)))) m
-            ∙ ap (λ k. whole (rest (below most) (body_at (eqb k 15)) r₁ (drop 1 ws))) (sym j)
-            ∙ ap whole (lead_by (k₁ - 14) r₁ (drop 1 ws) (omega arith))
-            ∙ fair_record true (le-leb 14 k₁ low)
+            ap (λ n. whole (next (read_list consulted entry_bits n (drop 1 ws)) (and_tree ws s))) m
+            ∙ ap whole (under_lead s r₁ (drop 1 ws))
+            ∙ ap (λ k. whole (leads (k - 14) r₁ (drop 1 ws))) (sym known)
+            ∙ fair_record true (ap (leb 14) known ∙ leb_kind s)
 
-        pub record_entries : (n : ℕ) → Refused n ≡ checked pairs 1 (read_list consulted entry_bits n₁ (drop 1 ws)) → refuse n ≡ lead_of (read_record ws)
-        record_entries n e = entries_refused ws (eqb k₁ 15) n (read_list consulted entry_bits n₁ (drop 1 ws)) e ∙ ap lead_of known_lead
+        pub record_entries : (n : ℕ) → Err n ≡ checked pairs 1 (read_list consulted entry_bits n₁ (drop 1 ws)) → refuse n ≡ lead_of (read_record ws)
+        record_entries n e = entries_refused ws s n (read_list consulted entry_bits n₁ (drop 1 ws)) e ∙ ap lead_of known_lead
 
-        pub record_tree : (tree : ℕ) (b : Checked) → Next tree ≡ checked pairs 1 (read_list consulted entry_bits n₁ (drop 1 ws)) →
-            b ≡ checked words_b tree (whole (body_at (eqb k₁ 15) (drop tree ws))) → record_lead (record_of b (eqb k₁ 15) n₁ tree) ≡ lead_of (read_record ws)
+        pub record_tree : (tree : ℕ) (b : Result ℕ ℕ) → Ok tree ≡ checked pairs 1 (read_list consulted entry_bits n₁ (drop 1 ws)) →
+            b ≡ checked words_b tree (whole (body_at s (drop tree ws))) → lead_by s n₁ tree b ≡ lead_of (read_record ws)
         record_tree tree b e d =
-            ap (λ x. record_lead (record_of x (eqb k₁ 15) n₁ tree)) d
-            ∙ entries_then ws (eqb k₁ 15) n₁ tree (read_list consulted entry_bits n₁ (drop 1 ws)) (entries_long n₁ (drop 1 ws)) (entries_leave n₁ (drop 1 ws)) e
+            ap (lead_by s n₁ tree) d
+            ∙ entries_then ws s n₁ tree (read_list consulted entry_bits n₁ (drop 1 ws)) (entries_long n₁ (drop 1 ws)) (entries_leave n₁ (drop 1 ws)) e
             ∙ ap lead_of known_lead

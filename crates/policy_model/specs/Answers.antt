@@ -1,5 +1,5 @@
 -- What the checks answer, from what is read of the words. Document 01, "How a request is turned back".
-use Rattle.std.specs.Prelude.{◌≡◌, Bool, true, false, cond, List, [], ℕ, ◌+◌, ◌<◌, ltb, length}
+use Rattle.std.specs.Prelude.{◌≡◌, cond, Result, Ok, Err, List, [], ℕ, ◌+◌, ◌-◌, ◌<◌, ltb, length}
 use Rattle.std.proofs.Math.Option.{Option, none, some}
 use Rattle.model.specs.Partial.{ReducedPolicy, as_residual}
 use Rattle.model.specs.Record.{Record}
@@ -7,54 +7,51 @@ use Rattle.model.specs.Outcome.{below}
 use Rattle.model.specs.Reading.{Parsed, refuse, got, parse14, parse15}
 use Rattle.model.specs.Products.{Outcome, lead_kind}
 use Rattle.laws.specs.Size.{pairs, words}
-use Rattle.policy_model.specs.declared.Checked.{Checked}
-use Rattle.policy_model.specs.declared.Checked.TheVariants.{Next, Refused}
+use Rattle.refusal.specs.declared.Refusal.{Refusal}
+use Rattle.refusal.specs.Numbers.{number_of}
 use Rattle.policy_model.specs.declared.Step.{Step}
 use Rattle.policy_model.specs.declared.Step.TheVariants.{Leaf, Arms}
-use Rattle.policy_model.specs.declared.Step.TheVariants as step
-use Rattle.policy_model.specs.declared.SheetCheck.{SheetCheck}
-use Rattle.policy_model.specs.declared.SheetCheck.TheVariants.{Accepted}
-use Rattle.policy_model.specs.declared.SheetCheck.TheVariants as sheet
-use Rattle.policy_model.specs.declared.RecordCheck.{RecordCheck}
-use Rattle.policy_model.specs.declared.RecordCheck.TheVariants.{Resolved, Pending}
-use Rattle.policy_model.specs.declared.RecordCheck.TheVariants as record-check
+use Rattle.policy_model.specs.declared.Status.{Status}
+use Rattle.policy_model.specs.declared.Status.TheVariants.{Resolved, Pending}
+use Rattle.policy_model.specs.declared.RecordHead.{RecordHead}
 
 -- The position after what was read from `at`, or the refusal. `size` is how many words it takes.
-unfoldable pub checked : {A : Type 0} → (A → ℕ) → ℕ → Parsed A → Checked
-checked size at (refuse n) = Refused n
-checked size at (got a ws) = Next (at + size a)
+unfoldable pub checked : {A : Type 0} → (A → ℕ) → ℕ → Parsed A → Result ℕ ℕ
+checked size at (refuse n) = Err n
+checked size at (got a ws) = Ok (at + size a)
+
+-- What is asked next, unless the check refuses.
+abbrev pub and_then : Result ℕ ℕ → (ℕ → Result ℕ ℕ) → Result ℕ ℕ
+and_then (Err n) k = Err n
+and_then (Ok at) k = k at
+
+-- What is asked of a node at so many levels, and of so many nodes, one after the other: of the first, and then of the others.
+pub record Lists (one : ℕ → ℕ → Result ℕ ℕ) (all : ℕ → ℕ → ℕ → Result ℕ ℕ) : Type 0 where
+  pub first : (d n at : ℕ) → (n ≡ 0 → ⊥) → and_then (one d at) (λ after. all d after (n - 1)) ≡ all d at n
+  pub none : (d n at : ℕ) → n ≡ 0 → Ok at ≡ all d at n
 
 -- What a step says of the node at `at`, with so many levels left: the check goes on after a word or more; it is the check of n arms, a level below; or it refuses.
-abbrev pub Stepped : List ℕ → ℕ → ℕ → Checked → (ℕ → Checked) → Step → Type 0
-Stepped ws at depth asked arms (Leaf after) = (Next after ≡ asked) × (at < length ws) × (at < after)
-Stepped ws at depth asked arms (Arms n) = (arms n ≡ asked) × (at < length ws) × (0 < depth)
-Stepped ws at depth asked arms (step.Refused n) = Refused n ≡ asked
-
--- The check of a whole node, as a step.
-abbrev pub step_of : Checked → Step
-step_of (Next n) = Leaf n
-step_of (Refused n) = step.Refused n
+abbrev pub Stepped : List ℕ → ℕ → ℕ → Result ℕ ℕ → (ℕ → Result ℕ ℕ) → Result Step Refusal → Type 0
+Stepped ws at depth asked arms (Ok (Leaf after)) = (Ok after ≡ asked) × (at < length ws) × (at < after)
+Stepped ws at depth asked arms (Ok (Arms n)) = (arms n ≡ asked) × (at < length ws) × (0 < depth)
+Stepped ws at depth asked arms (Err e) = Err (number_of e) ≡ asked
 
 -- Words after what was checked: 10.
-unfoldable pub at_end : ℕ → Checked → Checked
-at_end length (Refused n) = Refused n
-at_end length (Next n) = cond (ltb n length) (Refused 10) (Next n)
+unfoldable pub at_end : ℕ → Result ℕ ℕ → Result ℕ ℕ
+at_end length (Err n) = Err n
+at_end length (Ok n) = cond (ltb n length) (Err 10) (Ok n)
 
 -- ---- sheets: the number of the refusal, if there is one
 abbrev pub refusal : {A : Type 0} → Parsed A → Option ℕ
 refusal (refuse n) = some n
 refusal (got a ws) = none
 
-abbrev pub sheet_refusal : SheetCheck → Option ℕ
-sheet_refusal Accepted = none
-sheet_refusal (sheet.Refused n) = some n
-
 -- ---- records
 
 -- What stands after the consulted entries, by a number of outcomes: under 15 a residual tree, under 14 one node 12 or 13.
-unfoldable pub body_at : ℕ → Bool → List ℕ → Parsed (ReducedPolicy Outcome)
-body_at most true ws = parse15 (below most) ws
-body_at most false ws = parse14 (below most) ws
+unfoldable pub body_at : ℕ → Status → List ℕ → Parsed (ReducedPolicy Outcome)
+body_at most Pending ws = parse15 (below most) ws
+body_at most Resolved ws = parse14 (below most) ws
 
 abbrev pub words_b : ReducedPolicy Outcome → ℕ
 words_b b = words (as_residual b)
@@ -65,18 +62,15 @@ pub record Lead : Type 0 where
   pub consulted : ℕ
   pub tree : ℕ
 
--- Of a record that was read, and as `RecordCheck` says it: that, or the number of the refusal.
+-- Of a record that was read, and as `check_record` says it: that, or the number of the refusal.
 unfoldable pub lead_of : Parsed (Record Outcome) → Parsed Lead
 lead_of (refuse n) = refuse n
 lead_of (got r ws) = got (record { kind = lead_kind r.body; consulted = length r.log; tree = 1 + pairs r.log }) []
 
-abbrev pub record_lead : RecordCheck → Parsed Lead
-record_lead (Resolved count tree) = got (record { kind = 14; consulted = count; tree = tree }) []
-record_lead (Pending count tree) = got (record { kind = 15; consulted = count; tree = tree }) []
-record_lead (record-check.Refused n) = refuse n
+abbrev pub kind_by : Status → ℕ
+kind_by Resolved = 14
+kind_by Pending = 15
 
--- A record by the check of its tree.
-abbrev pub record_of : Checked → Bool → ℕ → ℕ → RecordCheck
-record_of (Refused n) pending count tree = record-check.Refused n
-record_of (Next n) true count tree = Pending count tree
-record_of (Next n) false count tree = Resolved count tree
+abbrev pub record_lead : Result RecordHead Refusal → Parsed Lead
+record_lead (Ok h) = got (record { kind = kind_by h.status; consulted = h.consulted; tree = h.tree }) []
+record_lead (Err e) = refuse (number_of e)

@@ -1,7 +1,7 @@
 // Policies as words, after gatekeep's policy_model.rs: what one word says, whether words hold a sheet or a record, and how far a tree reaches.
 #![tactic(auto)]
 
-ghost use Rattle.std.specs.Prelude.{◌≡◌, Bool, ℕ, ◌+◌, ◌-◌, ◌%◌, ◌^◌, ◌<◌, ◌≤◌, length, drop, get_or};
+ghost use Rattle.std.specs.Prelude.{◌≡◌, Bool, IfSome, Result, Ok, List, ℕ, ◌+◌, ◌-◌, ◌%◌, ◌^◌, ◌<◌, ◌≤◌, length, drop, get_or};
 ghost use Rattle.model.specs.Fields.{bits, split, words_for};
 ghost use Rattle.model.specs.Outcome.{outcome_bits, below};
 ghost use Rattle.model.specs.Condition.{cnil, ccons};
@@ -14,8 +14,11 @@ ghost use Rattle.laws.specs.Size.{quads, pairs, words_c, words_cs, words_d, word
 ghost use Rattle.policy_model.specs.Heads.{condition_head, deep_condition, permit_head, grant_head, permit_trace_head, deny_trace_head, policy_head, within_most, deep_policy, grant_node, permit_trace_node, deny_trace_node};
 ghost use Rattle.policy_model.specs.Plain.{plain_grant};
 ghost use Rattle.policy_model.specs.Lists.{seen_one, seen_all, entry_fits, pair_fits, mark_fits, marks_fit, checked_pairs};
-ghost use Rattle.policy_model.specs.Answers.{checked, Stepped, step_of, at_end, refusal, sheet_refusal, body_at, words_b, lead_of, record_lead, record_of};
+ghost use Rattle.policy_model.specs.Answers.{checked, Lists, Stepped, at_end, refusal, body_at, words_b, lead_of, record_lead};
+ghost use Rattle.refusal.specs.Numbers.{number_of, by_number, refused};
 ghost use Rattle.policy_model.specs.Span.{arms_of, own_of, span, Skipped, SkippedConditions};
+
+use refusal::Refusal;
 
 // ---- the format: kinds, fields and limits
 
@@ -416,72 +419,50 @@ pub fn plain_grant(words: &[u32], at: usize) -> bool
     words[at + 2] / FACTS == HAS
 }
 
-// What a check finds: the position after what was checked, or the number of the refusal.
-#[derive(Drop)]
-enum Checked {
-    Next(usize),
-    Refused(u32),
-}
-
-// A list of obligations as far as it is checked: how many are to come.
-#[derive(Drop)]
-enum Obligations {
-    Left(u32),
-    Refused(u32),
-}
-
-// One more field of the list. After the last obligation a field must be 0.
-fn with_field(seen: Obligations, field: u32) -> Obligations
-    ensures { result ≡ seen_one seen field }
+// One more field of a list of obligations, of which `left` are to come: how many are, after it. After the last obligation a field must be 0.
+#[tactic(auto, unfolding(crate::specs::Lists::seen_one))]
+fn with_field(left: u32, field: u32) -> Result<u32, Refusal>
+    ensures { by_number result ≡ seen_one (Ok left) field }
 {
-    match seen {
-        Obligations::Refused(number) => Obligations::Refused(number),
-        Obligations::Left(left) => {
-            if left == 0 {
-                return if field == 0 {
-                    Obligations::Left(left)
-                } else {
-                    Obligations::Refused(8)
-                };
-            }
-            if field >= OBLIGATION_NUMBERS {
-                return Obligations::Refused(8);
-            }
-            let more = left - 1;
-            Obligations::Left(more)
-        }
+    if left == 0 {
+        return if field == 0 {
+            Ok(0)
+        } else {
+            Err(Refusal::Field)
+        };
+    }
+    if field < OBLIGATION_NUMBERS {
+        Ok(left - 1)
+    } else {
+        Err(Refusal::Field)
     }
 }
 
 // The four fields of a word, from the left.
-fn with_word(seen: Obligations, word: u32) -> Obligations
-    ensures { result ≡ seen_all seen (split obligation_bits 4 word) }
+fn with_word(left: u32, word: u32) -> Result<u32, Refusal>
+    ensures { by_number result ≡ seen_all (Ok left) (split obligation_bits 4 word) }
 {
-    let first = with_field(seen, word / THREE_QUARTERS);
-    let second = with_field(first, word % THREE_QUARTERS / HALF);
-    let third = with_field(second, word % HALF / QUARTER);
+    let first = with_field(left, word / THREE_QUARTERS)?;
+    let second = with_field(first, word % THREE_QUARTERS / HALF)?;
+    let third = with_field(second, word % HALF / QUARTER)?;
     with_field(third, word % QUARTER)
 }
 
 // Checks a list of `count` obligations from `at`.
-fn check_obligations(words: &[u32], at: usize, count: u32) -> Checked
-    ensures { result ≡ checked quads at (read_list obligation obligation_bits count (drop at words.now)) }
+fn check_obligations(words: &[u32], at: usize, count: u32) -> Result<usize, Refusal>
+    ensures { by_number result ≡ checked quads at (read_list obligation obligation_bits count (drop at words.now)) }
 {
     let mut next = at;
     let mut left = count;
+    // by the count, since the words may end before the list: a `for` over either is no plainer
     while left != 0 {
         if words.len() <= next {
-            return Checked::Refused(6);
+            return Err(Refusal::WordsEnd);
         }
-        match with_word(Obligations::Left(left), words[next]) {
-            Obligations::Left(more) => {
-                left = more;
-                next += 1;
-            }
-            Obligations::Refused(number) => return Checked::Refused(number),
-        }
+        left = with_word(left, words[next])?;
+        next += 1;
     }
-    Checked::Next(next)
+    Ok(next)
 }
 
 // Whether a field is an entry whose presence is below `presences`: presence (2), zero (4), fact (10).
@@ -510,37 +491,38 @@ fn pair_fits(word: u32, left: u32, presences: u32) -> bool
 }
 
 // Checks a list of `count` such entries from `at`, two a word.
-fn check_pairs(words: &[u32], at: usize, count: u32, presences: u32) -> Checked
-    ensures { result ≡ checked_pairs presences at (drop at words.now) count }
+fn check_pairs(words: &[u32], at: usize, count: u32, presences: u32) -> Result<usize, Refusal>
+    ensures { by_number result ≡ checked_pairs presences at (drop at words.now) count }
 {
     let mut next = at;
     let mut left = count;
+    // by the count, as in `check_obligations`
     while left != 0 {
         if words.len() <= next {
-            return Checked::Refused(6);
+            return Err(Refusal::WordsEnd);
         }
         if !pair_fits(words[next], left, presences) {
-            return Checked::Refused(8);
+            return Err(Refusal::Field);
         }
         next += 1;
         if left == 1 {
-            return Checked::Next(next);
+            return Ok(next);
         }
         left -= 2;
     }
-    Checked::Next(next)
+    Ok(next)
 }
 
 // Checks a list of `count` facts from `at`: entries with presence 0.
-fn check_facts(words: &[u32], at: usize, count: u32) -> Checked
-    ensures { result ≡ checked pairs at (read_list listed entry_bits count (drop at words.now)) }
+fn check_facts(words: &[u32], at: usize, count: u32) -> Result<usize, Refusal>
+    ensures { by_number result ≡ checked pairs at (read_list listed entry_bits count (drop at words.now)) }
 {
     check_pairs(words, at, count, 1)
 }
 
-// Checks a list of `count` consulted entries from `at`.
-fn check_entries(words: &[u32], at: usize, count: u32) -> Checked
-    ensures { result ≡ checked pairs at (read_list consulted entry_bits count (drop at words.now)) }
+// Checks a list of `count` consulted entries from `at`. Not one function with `check_facts`: that is `check_pairs`, and each has its own reading to answer for.
+fn check_entries(words: &[u32], at: usize, count: u32) -> Result<usize, Refusal>
+    ensures { by_number result ≡ checked pairs at (read_list consulted entry_bits count (drop at words.now)) }
 {
     check_pairs(words, at, count, facts::PRESENCES)
 }
@@ -567,57 +549,67 @@ fn marks_fit(word: u32) -> bool
 }
 
 // The refusal of a condition below the last level.
-fn deep_condition(head: ConditionHead) -> u32
-    ensures { result ≡ deep_condition head }
+fn deep_condition(head: ConditionHead) -> Refusal
+    ensures { number_of result ≡ deep_condition head }
 {
     match head {
-        ConditionHead::Always => 7,
-        ConditionHead::Never => 7,
-        ConditionHead::Has(_) => 7,
-        ConditionHead::Not => 7,
-        ConditionHead::All(_) => 7,
-        ConditionHead::Any(_) => 7,
-        ConditionHead::BadKind => 5,
-        ConditionHead::BadField => 7,
+        ConditionHead::BadKind => Refusal::Kind,
+        _ => Refusal::Level,
     }
 }
 
-// What a check finds at one node: the position after it, how many arms follow its first word, or the number of the refusal.
+// What a check finds at one node: the position after it, or how many arms follow its first word.
 #[derive(Drop)]
 enum Step {
     Leaf(usize),
     Arms(u32),
-    Refused(u32),
 }
 
 // Checks the condition at `at` up to its arms.
-fn condition_step(words: &[u32], at: usize, depth: usize) -> Step
+fn condition_step(words: &[u32], at: usize, depth: usize) -> Result<Step, Refusal>
     ensures { Stepped words.now at depth (checked words_c at (read_condition depth (drop at words.now))) (λ n. checked words_cs (at + 1) (many cnil ccons (read_condition (depth - 1)) n (drop (at + 1) words.now))) result }
 {
     if words.len() <= at {
-        return Step::Refused(6);
+        return Err(Refusal::WordsEnd);
     }
     if depth == 0 {
-        return Step::Refused(deep_condition(condition_head(words[at])));
+        return Err(deep_condition(condition_head(words[at])));
     }
     let head = condition_head(words[at]);
     match head {
-        ConditionHead::Always => Step::Leaf(at + 1),
-        ConditionHead::Never => Step::Leaf(at + 1),
-        ConditionHead::Has(_) => Step::Leaf(at + 1),
-        ConditionHead::Not => Step::Arms(1),
-        ConditionHead::All(count) => Step::Arms(count),
-        ConditionHead::Any(count) => Step::Arms(count),
-        ConditionHead::BadKind => Step::Refused(5),
-        ConditionHead::BadField => Step::Refused(8),
+        ConditionHead::Always => Ok(Step::Leaf(at + 1)),
+        ConditionHead::Never => Ok(Step::Leaf(at + 1)),
+        ConditionHead::Has(_) => Ok(Step::Leaf(at + 1)),
+        ConditionHead::Not => Ok(Step::Arms(1)),
+        ConditionHead::All(count) => Ok(Step::Arms(count)),
+        ConditionHead::Any(count) => Ok(Step::Arms(count)),
+        ConditionHead::BadKind => Err(Refusal::Kind),
+        ConditionHead::BadField => Err(Refusal::Field),
     }
 }
 
-// Checks the condition at `at`, of at most `depth` levels. One loop, since a call for each level costs more than the level itself: `left` nodes are due at `level`,
+// Trees that are checked node by node: conditions, and policies.
+trait Tree {
+    // the words; what is asked of the node at a position, with so many levels left; and of so many nodes from there on
+    ghost words: { Self → List ℕ };
+
+    ghost one: { Self → ℕ → ℕ → Result ℕ ℕ };
+
+    ghost all: { Self → ℕ → ℕ → ℕ → Result ℕ ℕ };
+
+    // Checks the node at `at` up to its arms.
+    fn step(&self, at: usize, depth: usize) -> Result<Step, Refusal>
+        requires { depth ≤ levels }
+        ensures { Stepped (words self.now) at depth (one self.now depth at) (λ n. all self.now (depth - 1) (at + 1) n) result };
+}
+
+// Checks the tree at `at`, of at most `depth` levels. One loop, since a call for each level costs more than the level itself: `left` nodes are due at `level`,
 // and `above` says how many are due at each level above it.
-fn check_condition(words: &[u32], at: usize, depth: usize) -> Checked
-    requires { depth ≤ levels }
-    ensures { result ≡ checked words_c at (read_condition depth (drop at words.now)) }
+fn check_tree<T: Tree>(tree: &T, at: usize, depth: usize) -> Result<usize, Refusal>
+    requires few { depth ≤ levels }
+    requires counted { length (T.words tree.now) < 2 ^ 64 }
+    requires lists { Lists (T.one tree.now) (T.all tree.now) }
+    ensures { by_number result ≡ T.one tree.now depth at }
 {
     let mut above = [0u32; LEVELS];
     let mut level = 0;
@@ -626,13 +618,13 @@ fn check_condition(words: &[u32], at: usize, depth: usize) -> Checked
     loop {
         if left == 0 {
             if level == 0 {
-                return Checked::Next(next);
+                return Ok(next);
             }
             level -= 1;
             left = above[level];
             continue;
         }
-        match condition_step(words, next, depth - level) {
+        match tree.step(next, depth - level)? {
             Step::Leaf(after) => {
                 next = after;
                 left -= 1;
@@ -643,20 +635,45 @@ fn check_condition(words: &[u32], at: usize, depth: usize) -> Checked
                 next += 1;
                 left = count;
             }
-            Step::Refused(number) => return Checked::Refused(number),
         }
     }
 }
 
-// Checks a Grant's condition as `check_condition` does. A Has, the commonest, is seen here, with no array to fill.
-fn check_grant_condition(words: &[u32], at: usize, depth: usize) -> Checked
+// Conditions as trees.
+#[derive(Clone, Copy)]
+struct ConditionTree<'a> {
+    words: &'a [u32],
+}
+
+impl<'a> Tree for ConditionTree<'a> {
+    ghost words = { λ x. x.words.now };
+
+    ghost one = { λ x depth at. checked words_c at (read_condition depth (drop at x.words.now)) };
+
+    ghost all = { λ x depth at n. checked words_cs at (many cnil ccons (read_condition depth) n (drop at x.words.now)) };
+
+    fn step(&self, at: usize, depth: usize) -> Result<Step, Refusal> {
+        condition_step(self.words, at, depth)
+    }
+}
+
+// Checks the condition at `at`, of at most `depth` levels.
+fn check_condition(words: &[u32], at: usize, depth: usize) -> Result<usize, Refusal>
     requires { depth ≤ levels }
-    ensures { result ≡ checked words_c at (read_condition depth (drop at words.now)) }
+    ensures { by_number result ≡ checked words_c at (read_condition depth (drop at words.now)) }
+{
+    check_tree(&ConditionTree { words }, at, depth)
+}
+
+// Checks a Grant's condition as `check_condition` does. A Has, the commonest, is seen here, with no array to fill.
+fn check_grant_condition(words: &[u32], at: usize, depth: usize) -> Result<usize, Refusal>
+    requires { depth ≤ levels }
+    ensures { by_number result ≡ checked words_c at (read_condition depth (drop at words.now)) }
 {
     if depth != 0 {
         if at < words.len() {
             if words[at] / FACTS == HAS {
-                return Checked::Next(at + 1);
+                return Ok(at + 1);
             }
         }
     }
@@ -664,105 +681,72 @@ fn check_grant_condition(words: &[u32], at: usize, depth: usize) -> Checked
 }
 
 // Checks what follows the first word of a Grant at `at`: label and reason, `obligations`, and one condition of at most `depth` levels.
-fn check_grant(words: &[u32], at: usize, depth: usize, obligations: u32) -> Checked
+fn check_grant(words: &[u32], at: usize, depth: usize, obligations: u32) -> Result<usize, Refusal>
     requires at_in_bounds { at < length words.now }
     requires depth_le_levels { depth ≤ levels }
-    ensures { (hidden : Bool) (outcome : ℕ) → result ≡ checked words_t at (grant_node (read_condition depth) hidden obligations outcome (drop (at + 1) words.now)) }
+    ensures { (hidden : Bool) (outcome : ℕ) → by_number result ≡ checked words_t at (grant_node (read_condition depth) hidden obligations outcome (drop (at + 1) words.now)) }
 {
     let second = at + 1;
     if words.len() <= second {
-        return Checked::Refused(6);
+        return Err(Refusal::WordsEnd);
     }
     if !marks_fit(words[second]) {
-        return Checked::Refused(8);
+        return Err(Refusal::Field);
     }
-    match check_obligations(words, second + 1, obligations) {
-        Checked::Next(next) => check_grant_condition(words, next, depth),
-        Checked::Refused(number) => Checked::Refused(number),
-    }
+    let next = check_obligations(words, second + 1, obligations)?;
+    check_grant_condition(words, next, depth)
 }
 
 // Checks what follows the first word of a PermitWithTrace at `at`: label and count of facts, `obligations`, facts.
-fn check_permit_with_trace(words: &[u32], at: usize, obligations: u32) -> Checked
+fn check_permit_with_trace(words: &[u32], at: usize, obligations: u32) -> Result<usize, Refusal>
     requires { at < length words.now }
-    ensures { (outcome : ℕ) → result ≡ checked words_d at (permit_trace_node obligations outcome (drop (at + 1) words.now)) }
+    ensures { (outcome : ℕ) → by_number result ≡ checked words_d at (permit_trace_node obligations outcome (drop (at + 1) words.now)) }
 {
     let second = at + 1;
     if words.len() <= second {
-        return Checked::Refused(6);
+        return Err(Refusal::WordsEnd);
     }
     if !mark_fits(words[second] / HALF) {
-        return Checked::Refused(8);
+        return Err(Refusal::Field);
     }
     let facts = words[second] % HALF;
     if facts >= COUNTS {
-        return Checked::Refused(8);
+        return Err(Refusal::Field);
     }
-    match check_obligations(words, second + 1, obligations) {
-        Checked::Next(next) => check_facts(words, next, facts),
-        Checked::Refused(number) => Checked::Refused(number),
-    }
+    let next = check_obligations(words, second + 1, obligations)?;
+    check_facts(words, next, facts)
 }
 
 // Checks what follows the first word of a DenyWithTrace at `at`: label and reason, count of facts, facts.
-fn check_deny_with_trace(words: &[u32], at: usize) -> Checked
+fn check_deny_with_trace(words: &[u32], at: usize) -> Result<usize, Refusal>
     requires { at < length words.now }
-    ensures { (hidden denied : Bool) (outcome : ℕ) → result ≡ checked words_d at (deny_trace_node hidden denied outcome (drop (at + 1) words.now)) }
+    ensures { (hidden denied : Bool) (outcome : ℕ) → by_number result ≡ checked words_d at (deny_trace_node hidden denied outcome (drop (at + 1) words.now)) }
 {
     let second = at + 1;
     if words.len() <= second {
-        return Checked::Refused(6);
+        return Err(Refusal::WordsEnd);
     }
     if !marks_fit(words[second]) {
-        return Checked::Refused(8);
+        return Err(Refusal::Field);
     }
     let third = second + 1;
     if words.len() <= third {
-        return Checked::Refused(6);
+        return Err(Refusal::WordsEnd);
     }
     let facts = words[third];
     if facts >= COUNTS {
-        return Checked::Refused(8);
+        return Err(Refusal::Field);
     }
     check_facts(words, third + 1, facts)
 }
 
 // The refusal of a policy below the last level.
-fn deep_policy(head: PolicyHead) -> u32
-    ensures { result ≡ deep_policy head }
+fn deep_policy(head: PolicyHead) -> Refusal
+    ensures { number_of result ≡ deep_policy head }
 {
     match head {
-        PolicyHead::Permit(_) => 7,
-        PolicyHead::Deny => 7,
-        PolicyHead::Grant {
-            hidden: _,
-            obligations: _,
-            outcome: _,
-        } => 7,
-        PolicyHead::All(_) => 7,
-        PolicyHead::Any(_) => 7,
-        PolicyHead::OrElse => 7,
-        PolicyHead::PermitWithTrace {
-            obligations: _,
-            outcome: _,
-        } => 7,
-        PolicyHead::DenyWithTrace {
-            hidden: _,
-            denied: _,
-            outcome: _,
-        } => 7,
-        PolicyHead::BadKind => 5,
-        PolicyHead::BadField => 7,
-    }
-}
-
-// The check of a whole node, as a step.
-fn step_of(found: Checked) -> Step
-    ensures { result ≡ step_of found }
-{
-    match found {
-        Checked::Next(next) => Step::Leaf(next),
-        Checked::Refused(number) => Step::Refused(number),
+        PolicyHead::BadKind => Refusal::Kind,
+        _ => Refusal::Level,
     }
 }
 
@@ -773,22 +757,15 @@ fn within(head: PolicyHead, most: u32) -> bool
     match head {
         PolicyHead::Permit(outcome) => (outcome as u32) < most,
         PolicyHead::Deny => true,
-        PolicyHead::Grant {
-            hidden: _,
-            obligations: _,
-            outcome,
-        } => (outcome as u32) < most,
+        PolicyHead::Grant { outcome, .. } => (outcome as u32) < most,
         PolicyHead::All(_) => true,
         PolicyHead::Any(_) => true,
         PolicyHead::OrElse => true,
-        PolicyHead::PermitWithTrace {
-            obligations: _,
-            outcome,
-        } => (outcome as u32) < most,
+        PolicyHead::PermitWithTrace { outcome, .. } => (outcome as u32) < most,
         PolicyHead::DenyWithTrace {
-            hidden: _,
             denied,
             outcome,
+            ..
         } => if denied {
             (outcome as u32) < most
         } else {
@@ -800,223 +777,206 @@ fn within(head: PolicyHead, most: u32) -> bool
 }
 
 // Checks the policy at `at` up to its arms. A Grant's condition is no arm.
-fn policy_step(words: &[u32], at: usize, depth: usize, residual: bool, most: u32) -> Step
+fn policy_step(
+    words: &[u32],
+    at: usize,
+    depth: usize,
+    residual: bool,
+    most: u32,
+) -> Result<Step, Refusal>
     requires { depth ≤ levels }
     ensures { Stepped words.now at depth (checked words_t at (reading.read_policy (below most) residual depth (drop at words.now))) (λ n. checked words_ts (at + 1) (many pnil pcons (reading.read_policy (below most) residual (depth - 1)) n (drop (at + 1) words.now))) result }
 {
     if words.len() <= at {
-        return Step::Refused(6);
+        return Err(Refusal::WordsEnd);
     }
     if depth == 0 {
-        return Step::Refused(deep_policy(head_by_kind(words[at], residual)));
+        return Err(deep_policy(head_by_kind(words[at], residual)));
     }
     let head = policy_head(words[at], residual);
     if !within(head, most) {
-        return Step::Refused(8);
+        return Err(Refusal::Field);
     }
     match head {
-        PolicyHead::Permit(_) => Step::Leaf(at + 1),
-        PolicyHead::Deny => Step::Leaf(at + 1),
-        PolicyHead::Grant {
-            hidden: _,
-            obligations,
-            outcome: _,
-        } => step_of(check_grant(words, at, depth - 1, obligations)),
-        PolicyHead::All(count) => Step::Arms(count),
-        PolicyHead::Any(count) => Step::Arms(count),
-        PolicyHead::OrElse => Step::Arms(2),
-        PolicyHead::PermitWithTrace {
-            obligations,
-            outcome: _,
-        } => step_of(check_permit_with_trace(words, at, obligations)),
-        PolicyHead::DenyWithTrace {
-            hidden: _,
-            denied: _,
-            outcome: _,
-        } => step_of(check_deny_with_trace(words, at)),
-        PolicyHead::BadKind => Step::Refused(5),
-        PolicyHead::BadField => Step::Refused(8),
+        PolicyHead::Permit(_) => Ok(Step::Leaf(at + 1)),
+        PolicyHead::Deny => Ok(Step::Leaf(at + 1)),
+        PolicyHead::Grant { obligations, .. } => {
+            let after = check_grant(words, at, depth - 1, obligations)?;
+            Ok(Step::Leaf(after))
+        }
+        PolicyHead::All(count) => Ok(Step::Arms(count)),
+        PolicyHead::Any(count) => Ok(Step::Arms(count)),
+        PolicyHead::OrElse => Ok(Step::Arms(2)),
+        PolicyHead::PermitWithTrace { obligations, .. } => {
+            let after = check_permit_with_trace(words, at, obligations)?;
+            Ok(Step::Leaf(after))
+        }
+        PolicyHead::DenyWithTrace { .. } => {
+            let after = check_deny_with_trace(words, at)?;
+            Ok(Step::Leaf(after))
+        }
+        PolicyHead::BadKind => Err(Refusal::Kind),
+        PolicyHead::BadField => Err(Refusal::Field),
     }
 }
 
-// The words of the policy at `at`, of at most `depth` levels, if it is a Permit or a plain grant, the commonest; 0 if it is another. So these are passed with no step.
-fn short_policy(words: &[u32], at: usize, depth: usize, most: u32) -> usize
-    ensures { (result ≡ 0 → ⊥) → (at + result ≤ length words.now) × ((residual : Bool) → Checked.Next (at + result) ≡ checked words_t at (reading.read_policy (below most) residual depth (drop at words.now))) }
+// The words of the policy at `at`, of at most `depth` levels, if it is a Permit or a plain grant, the commonest. So these are passed with no step.
+fn short_policy(words: &[u32], at: usize, depth: usize, most: u32) -> Option<usize>
+    ensures { IfSome result (λ n. (0 < n) × (at + n ≤ length words.now) × ((residual : Bool) → Ok (at + n) ≡ checked words_t at (reading.read_policy (below most) residual depth (drop at words.now)))) }
 {
     if words.len() <= at {
-        return 0;
+        return None;
     }
     if words[at] / HALF == PERMIT {
         if words[at] % HALF >= most {
-            return 0;
+            return None;
         }
-        return if depth == 0 { 0 } else { 1 };
+        return if depth == 0 { None } else { Some(1) };
     }
     if depth < 2 {
-        return 0;
+        return None;
     }
     if plain_grant(words, at) {
-        if words[at] % HALF < most { 3 } else { 0 }
+        if words[at] % HALF < most {
+            Some(3)
+        } else {
+            None
+        }
     } else {
-        0
+        None
     }
 }
 
-// Checks the policy at `at`, of at most `depth` levels, its conditions among them, in one loop as `check_condition` does.
-fn check_policy(words: &[u32], at: usize, depth: usize, residual: bool, most: u32) -> Checked
+// Policies as trees, of a residual or of a sheet, by a number of outcomes. A Grant's condition is no arm.
+#[derive(Clone, Copy)]
+struct PolicyTree<'a> {
+    words: &'a [u32],
+    residual: bool,
+    most: u32,
+}
+
+impl<'a> Tree for PolicyTree<'a> {
+    ghost words = { λ x. x.words.now };
+
+    ghost one = { λ x depth at. checked words_t at (reading.read_policy (below x.most) x.residual depth (drop at x.words.now)) };
+
+    ghost all = { λ x depth at n. checked words_ts at (many pnil pcons (reading.read_policy (below x.most) x.residual depth) n (drop at x.words.now)) };
+
+    fn step(&self, at: usize, depth: usize) -> Result<Step, Refusal> {
+        if let Some(short) = short_policy(self.words, at, depth, self.most) {
+            return Ok(Step::Leaf(at + short));
+        }
+        policy_step(self.words, at, depth, self.residual, self.most)
+    }
+}
+
+// Checks the policy at `at`, of at most `depth` levels, its conditions among them.
+fn check_policy(
+    words: &[u32],
+    at: usize,
+    depth: usize,
+    residual: bool,
+    most: u32,
+) -> Result<usize, Refusal>
     requires { depth ≤ levels }
-    ensures { result ≡ checked words_t at (reading.read_policy (below most) residual depth (drop at words.now)) }
+    ensures { by_number result ≡ checked words_t at (reading.read_policy (below most) residual depth (drop at words.now)) }
 {
-    let mut above = [0u32; LEVELS];
-    let mut level = 0;
-    let mut left: u32 = 1;
-    let mut next = at;
-    loop {
-        if left == 0 {
-            if level == 0 {
-                return Checked::Next(next);
-            }
-            level -= 1;
-            left = above[level];
-            continue;
-        }
-        let short = short_policy(words, next, depth - level, most);
-        if short != 0 {
-            next += short;
-            left -= 1;
-            continue;
-        }
-        match policy_step(words, next, depth - level, residual, most) {
-            Step::Leaf(after) => {
-                next = after;
-                left -= 1;
-            }
-            Step::Arms(count) => {
-                above[level] = left - 1;
-                level += 1;
-                next += 1;
-                left = count;
-            }
-            Step::Refused(number) => return Checked::Refused(number),
-        }
-    }
-}
-
-// Whether words hold a sheet, or the number of the refusal.
-#[derive(Drop)]
-pub enum SheetCheck {
-    Accepted,
-    Refused(u32),
-}
-
-// Whether words hold a record, Resolved or Pending, with the consulted count and the position where the tree begins; or the number of the refusal.
-#[derive(Drop)]
-pub enum RecordCheck {
-    Resolved { consulted: u32, tree: usize },
-    Pending { consulted: u32, tree: usize },
-    Refused(u32),
+    let tree = PolicyTree {
+        words,
+        residual,
+        most,
+    };
+    check_tree(&tree, at, depth)
 }
 
 // Nothing may stand after what was checked.
-fn to_the_end(found: Checked, length: usize) -> Checked
-    ensures { result ≡ at_end length found }
+#[tactic(auto, unfolding(crate::specs::Answers::at_end))]
+fn to_the_end(next: usize, length: usize) -> Result<usize, Refusal>
+    ensures { by_number result ≡ at_end length (Ok next) }
 {
-    match found {
-        Checked::Next(next) => if next < length {
-            Checked::Refused(10)
-        } else {
-            Checked::Next(next)
-        },
-        Checked::Refused(number) => Checked::Refused(number),
+    if next < length {
+        Err(Refusal::WordsAfterTree)
+    } else {
+        Ok(next)
     }
 }
 
 // Checks a sheet: 1 to 4,096 words, one tree of at most 32 levels.
-pub fn check_sheet(words: &[u32], most: u32) -> SheetCheck
-    ensures { sheet_refusal result ≡ refusal (reading.read_sheet (below most) words.now) }
+pub fn check_sheet(words: &[u32], most: u32) -> Result<(), Refusal>
+    ensures { refused result ≡ refusal (reading.read_sheet (below most) words.now) }
 {
     if words.len() == 0 {
-        return SheetCheck::Refused(1);
+        return Err(Refusal::Length);
     }
     if words.len() > SHEET_WORDS {
-        return SheetCheck::Refused(1);
+        return Err(Refusal::Length);
     }
-    match to_the_end(check_policy(words, 0, LEVELS, false, most), words.len()) {
-        Checked::Next(_) => SheetCheck::Accepted,
-        Checked::Refused(number) => SheetCheck::Refused(number),
-    }
+    let next = check_policy(words, 0, LEVELS, false, most)?;
+    to_the_end(next, words.len())?;
+    Ok(())
 }
 
 // Checks the tree of a Resolved record: one node 12 or 13.
-fn check_resolved(words: &[u32], at: usize, most: u32) -> Checked
-    ensures { result ≡ checked words_b at (reading.parse14 (below most) (drop at words.now)) }
+fn check_resolved(words: &[u32], at: usize, most: u32) -> Result<usize, Refusal>
+    ensures { by_number result ≡ checked words_b at (reading.parse14 (below most) (drop at words.now)) }
 {
     if words.len() <= at {
-        return Checked::Refused(6);
+        return Err(Refusal::WordsEnd);
     }
     if words[at] / KIND < KIND_PERMIT_WITH_TRACE {
-        return Checked::Refused(5);
+        return Err(Refusal::Kind);
     }
     check_policy(words, at, 1, true, most)
 }
 
-// Checks the tree of a record, to the last word.
-fn check_body(words: &[u32], at: usize, pending: bool, most: u32) -> Checked
-    ensures { result ≡ checked words_b at (whole (body_at most pending (drop at words.now))) }
-{
-    if pending {
-        to_the_end(check_policy(words, at, LEVELS, true, most), words.len())
-    } else {
-        to_the_end(check_resolved(words, at, most), words.len())
-    }
+// Whether a record is decided.
+#[derive(Clone, Copy)]
+pub enum Status {
+    Resolved,
+    Pending,
 }
 
-// A record by the check of its tree.
-fn record_of(body: Checked, pending: bool, count: u32, tree: usize) -> RecordCheck
-    ensures { result ≡ record_of body pending count tree }
+// A record's lead, and the position where its tree begins.
+#[derive(Clone, Copy)]
+pub struct RecordHead {
+    pub status: Status,
+    pub consulted: u32,
+    pub tree: usize,
+}
+
+// Checks the tree of a record, to the last word.
+fn check_body(words: &[u32], at: usize, status: Status, most: u32) -> Result<usize, Refusal>
+    ensures { by_number result ≡ checked words_b at (whole (body_at most status (drop at words.now))) }
 {
-    match body {
-        Checked::Next(_) => {
-            if pending {
-                RecordCheck::Pending {
-                    consulted: count,
-                    tree,
-                }
-            } else {
-                RecordCheck::Resolved {
-                    consulted: count,
-                    tree,
-                }
-            }
-        }
-        Checked::Refused(number) => RecordCheck::Refused(number),
+    match status {
+        Status::Resolved => to_the_end(check_resolved(words, at, most)?, words.len()),
+        Status::Pending => to_the_end(check_policy(words, at, LEVELS, true, most)?, words.len()),
     }
 }
 
 // Checks a record: 1 to 16,384 words; the lead, the consulted entries, one residual tree of at most 32 levels.
-pub fn check_record(words: &[u32], most: u32) -> RecordCheck
+pub fn check_record(words: &[u32], most: u32) -> Result<RecordHead, Refusal>
     ensures { record_lead result ≡ lead_of (reading.read_record (below most) words.now) }
 {
     if words.len() == 0 {
-        return RecordCheck::Refused(1);
+        return Err(Refusal::Length);
     }
     if words.len() > RECORD_WORDS {
-        return RecordCheck::Refused(1);
+        return Err(Refusal::Length);
     }
-    let kind = words[0] / KIND;
-    if kind < KIND_RESOLVED {
-        return RecordCheck::Refused(5);
-    }
-    let count = words[0] % COUNTS;
-    match check_entries(words, 1, count) {
-        Checked::Next(tree) => record_of(
-            check_body(words, tree, kind == KIND_PENDING, most),
-            kind == KIND_PENDING,
-            count,
-            tree,
-        ),
-        Checked::Refused(number) => RecordCheck::Refused(number),
-    }
+    let status = match words[0] / KIND {
+        KIND_RESOLVED => Status::Resolved,
+        KIND_PENDING => Status::Pending,
+        _ => return Err(Refusal::Kind),
+    };
+    let consulted = words[0] % COUNTS;
+    let tree = check_entries(words, 1, consulted)?;
+    check_body(words, tree, status, most)?;
+    Ok(RecordHead {
+        status,
+        consulted,
+        tree,
+    })
 }
 
 // The number of a record's sheet, in its lead; 0 where there is no word.
@@ -1088,6 +1048,7 @@ fn skip_nodes(words: &[u32], at: usize, count: u32) -> usize
     }
     let mut next = at;
     let mut nodes = count as usize;
+    // by the nodes that are open, since each says how far it reaches: a `for` is no plainer
     while nodes != 0 {
         if words.len() - next <= nodes {
             return words.len();
@@ -1108,7 +1069,7 @@ pub fn skip_conditions(words: &[u32], at: usize, count: u32) -> usize
     skip_nodes(words, at, count)
 }
 
-// The position after `count` policies from `at` that read there.
+// The position after `count` policies from `at` that read there. Not one function with `skip_conditions`: both are `skip_nodes`, each with its own reading.
 pub fn skip_policies(words: &[u32], at: usize, count: u32) -> usize
     requires { length words.now ≤ record_words }
     ensures { (depth : ℕ) (residual : Bool) → Skipped words_ts at (many pnil pcons (read_policy residual depth) count (drop at words.now)) result }

@@ -1,4 +1,5 @@
 -- The answers, from the check of a record and from what is said of its tree. Assumes nothing.
+use Rattle.std.specs.Prelude.{Result, Ok, Err, IsErrAnd}
 use mathlib.Core.Path.{◌≡◌, refl, sym, ◌∙◌, ap, subst}
 use mathlib.Core.Bool.{Bool, true, false, ◌||◌, ◌&&◌}
 use mathlib.Core.List.{List, []}
@@ -21,13 +22,11 @@ use Rattle.laws.specs.Size.{pairs}
 use Rattle.laws.specs.Numbers.{Numbered}
 use Rattle.laws.proofs.NumberLaws.{record_numbered}
 use Rattle.policy_model.specs.Answers.{lead_of}
-use Rattle.policy_model.proofs.Checking.{word_at, no_word}
+use Rattle.policy_model.proofs.Checking.{word_at, no_word, passed_on}
 use Rattle.policy_model.proofs.Records.{TreeRead, record_parts, lead_is_lem}
-use Rattle.questions.specs.declared.Told.TheVariants.{Says, Refused}
-use Rattle.questions.specs.declared.Place.{Place}
-use Rattle.questions.specs.declared.Place.TheVariants.{At}
-use Rattle.questions.specs.declared.Place.TheVariants as place
-use Rattle.questions.specs.Nodes.{kind_at}
+use Rattle.refusal.specs.declared.Refusal.{Refusal}
+use Rattle.refusal.specs.Numbers.{number_of, by_number}
+use Rattle.questions.specs.Nodes.{kind_at, one_of}
 use Rattle.questions.specs.Answers.{told_of, Stands, SomeTree, Found}
 use Rattle.questions.proofs.Nodes.{held, nothing_reads, node_holds}
 
@@ -52,45 +51,46 @@ module _ (ws : List ℕ) where
   tree_stands at (resolved d) h e = record { depth = 1; reads = e; few = h }
   tree_stands at (pending t) h e = record { depth = 32; reads = e; few = h }
 
-  found : (at : ℕ) (r : Record Outcome) (vs : List ℕ) → Stands ws at (tree r) → Found ws (got r vs) (At at)
+  found : (at : ℕ) (r : Record Outcome) (vs : List ℕ) → Stands ws at (tree r) → Found ws (got r vs) (Ok at)
   unfolding Found
   found at r vs s = s
 
-  pub at_tree : (kind count at : ℕ) → got (record { kind = kind; consulted = count; tree = at }) [] ≡ lead_of read → Found ws read (At at)
+  pub at_tree : (kind count at : ℕ) → got (record { kind = kind; consulted = count; tree = at }) [] ≡ lead_of read → Found ws read (Ok at)
   at_tree kind count at e =
       lead_is_lem read (record { kind = kind; consulted = count; tree = at }) e (λ r vs g k l p.
       let us : drop (pairs r.log) (drop 1 ws) ≡ drop at ws = drop-drop (pairs r.log) 1 ws ∙ ap (λ n. drop n ws) (sym p) in
-      subst (λ q. Found ws q (At at)) (sym g) (found at r vs (tree_stands at r.body (held short g) (subst (λ x. TreeRead r.body x []) us (held (record_parts ws) g).0.tree_read))))
+      subst (λ q. Found ws q (Ok at)) (sym g) (found at r vs (tree_stands at r.body (held short g) (subst (λ x. TreeRead r.body x []) us (held (record_parts ws) g).0.tree_read))))
 
-  pub no_tree : (n : ℕ) (q : Parsed (Record Outcome)) → refuse n ≡ lead_of q → Found ws q (place.Refused n)
+  pub no_tree : (r : Result ℕ Refusal) (e : Refusal) (q : Parsed (Record Outcome)) → IsErrAnd r (λ d. d ≡ e) → refuse (number_of e) ≡ lead_of q → Found ws q r
   unfolding Found lead_of
-  no_tree n (refuse m) e = cc
-  no_tree n (got r vs) e = let z : ◌≡◌ {A = ℕ} 0 1 = cc in omega arith
+  no_tree (Ok at) e q h f = absurd h
+  no_tree (Err d) e (refuse m) h f = let same : number_of d ≡ number_of e = ap number_of h in cc
+  no_tree (Err d) e (got r vs) h f = let z : ◌≡◌ {A = ℕ} 0 1 = cc in omega arith
 
   -- ---- the answers
-  pub some_tree : (at : ℕ) (q : Parsed (Record Outcome)) (p : Place) → Found ws q p → p ≡ At at → SomeTree ws at
+  pub some_tree : (at : ℕ) (q : Parsed (Record Outcome)) → Found ws q (Ok at) → SomeTree ws at
   unfolding Found
-  some_tree at (refuse n) p f e = absurd (subst (Found ws (refuse n)) e f)
-  some_tree at (got r vs) p f e = record { it = tree r; stands = subst (Found ws (got r vs)) e f }
+  some_tree at (refuse n) f = absurd f
+  some_tree at (got r vs) f = record { it = tree r; stands = f }
 
   module _ (ask : Policy Outcome → Bool) where
-    pub says : (at : ℕ) (q : Parsed (Record Outcome)) (p : Place) (b : Bool) → Found ws q p → p ≡ At at → ((t : Policy Outcome) → Stands ws at t → b ≡ ask t) → Says b ≡ told_of (asked_of q (λ r. ask (tree r)))
+    pub says : (at : ℕ) (q : Parsed (Record Outcome)) (b : Bool) → Found ws q (Ok at) → ((t : Policy Outcome) → Stands ws at t → b ≡ ask t) → Ok b ≡ told_of (asked_of q (λ r. ask (tree r)))
     unfolding Found
-    says at (refuse n) p b f e s = absurd (subst (Found ws (refuse n)) e f)
-    says at (got r vs) p b f e s = ap Says (s (tree r) (subst (Found ws (got r vs)) e f))
+    says at (refuse n) b f s = absurd f
+    says at (got r vs) b f s = ap Ok (s (tree r) f)
 
     -- No refusal has the number 0.
-    refused_by : (n : ℕ) (q : Parsed (Record Outcome)) (p : Place) → Numbered q → Found ws q p → p ≡ place.Refused n → Refused n ≡ told_of (asked_of q (λ r. ask (tree r)))
+    refused_by : (e : Refusal) (q : Parsed (Record Outcome)) → Numbered q → Found ws q (Err e) → Err (number_of e) ≡ told_of (asked_of q (λ r. ask (tree r)))
     unfolding Found
-    refused_by n (refuse zero) p h f e = let z : ⊥ = omega arith in absurd z
-    refused_by n (refuse (suc m)) p h f e = ap Refused (subst (Found ws (refuse (suc m))) e f)
-    refused_by n (got r vs) p h f e = absurd (subst (Found ws (got r vs)) e f)
+    refused_by e (refuse zero) h f = let z : ⊥ = omega arith in absurd z
+    refused_by e (refuse (suc m)) h f = ap Err f
+    refused_by e (got r vs) h f = absurd f
 
-    pub says_refused : (n : ℕ) (p : Place) → Found ws read p → p ≡ place.Refused n → Refused n ≡ told_of (asked_of read (λ r. ask (tree r)))
-    says_refused n p f e = refused_by n read p (record_numbered product_sets.value ws) f e
+    pub says_refused : (r : Result Bool Refusal) (e : Refusal) → IsErrAnd r (λ d. d ≡ e) → Found ws read (Err e) → by_number r ≡ told_of (asked_of read (λ x. ask (tree x)))
+    says_refused r e h f = passed_on r e h ∙ refused_by e read (record_numbered product_sets.value ws) f
 
 -- ---- the top node
-top_permit : (t : Policy Outcome) → (eqb (kind_at t) 6 || eqb (kind_at t) 12) ≡ permit_on_top t
+pub top_permit : (t : Policy Outcome) → one_of 6 12 t ≡ permit_on_top t
 top_permit (permit o) = refl
 top_permit deny = refl
 top_permit (grant g c) = refl
@@ -100,7 +100,7 @@ top_permit (or_else a b) = refl
 top_permit (stored (permits p)) = refl
 top_permit (stored (denies d)) = refl
 
-top_deny : (t : Policy Outcome) → (eqb (kind_at t) 7 || eqb (kind_at t) 13) ≡ deny_on_top t
+pub top_deny : (t : Policy Outcome) → one_of 7 13 t ≡ deny_on_top t
 top_deny (permit o) = refl
 top_deny deny = refl
 top_deny (grant g c) = refl
@@ -122,10 +122,6 @@ module _ (ws : List ℕ) (at : ℕ) where
   pub kind_is : at < length ws → (t : Policy Outcome) → Stands ws at t → get_or ws at 0 / 268435456 ≡ kind_at t
   kind_is lt t s = (held (node_holds s.depth (get_or ws at 0) (drop (at + 1) ws)) (ap (read_policy true s.depth) (sym (word_at ws at lt)) ∙ s.reads)).kind_is
 
-  -- By a kind and a pair of kinds, the two answers.
-  module _ (kind : ℕ) (b : Bool) (k : (t : Policy Outcome) → Stands ws at t → kind ≡ kind_at t) where
-    pub permit_says : b ≡ (eqb kind 6 || eqb kind 12) → (t : Policy Outcome) → Stands ws at t → b ≡ permit_on_top t
-    permit_says e t s = e ∙ ap (λ n. eqb n 6 || eqb n 12) (k t s) ∙ top_permit t
-
-    pub deny_says : b ≡ (eqb kind 7 || eqb kind 13) → (t : Policy Outcome) → Stands ws at t → b ≡ deny_on_top t
-    deny_says e t s = e ∙ ap (λ n. eqb n 7 || eqb n 13) (k t s) ∙ top_deny t
+  -- By the kind, whether it is one of two.
+  pub one_of_two : (kind one other : ℕ) (b : Bool) → ((t : Policy Outcome) → Stands ws at t → kind ≡ kind_at t) → b ≡ (eqb kind one || eqb kind other) → (t : Policy Outcome) → Stands ws at t → b ≡ one_of one other t
+  one_of_two kind one other b k e t s = e ∙ ap (λ n. eqb n one || eqb n other) (k t s)

@@ -21,6 +21,10 @@ kind_at (or_else a b) = 11
 kind_at (stored (permits p)) = 12
 kind_at (stored (denies d)) = 13
 
+-- It is one of two.
+abbrev pub one_of : ℕ → ℕ → Policy Outcome → Bool
+one_of one other t = eqb (kind_at t) one || eqb (kind_at t) other
+
 -- An 8 or 12 whose obligation count, 7 bits above zero (4) and outcome (16), is not 0.
 unfoldable pub obligation_at : ℕ → Bool
 obligation_at w = cond (eqb (bits (4 + outcome_bits) 7 w) 0) false (eqb (kind_of w) 8 || eqb (kind_of w) 12)

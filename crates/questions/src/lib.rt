@@ -4,46 +4,28 @@
 ghost use Rattle.std.specs.Prelude.{◌≡◌, ◌||◌, ◌<◌, ◌≤◌, eqb, length};
 ghost use Rattle.model.specs.Policy.{Policy};
 ghost use Rattle.model.specs.Reading.{record_words};
-ghost use Rattle.model.specs.Required.{obliges};
+ghost use Rattle.model.specs.Record.{tree};
+ghost use Rattle.model.specs.Required.{obliges, asked_of};
+ghost use Rattle.refusal.specs.Numbers.{by_number};
 ghost use Rattle.model.specs.Products.{Outcome, read_record, is_permit_constant, is_deny_constant, carries_obligation};
-ghost use Rattle.questions.specs.Nodes.{kind_at, obligation_at, arms_at, Passed};
+ghost use Rattle.questions.specs.Nodes.{kind_at, one_of, obligation_at, arms_at, Passed};
 ghost use Rattle.questions.specs.Answers.{told_of, Stands, SomeTree, Found};
 
-use policy_model::RecordCheck;
+use refusal::Refusal;
 
-// Yes or no, or the number of the refusal.
-#[derive(Drop)]
-pub enum Told {
-    Says(bool),
-    Refused(u32),
-}
-
-// Where the tree of a record begins, or the number of the refusal.
-#[derive(Drop)]
-enum Place {
-    At(usize),
-    Refused(u32),
-}
-
-// Checks a record, Resolved or Pending, and finds its tree.
-fn tree_of(words: &[u32]) -> Place
+// Where the tree of a record begins, Resolved or Pending.
+fn tree_of(words: &[u32]) -> Result<usize, Refusal>
     ensures { Found words.now (read_record words.now) result }
 {
-    match policy_model::check_record(words, outcome::SETS) {
-        RecordCheck::Resolved { consulted: _, tree } => Place::At(tree),
-        RecordCheck::Pending { consulted: _, tree } => Place::At(tree),
-        RecordCheck::Refused(number) => Place::Refused(number),
-    }
+    let head = policy_model::check_record(words, outcome::SETS)?;
+    Ok(head.tree)
 }
 
 // Whether a kind is one of two.
 fn either(kind: u32, one: u32, other: u32) -> bool
     ensures { result ≡ (eqb kind one || eqb kind other) }
 {
-    if kind == one {
-        return true;
-    }
-    kind == other
+    kind == one || kind == other
 }
 
 // The kind of the tree's top node.
@@ -54,38 +36,35 @@ fn top_kind(words: &[u32], at: usize) -> u32
     words[at] / policy_model::KIND
 }
 
-// Whether the record's tree is a permit: its top node is a Permit or a PermitWithTrace.
-pub fn is_permit_constant(words: &[u32]) -> Told
-    ensures { result ≡ told_of (is_permit_constant words.now) }
+// Whether the top node of a record's tree is of one of two kinds.
+fn top_is(words: &[u32], one: u32, other: u32) -> Result<bool, Refusal>
+    ensures { by_number result ≡ told_of (asked_of (read_record words.now) (λ r. one_of one other (tree r))) }
 {
-    match tree_of(words) {
-        Place::At(tree) => {
-            let kind = top_kind(words, tree);
-            Told::Says(either(
-                kind,
-                policy_model::KIND_PERMIT,
-                policy_model::KIND_PERMIT_WITH_TRACE,
-            ))
-        }
-        Place::Refused(number) => Told::Refused(number),
-    }
+    let tree = tree_of(words)?;
+    let kind = top_kind(words, tree);
+    Ok(either(kind, one, other))
+}
+
+// Whether the record's tree is a permit: its top node is a Permit or a PermitWithTrace.
+pub fn is_permit_constant(words: &[u32]) -> Result<bool, Refusal>
+    ensures { by_number result ≡ told_of (is_permit_constant words.now) }
+{
+    top_is(
+        words,
+        policy_model::KIND_PERMIT,
+        policy_model::KIND_PERMIT_WITH_TRACE,
+    )
 }
 
 // Whether the record's tree is a deny: its top node is a Deny or a DenyWithTrace.
-pub fn is_deny_constant(words: &[u32]) -> Told
-    ensures { result ≡ told_of (is_deny_constant words.now) }
+pub fn is_deny_constant(words: &[u32]) -> Result<bool, Refusal>
+    ensures { by_number result ≡ told_of (is_deny_constant words.now) }
 {
-    match tree_of(words) {
-        Place::At(tree) => {
-            let kind = top_kind(words, tree);
-            Told::Says(either(
-                kind,
-                policy_model::KIND_DENY,
-                policy_model::KIND_DENY_WITH_TRACE,
-            ))
-        }
-        Place::Refused(number) => Told::Refused(number),
-    }
+    top_is(
+        words,
+        policy_model::KIND_DENY,
+        policy_model::KIND_DENY_WITH_TRACE,
+    )
 }
 
 // Whether a policy's first word is that of a Grant or a PermitWithTrace with obligations.
@@ -149,17 +128,15 @@ fn carries(words: &[u32], at: usize) -> bool
         }
         let arms = arms_at(word);
         next = next_policy(words, next, arms);
-        left = left - 1 + (arms as u64);
+        left = left - 1 + u64::from(arms);
     }
     false
 }
 
 // Whether any Grant or PermitWithTrace of the record's tree has obligations.
-pub fn carries_obligation(words: &[u32]) -> Told
-    ensures { result ≡ told_of (carries_obligation words.now) }
+pub fn carries_obligation(words: &[u32]) -> Result<bool, Refusal>
+    ensures { by_number result ≡ told_of (carries_obligation words.now) }
 {
-    match tree_of(words) {
-        Place::At(tree) => Told::Says(carries(words, tree)),
-        Place::Refused(number) => Told::Refused(number),
-    }
+    let tree = tree_of(words)?;
+    Ok(carries(words, tree))
 }

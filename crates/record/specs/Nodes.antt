@@ -1,5 +1,6 @@
 -- What the writers are given, as the definitions have it, and the words of each node by its parts. Document 01, "What a call receives".
 use Rattle.std.specs.Prelude.{Bool, true, false, cond, List, [], ◌∷◌, ◌++◌, ℕ, ◌+◌, ◌%◌, ◌^◌, leb, length}
+use Rattle.std.specs.Prelude as prelude
 use Rattle.std.proofs.Math.Option.{Option, none, some}
 use Rattle.model.specs.Fields.{above, pack}
 use Rattle.model.specs.Outcome.{outcome_bits}
@@ -7,41 +8,38 @@ use Rattle.model.specs.Decision.{Decision, permits, denies}
 use Rattle.model.specs.Writing.{count_bits, mark_bits, entry_bits, word, shape_bit, marked}
 use Rattle.model.specs.Reading.{shape_of}
 use Rattle.model.specs.Products.{Outcome, denied_field, encode_d}
-use Rattle.policy_model.specs.Heads.{bit_of, denied_by}
-use Rattle.record.specs.declared.Mark.{Mark}
-use Rattle.record.specs.declared.Denied.{Denied}
+use Rattle.policy_model.specs.Heads.{bit_of}
 
 -- A label or a reason: if present, fifteen bits.
-abbrev pub mark_of : Mark → Option ℕ
-mark_of m = cond m.present (some (m.number % 2 ^ mark_bits)) none
+abbrev pub mark_of : prelude.Option ℕ → Option ℕ
+mark_of prelude.None = none
+mark_of (prelude.Some n) = some (n % 2 ^ mark_bits)
 
 -- What 16 bits say of one: present (1), then 15 bits.
 abbrev pub mark_in : ℕ → Option ℕ
 mark_in half = cond (leb (2 ^ mark_bits) half) (some (half % 2 ^ mark_bits)) none
 
 -- The denied outcome, if present.
-abbrev pub denied_of : Denied → Option ℕ
-denied_of d = denied_by d.present d.outcome
+abbrev pub denied_of : prelude.Option ℕ → Option ℕ
+denied_of prelude.None = none
+denied_of (prelude.Some o) = some o
 
-abbrev pub permit_of : ℕ → Mark → List ℕ → List ℕ → Decision Outcome
+abbrev pub permit_of : ℕ → prelude.Option ℕ → List ℕ → List ℕ → Decision Outcome
 permit_of outcome label os fs = permits (record { outcome = outcome; obligations = os; label = mark_of label; facts = fs })
 
-abbrev pub deny_of : Denied → Bool → Mark → Mark → List ℕ → Decision Outcome
+abbrev pub deny_of : prelude.Option ℕ → Bool → prelude.Option ℕ → prelude.Option ℕ → List ℕ → Decision Outcome
 deny_of denied hidden label reason fs = denies (record { denied = denied_of denied; facts = fs; label = mark_of label; reason = mark_of reason; shape = shape_of (bit_of hidden) })
 
 -- A decision's words.
 abbrev pub decision_words : Decision Outcome → List ℕ
 decision_words d = encode_d d
 
--- 12 PermitWithTrace: its first two words, with n obligations and m facts; and the node, its obligations as the words that they take.
-abbrev pub permit_front : ℕ → ℕ → Mark → ℕ → List ℕ
+-- 12 PermitWithTrace: its first two words, with n obligations and m facts.
+abbrev pub permit_front : ℕ → ℕ → prelude.Option ℕ → ℕ → List ℕ
 permit_front outcome n label m = word 12 (above (4 + outcome_bits) n + outcome) ∷ (above (4 + count_bits) (marked (mark_of label)) + m) ∷ []
 
-abbrev pub permit_words : ℕ → ℕ → Mark → List ℕ → List ℕ → List ℕ
-permit_words outcome n label packed fs = permit_front outcome n label (length fs) ++ (packed ++ pack entry_bits fs)
-
 -- 13 DenyWithTrace: its first three words, with m facts.
-abbrev pub deny_front : Denied → Bool → Mark → Mark → ℕ → List ℕ
+abbrev pub deny_front : prelude.Option ℕ → Bool → prelude.Option ℕ → prelude.Option ℕ → ℕ → List ℕ
 deny_front denied hidden label reason m =
     word 13 (above (1 + 10 + outcome_bits) (shape_bit (shape_of (bit_of hidden))) + denied_field (denied_of denied))
     ∷ (above (1 + mark_bits) (marked (mark_of label)) + marked (mark_of reason))

@@ -11,55 +11,34 @@ ghost use Rattle.policy_model.specs.Heads.{bit_of};
 ghost use Rattle.packing.specs.Written.{Written};
 ghost use Rattle.record.specs.Nodes.{mark_of, mark_in, denied_of, permit_of, deny_of, decision_words, permit_front, deny_front, lead_of, front_words};
 
-// A label or a reason of fifteen bits, if present.
-#[derive(Drop)]
-pub struct Mark {
-    pub present: bool,
-    pub number: u16,
-}
-
-// The outcome that a grant denied, if present.
-#[derive(Drop)]
-pub struct Denied {
-    pub present: bool,
-    pub outcome: u16,
-}
-
-impl Mark {
-    // What 16 bits say: present (1), then 15 bits.
-    pub fn of(half: u32) -> Mark
-        ensures { mark_of result ≡ mark_in half }
-    {
-        Mark {
-            present: half >= policy_model::MARKED,
-            number: (half % policy_model::MARKED) as u16,
-        }
-    }
-}
-
-// A label or a reason as 16 bits.
-fn mark_field(m: Mark) -> u32
-    ensures { (result ≡ marked (mark_of m)) × (result < 2 ^ (1 + mark_bits)) }
+// A label or a reason, as 16 bits say it: present (1), then fifteen bits.
+pub fn mark(half: u32) -> Option<u16>
+    ensures { mark_of result ≡ mark_in half }
 {
-    if m.present {
-        policy_model::MARKED + m.number as u32 % policy_model::MARKED
-    } else {
-        0
-    }
+    (half >= policy_model::MARKED).then_some((half % policy_model::MARKED) as u16)
 }
 
-// The denied outcome: present (1), zero (10), outcome (16).
-fn denied_field(d: Denied) -> u32
-    ensures { (result ≡ denied_field (denied_of d)) × (result < 2 ^ (1 + 10 + outcome_bits)) }
+// A label or a reason of fifteen bits as 16 bits.
+fn mark_field(mark: Option<u16>) -> u32
+    ensures { (result ≡ marked (mark_of mark)) × (result < 2 ^ (1 + mark_bits)) }
 {
-    if d.present {
-        policy_model::DENIED + d.outcome as u32
-    } else {
-        0
+    match mark {
+        Some(number) => policy_model::MARKED + number as u32 % policy_model::MARKED,
+        None => 0,
     }
 }
 
-// The shape, with the bits that stand below it.
+// The outcome that a grant denied: present (1), zero (10), outcome (16).
+fn denied_field(denied: Option<u16>) -> u32
+    ensures { (result ≡ denied_field (denied_of denied)) × (result < 2 ^ (1 + 10 + outcome_bits)) }
+{
+    match denied {
+        Some(outcome) => policy_model::DENIED + outcome as u32,
+        None => 0,
+    }
+}
+
+// The shape, with the bits that stand below it: a flag, as the heads that are read give it.
 fn shape_above(hidden: bool, below: u32) -> u32
     requires { below < 2 ^ (1 + 10 + outcome_bits) }
     ensures { (result ≡ above (1 + 10 + outcome_bits) (shape_bit (shape_of (bit_of hidden))) + below) × (result < 2 ^ rest_bits) }
@@ -75,7 +54,7 @@ fn shape_above(hidden: bool, below: u32) -> u32
 fn write_permit_front(
     outcome: u16,
     held: usize,
-    label: Mark,
+    label: Option<u16>,
     count: usize,
     out: &mut [u32],
 ) -> usize
@@ -89,30 +68,28 @@ fn write_permit_front(
     2
 }
 
-// PermitWithTrace, with the first `held` obligations and the first `count` facts.
+// PermitWithTrace, with its obligations and its facts.
 pub fn write_permit_with_trace(
     outcome: u16,
-    label: Mark,
+    label: Option<u16>,
     obligations: &[u8],
-    held: usize,
     facts: &[u16],
-    count: usize,
     out: &mut [u32],
 ) -> usize
-    requires { (held ≤ length obligations.now) × (held < 2 ^ 7) × (count ≤ length facts.now) × (count < 2 ^ (4 + count_bits)) × (2 + words_for 4 held + words_for 2 count ≤ length out.old) }
-    ensures { (result ≡ 2 + words_for 4 held + words_for 2 count) × Written (decision_words (permit_of outcome label (take held obligations.now) (take count facts.now))) out.old out.new result }
+    requires { (length obligations.now < 2 ^ 7) × (length facts.now < 2 ^ (4 + count_bits)) × (2 + words_for 4 (length obligations.now) + words_for 2 (length facts.now) ≤ length out.old) }
+    ensures { (result ≡ 2 + words_for 4 (length obligations.now) + words_for 2 (length facts.now)) × Written (decision_words (permit_of outcome label obligations.now facts.now)) out.old out.new result }
 {
-    let front = write_permit_front(outcome, held, label, count, out);
-    let next = front + packing::pack_obligations(obligations, held, &mut out[front..]);
-    next + packing::pack_entries(facts, count, &mut out[next..])
+    let front = write_permit_front(outcome, obligations.len(), label, facts.len(), out);
+    let next = front + packing::pack_obligations(obligations, &mut out[front..]);
+    next + packing::pack_entries(facts, &mut out[next..])
 }
 
 // The first three words of a DenyWithTrace.
 fn write_deny_front(
-    denied: Denied,
+    denied: Option<u16>,
     hidden: bool,
-    label: Mark,
-    reason: Mark,
+    label: Option<u16>,
+    reason: Option<u16>,
     count: usize,
     out: &mut [u32],
 ) -> usize
@@ -125,21 +102,20 @@ fn write_deny_front(
     3
 }
 
-// DenyWithTrace, with the first `count` facts.
+// DenyWithTrace, with its facts.
 pub fn write_deny_with_trace(
-    denied: Denied,
+    denied: Option<u16>,
     hidden: bool,
-    label: Mark,
-    reason: Mark,
+    label: Option<u16>,
+    reason: Option<u16>,
     facts: &[u16],
-    count: usize,
     out: &mut [u32],
 ) -> usize
-    requires { (count ≤ length facts.now) × (count < 2 ^ (4 + count_bits)) × (3 + words_for 2 count ≤ length out.old) }
-    ensures { (result ≡ 3 + words_for 2 count) × Written (decision_words (deny_of denied hidden label reason (take count facts.now))) out.old out.new result }
+    requires { (length facts.now < 2 ^ (4 + count_bits)) × (3 + words_for 2 (length facts.now) ≤ length out.old) }
+    ensures { (result ≡ 3 + words_for 2 (length facts.now)) × Written (decision_words (deny_of denied hidden label reason facts.now)) out.old out.new result }
 {
-    let front = write_deny_front(denied, hidden, label, reason, count, out);
-    front + packing::pack_entries(facts, count, &mut out[front..])
+    let front = write_deny_front(denied, hidden, label, reason, facts.len(), out);
+    front + packing::pack_entries(facts, &mut out[front..])
 }
 
 // A record's lead, with `count` consulted entries to come.
@@ -147,11 +123,12 @@ fn write_lead(resolved: bool, count: usize, out: &mut [u32]) -> usize
     requires { (count < 2 ^ rest_bits) × (1 ≤ length out.old) }
     ensures { (result ≡ 1) × Written (word (lead_of resolved) count ∷ []) out.old out.new result }
 {
-    if resolved {
-        out[0] = policy_model::LEAD_RESOLVED + count as u32;
-        return 1;
-    }
-    out[0] = policy_model::LEAD_PENDING + count as u32;
+    let lead = if resolved {
+        policy_model::LEAD_RESOLVED
+    } else {
+        policy_model::LEAD_PENDING
+    };
+    out[0] = lead + count as u32;
     1
 }
 
@@ -161,5 +138,5 @@ pub fn write_front(resolved: bool, entries: &[u16], count: usize, out: &mut [u32
     ensures { (result ≡ 1 + words_for 2 count) × Written (front_words resolved (take count entries.now)) out.old out.new result }
 {
     let lead = write_lead(resolved, count, out);
-    lead + packing::pack_entries(entries, count, &mut out[lead..])
+    lead + packing::pack_entries(&entries[..count], &mut out[lead..])
 }

@@ -33,9 +33,15 @@ condition_left d us = weaker (read_condition d us) (λ c vs e. left_of_lem (enco
 
 -- The loop over its arms.
 module _ (d : ℕ) (sheet : List ℕ) where
-  pub onward_more_c : (from count : ℕ) (s : List ℕ) (at left : ℕ) (t u : List ℕ) (mid : ℕ) → (left ≡ 0 → ⊥) → Collected words_c names_c at t u (read_condition d (drop at sheet)) mid →
-      OnwardC d sheet from count s at left t → OnwardC d sheet from count s mid (left - 1) u
-  onward_more_c = onward_more cnil ccons words_c words_cs names_c names_cs refl (λ a b. refl) (λ f. refl) (λ f a b. refl) (λ vs. read_condition d vs) (condition_left d) sheet
+  pub onward_all_c : (from count : ℕ) (s : List ℕ) → OnwardC d sheet from count s from (count - 0) s
+  onward_all_c from count s = let e : count ≡ count - 0 = omega arith in subst (λ k. OnwardC d sheet from count s from k s) e (record { onward = λ u end w. w })
+
+  pub onward_more_c : (from count : ℕ) (s : List ℕ) (at turn : ℕ) (t u : List ℕ) (mid : ℕ) → turn < count → Collected words_c names_c at t u (read_condition d (drop at sheet)) mid →
+      OnwardC d sheet from count s at (count - turn) t → OnwardC d sheet from count s mid (count - (turn + 1)) u
+  onward_more_c from count s at turn t u mid lt v o =
+      let e : count - turn - 1 ≡ count - (turn + 1) = omega arith in
+      subst (λ k. OnwardC d sheet from count s mid k u) e
+      (onward_more cnil ccons words_c words_cs names_c names_cs refl (λ a b. refl) (λ f. refl) (λ f a b. refl) (λ vs. read_condition d vs) (condition_left d) sheet from count s at (count - turn) t u mid (λ z. let n : ⊥ = omega arith in n) v o)
 
   onward_end_c : (from count : ℕ) (s : List ℕ) (at left : ℕ) (t : List ℕ) → left ≡ 0 → OnwardC d sheet from count s at left t →
       Collected words_cs names_cs from s t (many cnil ccons (λ vs. read_condition d vs) count (drop from sheet)) at

@@ -1,10 +1,11 @@
 -- Policies node by node, to the last word. Assumes nothing.
 use mathlib.Core.Path.{◌≡◌, refl, sym, ◌∙◌, ap, subst}
-use mathlib.Core.Bool.{Bool, true, false, ◌||◌, or-false, or_assoc}
+use mathlib.Core.Bool.{Bool, true, false, cond, ◌||◌, or-false, or_assoc}
 use mathlib.Core.List.{List, [], ◌∷◌}
 use Prim.Native.Nat.{ℕ, zero, suc, ◌+◌, ◌-◌, ◌≤◌, ◌<◌}
 use native.Mathlib.Nat.{zero-add}
 use native.Mathlib.Omega.{arith}
+use lib.Dec.{eqb}
 use lib.ListN.{length, drop, get_or, drop_of_length-le, replicate}
 use lib.Seq.{drop-cons, drop-drop}
 use Rattle.model.specs.Outcome.{product_sets}
@@ -215,6 +216,17 @@ unfolding ToTheEnd SetOf
 facts_from_none (refuse n) none facts e h = tt
 facts_from_none (got t []) none facts e h = h.grown (λ f. false) (e ∙ empty_set)
 facts_from_none (got t (w ∷ ws)) none facts e h = tt
+
+-- The facts of the policy replace those that the set had in between.
+cleared : (b : Bool) (before none facts : List ℕ) → eqb (length before) 16 ≡ b → length none ≡ 16 → set_after (cond b none before) facts ≡ cond b facts before
+cleared true before none facts e h = rw h
+cleared false before none facts e h = rw e
+
+pub facts_over : (q : Parsed (Policy Outcome)) (before none after : List ℕ) (count : ℕ) → length none ≡ 16 → FactsOf q (set_after before none) after count → FactsOf q before after count
+unfolding FactsOf
+facts_over (refuse n) before none after count h g = tt
+facts_over (got t []) before none after count h g = record { counted = g.counted; set_is = g.set_is ∙ cleared (eqb (length before) 16) before none _ refl h }
+facts_over (got t (w ∷ ws)) before none after count h g = tt
 
 pub facts_given : (q : Parsed (Policy Outcome)) (facts before after : List ℕ) (count : ℕ) → SetOf q facts → after ≡ set_after before facts → count ≡ ones facts → FactsOf q before after count
 unfolding SetOf FactsOf

@@ -23,9 +23,11 @@ use Rattle.laws.proofs.Lengths.{length_pack}
 use Rattle.laws.proofs.ReadForm.{same_consulted}
 use Rattle.laws.specs.Numbers.{Numbered}
 use Rattle.policy_model.specs.Answers.{Lead, lead_of}
-use Rattle.required.specs.declared.Required.TheVariants.{Facts, Refused}
+use Rattle.std.specs.Prelude.{Result, Ok, Err}
+use Rattle.refusal.specs.declared.Refusal.{Refusal}
+use Rattle.refusal.specs.Numbers.{by_number}
 use Rattle.required.specs.CountLaws.{ones_named}
-use Rattle.required.specs.Answers.{set_after, Given, FactsOf, Answered, tree_of}
+use Rattle.required.specs.Answers.{set_after, count_in, Given, FactsOf, Answered, tree_of}
 use Rattle.required.specs.AnswerLaws.{refused_is}
 use Rattle.required.proofs.Arms.{left_of_lem}
 use Rattle.required.proofs.Policies.{another_of}
@@ -101,23 +103,23 @@ place_in (got l ws) = l.tree
 module _ (count at : ℕ) (before after : List ℕ) where
   pending_at : (rec : List ℕ) (body : ReducedPolicy Outcome) (log : Consulted) (n : ℕ) → TreeAt rec (record { body = body; log = log }) [] →
       lead_is 15 count at ≡ lead_of (got (record { body = body; log = log }) []) → FactsOf (policy_at rec at levels) before after n →
-      Answered (required_of {A = Record Outcome} (got (record { body = body; log = log }) []) (λ r f. names f (tree r))) (tree_of (got (record { body = body; log = log }) [])) before after (Facts n)
+      Answered (required_of {A = Record Outcome} (got (record { body = body; log = log }) []) (λ r f. names f (tree r))) (tree_of (got (record { body = body; log = log }) [])) before after (Ok n)
   unfolding lead_of FactsOf
   pending_at rec (resolved d) log n s e g = let z : ⊥ = omega (arith, ap kind_in e) in absurd z
   pending_at rec (pending t) log n s e g =
       let q : policy_at rec at levels ≡ got t [] = ap (λ k. policy_at rec k levels) (ap place_in e) ∙ s.stands t refl in
       let v : Given (fact_set (λ f. names f t)) before after n = subst (λ x. FactsOf x before after n) q g in
-      record { answer_is = ap Facts v.counted; named_is = v.counted ∙ ones_named (λ f. names f t); set_is = v.set_is }
+      record { answer_is = ap Ok v.counted; named_is = v.counted ∙ ones_named (λ f. names f t); set_is = v.set_is }
 
   resolved_at : (body : ReducedPolicy Outcome) (log : Consulted) → lead_is 14 count at ≡ lead_of (got (record { body = body; log = log }) []) → after ≡ set_after before (replicate 16 0) →
-      Answered (required_of {A = Record Outcome} (got (record { body = body; log = log }) []) (λ r f. names f (tree r))) (tree_of (got (record { body = body; log = log }) [])) before after (Facts 0)
+      Answered (required_of {A = Record Outcome} (got (record { body = body; log = log }) []) (λ r f. names f (tree r))) (tree_of (got (record { body = body; log = log }) [])) before after (Ok 0)
   unfolding lead_of
   resolved_at (pending t) log e s = let z : ⊥ = omega (arith, ap kind_in e) in absurd z
   resolved_at (resolved d) log e s = record { answer_is = refl; named_is = ones_named (λ f. false); set_is = s }
 
   pub pending_record : (rec : List ℕ) (b : Bool) (q : Parsed (Record Outcome)) (n : ℕ) → Holds (TreeAt rec) q → lead_is 15 count at ≡ lead_of (unless b 1 (whole q)) →
       FactsOf (policy_at rec at levels) before after n →
-      Answered (required_of (unless b 1 (whole q)) (λ r f. names f (tree r))) (tree_of (unless b 1 (whole q))) before after (Facts n)
+      Answered (required_of (unless b 1 (whole q)) (λ r f. names f (tree r))) (tree_of (unless b 1 (whole q))) before after (Ok n)
   unfolding lead_of
   pending_record rec false q n h e g = never_read 1 (record { kind = 15; consulted = count; tree = at }) [] e
   pending_record rec true (refuse k) n h e g = never_read k (record { kind = 15; consulted = count; tree = at }) [] e
@@ -125,15 +127,15 @@ module _ (count at : ℕ) (before after : List ℕ) where
   pending_record rec true (got r (w ∷ ws)) n h e g = never_read 10 (record { kind = 15; consulted = count; tree = at }) [] e
 
   pub resolved_record : (b : Bool) (q : Parsed (Record Outcome)) → lead_is 14 count at ≡ lead_of (unless b 1 (whole q)) → after ≡ set_after before (replicate 16 0) →
-      Answered (required_of (unless b 1 (whole q)) (λ r f. names f (tree r))) (tree_of (unless b 1 (whole q))) before after (Facts 0)
+      Answered (required_of (unless b 1 (whole q)) (λ r f. names f (tree r))) (tree_of (unless b 1 (whole q))) before after (Ok 0)
   unfolding lead_of
   resolved_record false q e s = never_read 1 (record { kind = 14; consulted = count; tree = at }) [] e
   resolved_record true (refuse k) e s = never_read k (record { kind = 14; consulted = count; tree = at }) [] e
   resolved_record true (got r []) e s = resolved_at r.body r.log e s
   resolved_record true (got r (w ∷ ws)) e s = never_read 10 (record { kind = 14; consulted = count; tree = at }) [] e
 
-pub refused_record : (number : ℕ) (q : Parsed (Record Outcome)) (before after : List ℕ) → Numbered q → refuse number ≡ lead_of q → after ≡ set_after before (replicate 16 0) →
-    Answered (required_of q (λ r f. names f (tree r))) (tree_of q) before after (Refused number)
+pub refused_record : (number : ℕ) (q : Parsed (Record Outcome)) (before after : List ℕ) (r : Result ℕ Refusal) → by_number r ≡ Err number → Numbered q → refuse number ≡ lead_of q → after ≡ set_after before (replicate 16 0) →
+    Answered (required_of q (λ r f. names f (tree r))) (tree_of q) before after r
 unfolding lead_of
-refused_record number (refuse n) before after h e s = let same : number ≡ n = cc in record { answer_is = ap Refused same ∙ refused_is n 0 h.0; named_is = refl; set_is = s }
-refused_record number (got r ws) before after h e s = never_read number (record { kind = lead_kind r.body; consulted = length r.log; tree = 1 + pairs r.log }) [] (sym e)
+refused_record number (refuse n) before after r p h e s = let same : number ≡ n = cc in record { answer_is = p ∙ ap Err same ∙ refused_is n 0 h.0; named_is = ap count_in p; set_is = s }
+refused_record number (got x ws) before after r p h e s = never_read number (record { kind = lead_kind x.body; consulted = length x.log; tree = 1 + pairs x.log }) [] (sym e)

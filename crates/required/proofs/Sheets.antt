@@ -1,5 +1,5 @@
 -- The answer for a sheet, from its check and from the facts of its policy. Assumes nothing.
-use mathlib.Core.Path.{◌≡◌, refl, ◌∙◌, ap, subst}
+use mathlib.Core.Path.{◌≡◌, ◌∙◌, ap, subst}
 use mathlib.Core.Bool.{Bool, true, false}
 use mathlib.Core.Option.{none, some}
 use mathlib.Core.List.{List, [], ◌∷◌}
@@ -14,9 +14,11 @@ use Rattle.model.specs.Products.{Outcome, read_policy, read_sheet, required_fact
 use Rattle.laws.proofs.Deeper.{Follows, deeper}
 use Rattle.laws.specs.Numbers.{Numbered}
 use Rattle.policy_model.specs.Answers.{refusal}
-use Rattle.required.specs.declared.Required.TheVariants.{Facts, Refused}
+use Rattle.std.specs.Prelude.{Result, Ok, Err}
+use Rattle.refusal.specs.declared.Refusal.{Refusal}
+use Rattle.refusal.specs.Numbers.{by_number}
 use Rattle.required.specs.CountLaws.{ones_named}
-use Rattle.required.specs.Answers.{set_after, FactsOf, Answered}
+use Rattle.required.specs.Answers.{set_after, count_in, FactsOf, Answered}
 use Rattle.required.specs.AnswerLaws.{refused_is}
 
 never : (n : ℕ) {G : Type 0} → none ≡ some n → G
@@ -33,20 +35,20 @@ sheet_facts (got t []) q before after count f g = subst (λ x. FactsOf x before 
 sheet_facts (got t (w ∷ ws)) q before after count f g = tt
 
 accepted_at : (b : Bool) (q : Parsed (Policy Outcome)) (before after : List ℕ) (count : ℕ) → none ≡ refusal (unless b 1 (whole q)) → FactsOf q before after count →
-    Answered (required_of (unless b 1 (whole q)) (λ t f. names f t)) (unless b 1 (whole q)) before after (Facts count)
+    Answered (required_of (unless b 1 (whole q)) (λ t f. names f t)) (unless b 1 (whole q)) before after (Ok count)
 unfolding FactsOf
 accepted_at false q before after count e g = never 1 e
 accepted_at true (refuse n) before after count e g = never n e
-accepted_at true (got t []) before after count e g = record { answer_is = ap Facts g.counted; named_is = g.counted ∙ ones_named (λ f. names f t); set_is = g.set_is }
+accepted_at true (got t []) before after count e g = record { answer_is = ap Ok g.counted; named_is = g.counted ∙ ones_named (λ f. names f t); set_is = g.set_is }
 accepted_at true (got t (w ∷ ws)) before after count e g = never 10 e
 
 pub accepted : (sheet before after : List ℕ) (count : ℕ) → none ≡ refusal (read_sheet sheet) → FactsOf (read_policy true levels sheet) before after count →
-    Answered (required_facts sheet) (read_sheet sheet) before after (Facts count)
+    Answered (required_facts sheet) (read_sheet sheet) before after (Ok count)
 accepted sheet before after count e g =
     accepted_at (sheet_length sheet) (read_policy false levels sheet) before after count e
     (sheet_facts (read_policy false levels sheet) (read_policy true levels sheet) before after count (deeper product_sets.value false levels levels sheet (omega arith)) g)
 
-pub refused : (number : ℕ) (q : Parsed (Policy Outcome)) (before after : List ℕ) → Numbered q → some number ≡ refusal q → after ≡ set_after before (replicate 16 0) →
-    Answered (required_of q (λ t f. names f t)) q before after (Refused number)
-refused number (refuse n) before after h e s = let same : number ≡ n = cc in record { answer_is = ap Refused same ∙ refused_is n 0 h.0; named_is = refl; set_is = s }
-refused number (got t ws) before after h e s = never_some number e
+pub refused : (number : ℕ) (q : Parsed (Policy Outcome)) (before after : List ℕ) (r : Result ℕ Refusal) → by_number r ≡ Err number → Numbered q → some number ≡ refusal q → after ≡ set_after before (replicate 16 0) →
+    Answered (required_of q (λ t f. names f t)) q before after r
+refused number (refuse n) before after r p h e s = let same : number ≡ n = cc in record { answer_is = p ∙ ap Err same ∙ refused_is n 0 h.0; named_is = ap count_in p; set_is = s }
+refused number (got t ws) before after r p h e s = never_some number e

@@ -1,22 +1,28 @@
 -- What an answer stands for: document 01's number, and how many facts; and the set afterwards.
-use Rattle.std.specs.Prelude.{◌≡◌, cond, List, [], ◌∷◌, ℕ, zero, suc, eqb, length}
+use Rattle.std.specs.Prelude.{◌≡◌, cond, Result, Ok, Err, List, [], ◌∷◌, ℕ, zero, suc, eqb, length}
 use Rattle.model.specs.Policy.{Policy, names}
 use Rattle.model.specs.Record.{Record, tree}
 use Rattle.model.specs.Reading.{Parsed, refuse, got}
 use Rattle.model.specs.Required as model
 use Rattle.model.specs.Products.{Outcome}
-use Rattle.required.specs.declared.Required.{Required}
-use Rattle.required.specs.declared.Required.TheVariants.{Facts, Refused}
+use Rattle.refusal.specs.declared.Refusal.{Refusal}
+use Rattle.refusal.specs.Numbers.{by_number}
 use Rattle.required.specs.Sets.{how_many}
 
 -- The number is 0 where facts are given, and the count 0 where it is refused.
-abbrev pub number_of : Required → ℕ
-number_of (Facts n) = 0
-number_of (Refused n) = n
+abbrev pub number_in : Result ℕ ℕ → ℕ
+number_in (Ok n) = 0
+number_in (Err n) = n
 
-abbrev pub count_of : Required → ℕ
-count_of (Facts n) = n
-count_of (Refused n) = 0
+abbrev pub count_in : Result ℕ ℕ → ℕ
+count_in (Ok n) = n
+count_in (Err n) = 0
+
+abbrev pub number_of : Result ℕ Refusal → ℕ
+number_of r = number_in (by_number r)
+
+abbrev pub count_of : Result ℕ Refusal → ℕ
+count_of r = count_in (by_number r)
 
 -- A set of sixteen numbers becomes another; one of another length is left as it was.
 abbrev pub set_after : List ℕ → List ℕ → List ℕ
@@ -33,21 +39,21 @@ tree_of (refuse n) = refuse n
 tree_of (got r ws) = got (tree r) ws
 
 -- The answer to what the model requires: the facts' count where the number is 0, or else the refusal.
-abbrev pub answer : ℕ → ℕ → Required
-answer zero count = Facts count
-answer (suc n) count = Refused (suc n)
+abbrev pub answer : ℕ → ℕ → Result ℕ ℕ
+answer zero count = Ok count
+answer (suc n) count = Err (suc n)
 
-abbrev pub required_of : model.Required → Required
+abbrev pub required_of : model.Required → Result ℕ ℕ
 required_of m = answer m.number m.count
 
 -- Document 01's number and count of an answer are the model's.
-pub record Counted (m : model.Required) (r : Required) : Type 0 where
+pub record Counted (m : model.Required) (r : Result ℕ Refusal) : Type 0 where
   pub number_is : number_of r ≡ m.number
   pub count_is : count_of r ≡ m.count
 
 -- The answer and the set afterwards, from what the model requires and what was read.
-pub record Answered (m : model.Required) (read : Parsed (Policy Outcome)) (before after : List ℕ) (r : Required) : Type 0 where
-  pub answer_is : r ≡ required_of m
+pub record Answered (m : model.Required) (read : Parsed (Policy Outcome)) (before after : List ℕ) (r : Result ℕ Refusal) : Type 0 where
+  pub answer_is : by_number r ≡ required_of m
   pub named_is : count_of r ≡ named_in read
   pub set_is : after ≡ set_after before m.set
 

@@ -16,10 +16,8 @@ ghost use Rattle.required.specs.Sets.{Collected};
 ghost use Rattle.required.specs.Nodes.{StoredAt, OwnFacts};
 ghost use Rattle.required.specs.Answers.{set_after, SetOf, FactsOf, Answered, tree_of};
 
-use policy_model::{RecordCheck, SheetCheck};
-
-// The levels that a grant leaves to its condition.
-const CONDITION_LEVELS: usize = policy_model::LEVELS - 1;
+use policy_model::Status;
+use refusal::Refusal;
 
 // What the walk over a condition gives: the grown set, and the index of the next word.
 #[derive(Drop)]
@@ -59,12 +57,10 @@ fn collect_condition_facts(words: &[u32], at: usize, depth: usize, set: [u64; 16
     }
     let mut grown = set;
     let mut next = at + 1;
-    let mut left = policy_model::arms_of(word);
-    while left != 0 {
+    for _ in 0..policy_model::arms_of(word) {
         let child = collect_condition_facts(words, next, depth - 1, grown);
         grown = child.set;
         next = child.next;
-        left -= 1;
     }
     Grew { set: grown, next }
 }
@@ -93,7 +89,8 @@ fn collect_own_facts(words: &[u32], at: usize, set: &mut [u64; 16]) -> usize
     let kind = words[at] / policy_model::KIND;
     if kind == policy_model::KIND_GRANT {
         let before = grant::before_condition_in(words, at) as usize;
-        let grown = collect_condition_facts(words, at + before, CONDITION_LEVELS, *set);
+        let grown = collect_condition_facts(words, at + before, grant::CONDITION_LEVELS, *set);
+        // by a variable, since the proof's borrow rules don't cover an array field stored straight
         let facts = grown.set;
         *set = facts;
         return grown.next;
@@ -117,39 +114,24 @@ fn collect_policy_facts(words: &[u32], at: usize) -> [u64; 16]
 }
 
 // How many bits of the set are one.
-fn count_ones(set: &[u64]) -> u32
-    requires { length set.now ≡ 16 }
+fn count_ones(set: &[u64; 16]) -> u32
     ensures { result ≡ ones set.now }
 {
     let mut count = 0;
-    let mut i = 0;
-    while i < 16 {
-        count += u64::count_ones(set[i]);
-        i += 1;
+    for number in set {
+        count += number.count_ones();
     }
     count
 }
 
-// Which facts are required: how many, or the number of the refusal.
-#[derive(Drop)]
-pub enum Required {
-    Facts(u32),
-    Refused(u32),
-}
-
 // Makes a set of sixteen numbers another. One that has not sixteen numbers is left as it was.
-fn replace(set: &mut [u64], facts: &[u64])
-    requires { length facts.now ≡ 16 }
+fn replace(set: &mut [u64], facts: &[u64; 16])
     ensures { set.new ≡ set_after set.old facts.now }
 {
     if set.len() != 16 {
         return;
     }
-    let mut i = 0;
-    while i < 16 {
-        set[i] = facts[i];
-        i += 1;
-    }
+    set.copy_from_slice(facts);
 }
 
 // Makes the set that of the facts of the policy at `at`, and counts them.
@@ -165,40 +147,28 @@ fn facts_at(words: &[u32], at: usize, set: &mut [u64]) -> u32
 fn no_facts(set: &mut [u64])
     ensures { set.new ≡ set_after set.old (replicate 16 0) }
 {
-    let none = [0u64; 16];
-    replace(set, &none);
+    replace(set, &[0; 16]);
 }
 
-// The facts that a sheet names: their set, and their count. Refused, the set is empty. A set that does not have sixteen numbers is left as it was.
-pub fn required_facts(sheet: &[u32], set: &mut [u64]) -> Required
+// The facts that a sheet names: their set, and their count. Refused, the set is empty, as it is before the check. A set that does not have sixteen numbers
+// is left as it was.
+pub fn required_facts(sheet: &[u32], set: &mut [u64]) -> Result<u32, Refusal>
     ensures { Answered (required_facts sheet.now) (read_sheet sheet.now) set.old set.new result }
 {
-    match policy_model::check_sheet(sheet, outcome::SETS) {
-        SheetCheck::Accepted => Required::Facts(facts_at(sheet, 0, set)),
-        SheetCheck::Refused(number) => {
-            no_facts(set);
-            Required::Refused(number)
-        }
-    }
+    no_facts(set);
+    policy_model::check_sheet(sheet, outcome::SETS)?;
+    Ok(facts_at(sheet, 0, set))
 }
 
 // The facts that a record's tree names: their set, and their count. A Resolved record names none. Refused, the set is empty. A set that does not have
 // sixteen numbers is left as it was.
-pub fn required_residual_facts(words: &[u32], set: &mut [u64]) -> Required
+pub fn required_residual_facts(words: &[u32], set: &mut [u64]) -> Result<u32, Refusal>
     ensures { Answered (required_residual_facts words.now) (tree_of (read_record words.now)) set.old set.new result }
 {
-    match policy_model::check_record(words, outcome::SETS) {
-        RecordCheck::Resolved {
-            consulted: _,
-            tree: _,
-        } => {
-            no_facts(set);
-            Required::Facts(0)
-        }
-        RecordCheck::Pending { consulted: _, tree } => Required::Facts(facts_at(words, tree, set)),
-        RecordCheck::Refused(number) => {
-            no_facts(set);
-            Required::Refused(number)
-        }
+    no_facts(set);
+    let head = policy_model::check_record(words, outcome::SETS)?;
+    match head.status {
+        Status::Resolved => Ok(0),
+        Status::Pending => Ok(facts_at(words, head.tree, set)),
     }
 }

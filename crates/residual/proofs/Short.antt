@@ -3,7 +3,7 @@ use mathlib.Core.Path.{◌≡◌, refl, ◌∙◌, ap, ap₂}
 use mathlib.Core.Bool.{true}
 use mathlib.Core.Option.{none}
 use mathlib.Core.List.{List, [], ◌∷◌, ◌++◌}
-use Prim.Native.Nat.{ℕ, ◌+◌, ◌*◌, ◌%◌, ◌≤◌, ◌<◌}
+use Prim.Native.Nat.{ℕ, ◌+◌, ◌*◌, ◌%◌, ◌≤◌}
 use native.Mathlib.Omega.{arith}
 use lib.ListN.{length, drop, get_or, set}
 use Rattle.model.specs.Facts.{Presence, absent, present, unknown, silent, Table}
@@ -26,10 +26,6 @@ use Rattle.residual.specs.Weight.{weight_d}
 use Rattle.residual.specs.Answers.{on_fact, NodeLaid}
 
 -- ---- words
--- There is no room.
-pub laid_not : {n : ℕ} (ws out : List ℕ) → n ≤ too_many → length out < n → Laid n ws out n
-laid_not ws out h k = record { size_is = omega arith; front = λ few fits. absurd (omega arith) }
-
 -- Words that were written.
 laid_written : {n : ℕ} {ws out after : List ℕ} → n ≤ too_many → Written ws out after n → Laid n ws after n
 laid_written h w = record { size_is = omega arith; front = λ few fits. written_front w }

@@ -18,13 +18,7 @@ use decision::Decision;
 fn from_one_node(decision: Decision) -> bool
     ensures { result ≡ true → decision ≡ permitted_at decision.outcome decision.clause decision.clause 0 }
 {
-    if !decision.permit {
-        return false;
-    }
-    if decision.united != 0 {
-        return false;
-    }
-    decision.obligations == decision.clause
+    decision == decision::permitted_by(decision.outcome, decision.clause)
 }
 
 // Lays the node of a permit with nothing but its outcome.
@@ -89,15 +83,13 @@ pub fn policy_from_decision(
     clause::write_decision(words, decision, &obligations, held, named, count, out)
 }
 
-// Moves the `n` words after the first one up by `by` words.
+// Moves the `n` words after the first one up by `by` words, the last one first. The library has no `copy_within`, so this is a loop.
 fn move_up(out: &mut [u32], n: usize, by: usize)
     requires { 1 + n + by ≤ length out.old }
     ensures { Moved n by out.old out.new }
 {
-    let mut i = n;
-    while i != 0 {
-        out[i + by] = out[i];
-        i -= 1;
+    for i in (0..n).rev() {
+        out[1 + i + by] = out[1 + i];
     }
 }
 
@@ -108,13 +100,7 @@ pub fn put_list(lead: u32, front: &[u32], kept: usize, out: &mut [u32], size: us
     ensures { ListPut lead front.now kept size out.old out.new result }
 {
     let total = sizes::plus(kept, size);
-    if total > sizes::LIMIT {
-        return total;
-    }
-    if out.len() < total {
-        return total;
-    }
-    if front.len() < kept {
+    if total > sizes::LIMIT || out.len() < total || front.len() < kept {
         return total;
     }
     move_up(out, size - 1, kept);

@@ -24,9 +24,10 @@ use Rattle.model.specs.Products.{Outcome, evaluate_by, encode_r, read_sheet, rea
 use Rattle.model.specs.Levels.{outcome_count, meet_of, join_of}
 use Rattle.laws.proofs.LevelLaws.{none_is}
 use Rattle.staging.proofs.Demand3.{evaluate_of, evaluate_back_of}
-use Rattle.answer.specs.declared.Answer.{Answer}
-use Rattle.answer.specs.declared.Answer.TheVariants.{Written, Refused}
-use Rattle.answer.specs.Answers.{Answered, answer_of, number_of, written_of}
+use Rattle.std.specs.Prelude.{Result, Ok, Err}
+use Rattle.refusal.specs.declared.Refusal.{Refusal}
+use Rattle.refusal.specs.Numbers.{number_of, by_number}
+use Rattle.answer.specs.Answers.{Answer, Answered, answer_of}
 use Rattle.listing.specs.Texts.{Wrote, ListedAs}
 use Rattle.listing.specs.Writers.{wrote_as}
 use Rattle.listing.specs.RecordTexts.{listed_resolved}
@@ -98,32 +99,39 @@ module _ (sheet facts : List ℕ) (room : ℕ) where
     a : Answered Call before after r
     a = subst (λ L. Answered (model.evaluate L 0 sheet facts room) before after r) none_is given
 
-    module _ {n : ℕ} where
-      pub list_refused : {out out' : List ℕ} {k : ℕ} → r ≡ Refused n → Cases → Wrote (refused_text n) out out' k → Wrote Text out out' k
-      list_refused q (refuses m e t) w =
-          let same : Refused n ≡ Refused m = sym q ∙ a.answer_is ∙ ap answer_of e in
-          wrote_as (ap (λ x. refused_text (number_of x)) same ∙ sym t) w
-      list_refused q (writes d l ws e y t) w =
-          let same : Refused n ≡ Written (length ws) = sym q ∙ a.answer_is ∙ ap answer_of e in
-          let z : ◌≡◌ {A = ℕ} 0 1 = cc in
-          absurd (omega arith)
+    -- The answer, its refusal a number.
+    told : {m : model.Answer} → Call ≡ m → by_number r ≡ answer_of m
+    told e = a.answer_is ∙ ap answer_of e
 
-      pub list_written : {out out' : List ℕ} {k : ℕ} → r ≡ Written n → Cases → ListedAs (λ bytes. Wrote bytes out out' k) (read_record (take n after)) → Wrote Text out out' k
-      list_written q (refuses m e t) w =
-          let same : Written n ≡ Refused m = sym q ∙ a.answer_is ∙ ap answer_of e in
+    pub list_refused : {cause : Refusal} {out out' : List ℕ} {k : ℕ} → r ≡ Err cause → Cases → Wrote (refused_text (number_of cause)) out out' k → Wrote Text out out' k
+    list_refused {cause} q (refuses m e t) w =
+        let both : Err (number_of cause) ≡ Err m = sym (ap by_number q) ∙ told e in
+        let same : number_of cause ≡ m = cc in
+        wrote_as (ap refused_text same ∙ sym t) w
+    list_refused {cause} q (writes d l ws e y t) w =
+        let both : Err (number_of cause) ≡ Ok (length ws) = sym (ap by_number q) ∙ told e in
+        let z : ◌≡◌ {A = ℕ} 0 1 = cc in
+        absurd (omega arith)
+
+    module _ {n : ℕ} (q : r ≡ Ok n) where
+      pub list_written : {out out' : List ℕ} {k : ℕ} → Cases → ListedAs (λ bytes. Wrote bytes out out' k) (read_record (take n after)) → Wrote Text out out' k
+      list_written (refuses m e t) w =
+          let both : Ok n ≡ Err m = sym (ap by_number q) ∙ told e in
           let z : ◌≡◌ {A = ℕ} 0 1 = cc in
           absurd (omega arith)
-      list_written {out} {out'} {k} q (writes d l ws e y t) w =
-          let same : n ≡ length ws = ap written_of (sym q ∙ a.answer_is ∙ ap answer_of e) in
+      list_written {out} {out'} {k} (writes d l ws e y t) w =
+          let both : Ok n ≡ Ok (length ws) = sym (ap by_number q) ∙ told e in
+          let same : n ≡ length ws = cc in
           let front : take n after ≡ ws = ap (take n) (a.output_is ∙ ap (λ x. model.afterwards x before) e) ∙ take_at ws (drop (length ws) before) n (sym same) in
           wrote_as (sym t) (listed_resolved (take n after) out out' k d l [] (ap read_record front ∙ y) w)
 
       -- The record's words are all there.
-      pub words_within : r ≡ Written n → Cases → n ≤ length after
-      words_within q (refuses m e t) =
-          let same : Written n ≡ Refused m = sym q ∙ a.answer_is ∙ ap answer_of e in
+      pub words_within : Cases → n ≤ length after
+      words_within (refuses m e t) =
+          let both : Ok n ≡ Err m = sym (ap by_number q) ∙ told e in
           let z : ◌≡◌ {A = ℕ} 0 1 = cc in
           absurd (omega arith)
-      words_within q (writes d l ws e y t) =
-          let same : n ≡ length ws = ap written_of (sym q ∙ a.answer_is ∙ ap answer_of e) in
+      words_within (writes d l ws e y t) =
+          let both : Ok n ≡ Ok (length ws) = sym (ap by_number q) ∙ told e in
+          let same : n ≡ length ws = cc in
           omega (arith, ap length (a.output_is ∙ ap (λ x. model.afterwards x before) e), length-append ws (drop (length ws) before))

@@ -4,12 +4,13 @@
 ghost use Rattle.std.specs.Prelude.{◌≤◌, length, drop};
 ghost use Rattle.model.specs.Facts.{known_facts, table_fault};
 ghost use Rattle.model.specs.Reading.{sheet_words};
-ghost use Rattle.model.specs.Listing.{checked, sitting as listing_of};
+ghost use Rattle.model.specs.Listing.{checked, refused_text, sitting as listing_of};
+ghost use Rattle.refusal.specs.Numbers.{number_of};
 ghost use Rattle.sitting.specs.Requests.{from_table};
 ghost use Rattle.listing.specs.Texts.{Wrote, listing_room};
 
-use answer::Answer;
 use policy_model::SHEET_WORDS;
+use refusal::Refusal;
 use std::io::{self, Write};
 
 // A request that is read whole takes no more bytes than this: a word count, 4,096 words, a table length and 256 bytes. Later bytes are ignored.
@@ -18,6 +19,14 @@ const REQUEST: usize = 2 + 4 * SHEET_WORDS + 2 + facts::TABLE_BYTES;
 // The record of any sheet fits: three times its words plus 513.
 const RECORD: usize = 3 * SHEET_WORDS + 513;
 
+// Lists a refusal by its number.
+fn list_refusal(cause: Refusal, out: &mut [u8]) -> usize
+    requires { 13 ≤ length out.old }
+    ensures { Wrote (refused_text (number_of cause)) out.old out.new result }
+{
+    listing::list_refusal(cause.number(), out)
+}
+
 // Lists what is decided of a sheet with a table, each in its range. A listing has no number of a sheet, so the record is without one.
 fn list_decision(sheet: &[u32], facts: &[u8], out: &mut [u8]) -> usize
     requires { (1 ≤ length sheet.now) × (length sheet.now ≤ sheet_words) × (listing_room ≤ length out.old) }
@@ -25,8 +34,8 @@ fn list_decision(sheet: &[u32], facts: &[u8], out: &mut [u8]) -> usize
 {
     let mut record = [0u32; RECORD];
     match calls::evaluate(sheet, 0, facts, &mut record) {
-        Answer::Written(words) => listing::list_record(&record[..words], out),
-        Answer::Refused(number) => listing::list_refusal(number, out),
+        Ok(words) => listing::list_record(&record[..words], out),
+        Err(cause) => list_refusal(cause, out),
     }
 }
 
@@ -36,15 +45,15 @@ fn list_table(sheet: &[u32], input: &[u8], at: usize, out: &mut [u8]) -> usize
     ensures { Wrote (from_table sheet.now (drop at input.now)) out.old out.new result }
 {
     if input.len() - at < 2 {
-        return listing::list_refusal(6, out);
+        return list_refusal(Refusal::WordsEnd, out);
     }
     let size = listing::number_at(input, at) as usize;
     if size > facts::TABLE_BYTES {
-        return listing::list_refusal(2, out);
+        return list_refusal(Refusal::TableLength, out);
     }
     let start = at + 2;
     if input.len() - start < size {
-        return listing::list_refusal(6, out);
+        return list_refusal(Refusal::WordsEnd, out);
     }
     let end = start + size;
     list_decision(sheet, &input[start..end], out)
@@ -56,20 +65,17 @@ fn list_request(input: &[u8], out: &mut [u8]) -> usize
     ensures { Wrote (listing_of input.now) out.old out.new result }
 {
     if input.len() < 2 {
-        return listing::list_refusal(6, out);
+        return list_refusal(Refusal::WordsEnd, out);
     }
     let count = listing::number_at(input, 0) as usize;
-    if count == 0 {
-        return listing::list_refusal(1, out);
-    }
-    if count > SHEET_WORDS {
-        return listing::list_refusal(1, out);
+    if count == 0 || count > SHEET_WORDS {
+        return list_refusal(Refusal::Length, out);
     }
     let mut sheet = [0u32; SHEET_WORDS];
     if listing::read_words(input, 2, count, &mut sheet) {
         return list_table(&sheet[..count], input, 2 + 4 * count, out);
     }
-    listing::list_refusal(6, out)
+    list_refusal(Refusal::WordsEnd, out)
 }
 
 fn main(rt: HostRuntime) -> io::Result<()> {

@@ -12,13 +12,12 @@ pub fn plus(a: usize, b: usize) -> usize
     requires { (a ≤ too_many) × (b ≤ too_many) }
     ensures { result ≡ capped (a + b) }
 {
-    let sum = a + b;
-    if sum <= LIMIT { sum } else { LIMIT + 1 }
+    (a + b).min(LIMIT + 1)
 }
 
 // Where the tail begins that is lent next, behind `size` words: at its end, where there is no room for them.
 pub fn tail_from(size: usize, room: usize) -> usize
     ensures { result ≡ min size room }
 {
-    if size <= room { size } else { room }
+    size.min(room)
 }

@@ -1,6 +1,6 @@
 -- Demand 3 of what the public functions return: whatever list of narrowings a caller runs under one number, of either pair, all by one outcome table or by none.
 -- Assumes nothing.
-use Rattle.std.specs.Prelude.{◌≡◌, refl, true, List, [], ◌∷◌, map, ℕ, length, take, drop}
+use Rattle.std.specs.Prelude.{◌≡◌, refl, true, Ok, Err, List, [], ◌∷◌, map, ℕ, length, take, drop}
 use Rattle.std.proofs.Common.{sym, ◌∙◌, ap, ap₂, subst, arith, take_at}
 use Rattle.std.proofs.Math.Option.{Option, none}
 use Rattle.model.specs.Facts.{table_of, known_facts, table_fault}
@@ -14,9 +14,10 @@ use Rattle.model.specs.Reading.{got, sheet_number, read_sheet}
 use Rattle.model.specs.Calls as model
 use Rattle.model.specs.Products.{Outcome, eval_policy, reduced}
 use Rattle.laws.proofs.LevelLaws.{table_wrote, by_accepted}
-use Rattle.answer.specs.declared.Answer.{Answer}
-use Rattle.answer.specs.declared.Answer.TheVariants.{Written, Refused}
-use Rattle.answer.specs.Answers.{Answered, answer_of, number_of, written_of}
+use Rattle.refusal.specs.declared.Refusal.{Refusal}
+use Rattle.refusal.specs.declared.Refusal.TheVariants.{Contradiction}
+use Rattle.refusal.specs.Numbers.{number_of, by_number}
+use Rattle.answer.specs.Answers.{Answer, Answered, answer_of, number_of as cause_of, written_of}
 use Rattle.staging.specs.Bare.{bare}
 use Rattle.staging.specs.Chain.{Step, InOrder, AllOf, run}
 use Rattle.staging.specs.Statement as staging
@@ -26,43 +27,46 @@ use Rattle.stages.specs.Runs.{Run, Narrowing, Accepted, handed_on, record_after,
 
 -- ---- what an answer tells of the call
 module _ {a : model.Answer} {before after : List ℕ} {r : Answer} (h : Answered a before after r) where
-  written_words : (b : model.Answer) → a ≡ b → (n : ℕ) → r ≡ Written n → b ≡ model.wrote (take n after)
-  written_words (model.refusal m) e n q =
-      let same : Refused m ≡ Written n = sym (h.answer_is ∙ ap answer_of e) ∙ q in
-      let z : ◌≡◌ {A = ℕ} 0 1 = cc in
-      absurd (omega arith)
+  written_words : (b : model.Answer) → a ≡ b → (n : ℕ) → r ≡ Ok n → b ≡ model.wrote (take n after)
+  written_words (model.refusal m) e n q = let same : Err m ≡ Ok n = sym (h.answer_is ∙ ap answer_of e) ∙ ap by_number q in cc
   written_words (model.wrote ws) e n q =
-      let same : length ws ≡ n = ap written_of (sym (h.answer_is ∙ ap answer_of e) ∙ q) in
+      let same : length ws ≡ n = ap written_of (sym (h.answer_is ∙ ap answer_of e) ∙ ap by_number q) in
       ap model.wrote (sym (ap (take n) (h.output_is ∙ ap (λ x. model.afterwards x before) e) ∙ take_at ws (drop (length ws) before) n same))
 
-  pub wrote_words : (n : ℕ) → r ≡ Written n → a ≡ model.wrote (take n after)
+  pub wrote_words : (n : ℕ) → r ≡ Ok n → a ≡ model.wrote (take n after)
   wrote_words n q = written_words a refl n q
 
-  told_number : (b : model.Answer) → a ≡ b → (m : ℕ) → r ≡ Refused m → b ≡ model.refusal m
-  told_number (model.refusal k) e m q = let same : Refused k ≡ Refused m = sym (h.answer_is ∙ ap answer_of e) ∙ q in ap model.refusal (ap number_of same)
-  told_number (model.wrote ws) e m q =
-      let same : Written (length ws) ≡ Refused m = sym (h.answer_is ∙ ap answer_of e) ∙ q in
-      let z : ◌≡◌ {A = ℕ} 0 1 = cc in
-      absurd (omega arith)
+  told_number : (b : model.Answer) → a ≡ b → (cause : Refusal) → r ≡ Err cause → b ≡ model.refusal (number_of cause)
+  told_number (model.refusal k) e cause q = ap model.refusal (ap cause_of (sym (h.answer_is ∙ ap answer_of e) ∙ ap by_number q))
+  told_number (model.wrote ws) e cause q = let same : Ok (length ws) ≡ Err (number_of cause) = sym (h.answer_is ∙ ap answer_of e) ∙ ap by_number q in cc
 
-  pub refused_number : (m : ℕ) → r ≡ Refused m → a ≡ model.refusal m
-  refused_number m q = told_number a refl m q
+  pub refused_number : (cause : Refusal) → r ≡ Err cause → a ≡ model.refusal (number_of cause)
+  refused_number cause q = told_number a refl cause q
 
   pub accepted_if : (ws : List ℕ) → a ≡ model.wrote ws → Accepted r
-  accepted_if ws e = subst Accepted (sym (h.answer_is ∙ ap answer_of e)) tt
+  accepted_if ws e = by r (h.answer_is ∙ ap answer_of e)
+    where
+      by : (x : Answer) → by_number x ≡ Ok (length ws) → Accepted x
+      by (Ok n) k = tt
+      by (Err cause) k = cc
 
 -- ---- the list of narrowings that were run, as the list of calls of `Staged`
 abbrev call_of : Narrowing → Call
 call_of n = record { order = n.order; facts = n.ran.facts; out = n.ran.before }
 
 same_next : (a : model.Answer) (given before after : List ℕ) (r : Answer) → Answered a before after r → staging.handed_on a given ≡ handed_on given r after
-same_next (model.refusal n) given before after r h = ap (λ x. handed_on given x after) (sym h.answer_is)
-same_next (model.wrote ws) given before after r h =
-    sym (take_at ws (drop (length ws) before) (length ws) refl) ∙ ap (take (length ws)) (sym h.output_is) ∙ ap (λ x. handed_on given x after) (sym h.answer_is)
+same_next (model.refusal n) given before after (Ok m) h = let z = h.answer_is in cc
+same_next (model.refusal n) given before after (Err cause) h = refl
+same_next (model.wrote ws) given before after (Ok m) h =
+    let same : m ≡ length ws = ap written_of h.answer_is in
+    sym (take_at ws (drop (length ws) before) m (sym same)) ∙ ap (take m) (sym h.output_is)
+same_next (model.wrote ws) given before after (Err cause) h = let z = h.answer_is in cc
 
 same_steps : (a : model.Answer) (s : Step) (ss : List Step) (before after : List ℕ) (r : Answer) → Answered a before after r → staging.if_wrote a s ss ≡ if_accepted r s ss
-same_steps (model.refusal n) s ss before after r h = ap (λ x. if_accepted x s ss) (sym h.answer_is)
-same_steps (model.wrote ws) s ss before after r h = ap (λ x. if_accepted x s ss) (sym h.answer_is)
+same_steps (model.refusal n) s ss before after (Ok m) h = let z = h.answer_is in cc
+same_steps (model.refusal n) s ss before after (Err cause) h = refl
+same_steps (model.wrote ws) s ss before after (Ok m) h = refl
+same_steps (model.wrote ws) s ss before after (Err cause) h = let z = h.answer_is in cc
 
 -- By an accepted table each run is one by its outcomes.
 module _ (g : Option OutcomeTable) (ok : acceptable g ≡ true) where
@@ -99,7 +103,7 @@ module _ (g : Option OutcomeTable) (ok : acceptable g ≡ true) where
       abbrev evaluating : Run → Outcomes → model.Answer
       evaluating s L = model.evaluate L number sheet s.facts (length s.before)
 
-      evaluated_run : (s : Run) (n : ℕ) → s.facts ≡ known → Evaluated g number sheet s → s.answer ≡ Written n → ResolvedWith g (λ d. d ≡ eval_policy g (table_of known) t) (take n s.after)
+      evaluated_run : (s : Run) (n : ℕ) → s.facts ≡ known → Evaluated g number sheet s → s.answer ≡ Ok n → ResolvedWith g (λ d. d ≡ eval_policy g (table_of known) t) (take n s.after)
       evaluated_run s n e h q =
           record {
             decided = evaluated By (table_of known) t;
@@ -110,7 +114,7 @@ module _ (g : Option OutcomeTable) (ok : acceptable g ≡ true) where
             same = refl;
           }
 
-      module _ (o : Order) (first : Run) (n : ℕ) (ns : List Narrowing) (ran : Reduced g o number sheet first) (took : first.answer ≡ Written n) (later : NarrowedAll g number (take n first.after) ns)
+      module _ (o : Order) (first : Run) (n : ℕ) (ns : List Narrowing) (ran : Reduced g o number sheet first) (took : first.answer ≡ Ok n) (later : NarrowedAll g number (take n first.after) ns)
           (agrees : AgreesOn t (table_of known) (table_of first.facts)) (all-agree : AllOf (λ s. AgreesOn t (table_of known) s.table) (steps_of ns)) where
         abbrev Given : List ℕ
         Given = take n first.after
@@ -136,7 +140,7 @@ module _ (g : Option OutcomeTable) (ok : acceptable g ≡ true) where
         narrows : (by : Order) (s : Run) → narrowing by (record_after Given ns) s By ≡ narrowing by (staging.after By number Given (map call_of ns)) s By
         narrows by s = ap (λ v. narrowing by v s By) (sym end_is)
 
-        completed_run : (AsSaid : Decision Outcome → Type 0) → AsSaid staged.decision → (s : Run) (m : ℕ) → s.facts ≡ known → Completed g number (record_after Given ns) s → s.answer ≡ Written m → ResolvedWith g AsSaid (take m s.after)
+        completed_run : (AsSaid : Decision Outcome → Type 0) → AsSaid staged.decision → (s : Run) (m : ℕ) → s.facts ≡ known → Completed g number (record_after Given ns) s → s.answer ≡ Ok m → ResolvedWith g AsSaid (take m s.after)
         completed_run AsSaid is s m e h q =
             record {
               decided = completed By (table_of known) staged.last;
@@ -162,7 +166,7 @@ module _ (g : Option OutcomeTable) (ok : acceptable g ≡ true) where
           room_reduce = λ by s f h a.
               accepted_if (plainly (λ L. model.partial_evaluate L by number sheet s.facts (length s.before)) a) _ (staged.room_reduce by (length s.before) s.facts h f);
           untouched = λ by s agree a q.
-              staged.never_17 by (length s.before) s.facts agree (sym (narrows by s) ∙ refused_number (plainly (narrowing by (record_after Given ns) s) a) 17 q);
+              staged.never_17 by (length s.before) s.facts agree (sym (narrows by s) ∙ refused_number (plainly (narrowing by (record_after Given ns) s) a) Contradiction q);
           room_narrow = λ by s f agree h a.
               accepted_if (plainly (narrowing by (record_after Given ns) s) a) _ (narrows by s ∙ staged.room_narrow by (length s.before) s.facts h f agree);
           room_complete = λ s e h a. accepted_if (plainly (completing s) a) _ (completes s e ∙ staged.room_complete (length s.before) h);
@@ -172,7 +176,7 @@ module _ (g : Option OutcomeTable) (ok : acceptable g ≡ true) where
 -- order, from its record on, all with one number and by one outcome table, or by none: if the reduction's table of facts and every accepted one agree with the
 -- known table, demand 3 and requests 6 to 8 hold of the words that the calls left. That the reduction was accepted shows that the outcome table was.
 pub guaranteed : (g : Option OutcomeTable) (number : ℕ) (sheet known : List ℕ) (t : Policy Outcome) → read_sheet (outcomes_of g).value sheet ≡ got t [] → table_fault known_facts known ≡ none
-    → (o : Order) (first : Run) (n : ℕ) (ns : List Narrowing) → Reduced g o number sheet first → first.answer ≡ Written n → NarrowedAll g number (take n first.after) ns
+    → (o : Order) (first : Run) (n : ℕ) (ns : List Narrowing) → Reduced g o number sheet first → first.answer ≡ Ok n → NarrowedAll g number (take n first.after) ns
     → AgreesOn t (table_of known) (table_of first.facts) → AllOf (λ s. AgreesOn t (table_of known) s.table) (steps_of ns)
     → Guaranteed g number o sheet known t first (take n first.after) ns
 guaranteed g number sheet known t reads knows o first n ns ran took later agrees all-agree =

@@ -1,6 +1,6 @@
 -- Calls that were run one after the other under one number, all by the same outcome table g or all by none, each answered as its contract says. Document 01,
 -- "Stages", and requests 6 to 8, 13 and 14.
-use Rattle.std.specs.Prelude.{◌≡◌, List, [], ◌∷◌, ℕ, length, take}
+use Rattle.std.specs.Prelude.{◌≡◌, Result, Ok, Err, List, [], ◌∷◌, ℕ, length, take}
 use Rattle.std.proofs.Math.Option.{Option, none}
 use Rattle.model.specs.Facts.{table_of, partial_facts, table_fault}
 use Rattle.model.specs.Levels.{OutcomeTable, outcomes_of}
@@ -11,11 +11,10 @@ use Rattle.model.specs.Record.{Record, tree}
 use Rattle.model.specs.Reading as reading
 use Rattle.model.specs.Reading.{Parsed, got, sheet_number}
 use Rattle.model.specs.Products.{Outcome, eval_policy, reduced, read_record, evaluate, partial_evaluate, narrow_residual, complete_residual, required_residual_facts}
-use Rattle.required.specs.declared.Required.{Required}
+use Rattle.refusal.specs.declared.Refusal.{Refusal}
+use Rattle.refusal.specs.declared.Refusal.TheVariants.{Contradiction}
 use Rattle.required.specs.Answers as required
-use Rattle.answer.specs.declared.Answer.{Answer}
-use Rattle.answer.specs.declared.Answer.TheVariants.{Written, Refused}
-use Rattle.answer.specs.Answers.{Answered}
+use Rattle.answer.specs.Answers.{Answer, Answered}
 use Rattle.staging.specs.Bare.{bare}
 use Rattle.staging.specs.Chain.{Step, InOrder, AllOf, run}
 use Rattle.staging.specs.Statement.{AgreesOn, Settled, Roomy}
@@ -36,13 +35,13 @@ pub record Narrowing : Type 0 where
   pub ran : Run
 
 abbrev pub Accepted : Answer → Type 0
-Accepted (Written n) = Unit {0}
-Accepted (Refused n) = ⊥
+Accepted (Ok n) = Unit {0}
+Accepted (Err e) = ⊥
 
 -- The record that the next call reads: the words that were written, or what was given where the call was refused.
 abbrev pub handed_on : List ℕ → Answer → List ℕ → List ℕ
-handed_on given (Written n) after = take n after
-handed_on given (Refused n) after = given
+handed_on given (Ok n) after = take n after
+handed_on given (Err e) after = given
 
 abbrev pub record_after : List ℕ → List Narrowing → List ℕ
 record_after given [] = given
@@ -53,8 +52,8 @@ abbrev pub step_of : Narrowing → Step
 step_of n = record { order = n.order; table = table_of n.ran.facts }
 
 abbrev pub if_accepted : Answer → Step → List Step → List Step
-if_accepted (Written n) s ss = s ∷ ss
-if_accepted (Refused n) s ss = ss
+if_accepted (Ok n) s ss = s ∷ ss
+if_accepted (Err e) s ss = ss
 
 abbrev pub steps_of : List Narrowing → List Step
 steps_of [] = []
@@ -77,9 +76,9 @@ Completed g number given s = Answered (complete_residual g number given s.facts 
 pub record Asking : Type 0 where
   pub before : List ℕ
   pub after : List ℕ
-  pub answer : Required
+  pub answer : Result ℕ Refusal
 
-abbrev pub asking_of : List ℕ → List ℕ → Required → Asking
+abbrev pub asking_of : List ℕ → List ℕ → Result ℕ Refusal → Asking
 asking_of before after answer = record { before = before; after = after; answer = answer }
 
 abbrev pub Asked : List ℕ → Asking → Type 0
@@ -115,15 +114,15 @@ pub record Guaranteed (g : Option OutcomeTable) (number : ℕ) (o : Order) (shee
   pub settled_first : Settled (tree residual) (table_of first.facts)
   pub settled_later : AllOf (λ s. Settled (tree residual) s.table) (steps_of later)
   -- Accepted direct evaluation with the known table gives the decision that the rules give, and an accepted completion its effect and products;
-  pub evaluated : (s : Run) (n : ℕ) → s.facts ≡ known → Evaluated g number sheet s → s.answer ≡ Written n
+  pub evaluated : (s : Run) (n : ℕ) → s.facts ≡ known → Evaluated g number sheet s → s.answer ≡ Ok n
       → ResolvedWith g (λ d. d ≡ eval_policy g (table_of known) t) (take n s.after)
-  pub completed : (s : Run) (n : ℕ) → s.facts ≡ known → Completed g number (record_after given later) s → s.answer ≡ Written n
+  pub completed : (s : Run) (n : ℕ) → s.facts ≡ known → Completed g number (record_after given later) s → s.answer ≡ Ok n
       → ResolvedWith g (λ d. products d ≡ products (eval_policy g (table_of known) t)) (take n s.after)
   -- if the reduction and every accepted narrowing are in sheet order, all of it but the fact list.
-  pub in_order : o ≡ sheet_order → AllOf InOrder (steps_of later) → (s : Run) (n : ℕ) → s.facts ≡ known → Completed g number (record_after given later) s → s.answer ≡ Written n
+  pub in_order : o ≡ sheet_order → AllOf InOrder (steps_of later) → (s : Run) (n : ℕ) → s.facts ≡ known → Completed g number (record_after given later) s → s.answer ≡ Ok n
       → ResolvedWith g (λ d. bare d ≡ bare (eval_policy g (table_of known) t)) (take n s.after)
   -- No narrowing with a table that agrees, by either order, is turned back for contradicting the record.
-  pub untouched : (by : Order) (s : Run) → AgreesOn t (table_of known) (table_of s.facts) → Narrowed g by number (record_after given later) s → s.answer ≡ Refused 17 → ⊥
+  pub untouched : (by : Order) (s : Run) → AgreesOn t (table_of known) (table_of s.facts) → Narrowed g by number (record_after given later) s → s.answer ≡ Err Contradiction → ⊥
   -- With room enough each call is accepted whenever its table is faultless and, in a narrowing, agrees; a reduction and a narrowing by either order.
   pub room_evaluate : (s : Run) → s.facts ≡ known → Roomy sheet (length s.before) → Evaluated g number sheet s → Accepted s.answer
   pub room_reduce : (by : Order) (s : Run) → table_fault partial_facts s.facts ≡ none → Roomy sheet (length s.before) → Reduced g by number sheet s → Accepted s.answer

@@ -8,7 +8,7 @@ ghost use Rattle.partial_policy.specs.Reducing.{order_of};
 ghost use Rattle.stages.specs.Runs.{run_of, Evaluated, Reduced, Narrowed, Completed, asking_of, Asked};
 
 use answer::Answer;
-use required::Required;
+use refusal::Refusal;
 
 pub fn evaluated(sheet: &[u32], number: u32, facts: &[u8], out: &mut [u32]) -> Answer
     ensures { Evaluated none number sheet.now (run_of facts.now out.old out.new result) }
@@ -101,7 +101,7 @@ pub fn completed_by_levels(
     calls::complete_residual_by_levels(levels, outcomes, given, number, facts, out)
 }
 
-pub fn asked(given: &[u32], set: &mut [u64]) -> Required
+pub fn asked(given: &[u32], set: &mut [u64]) -> Result<u32, Refusal>
     ensures { Asked given.now (asking_of set.old set.new result) }
 {
     required::required_residual_facts(given, set)

@@ -5,6 +5,7 @@ use mathlib.Core.List.{List, [], ◌∷◌, ◌++◌, map}
 use Prim.Native.Nat.{ℕ, ◌+◌, ◌-◌, ◌*◌, ◌≤◌}
 use native.Mathlib.Omega.{arith}
 use lib.ListN.{length, drop, length-append, length-map}
+use Rattle.std.specs.Prelude.{Result}
 use Rattle.model.specs.Fields.{words_for, pack}
 use Rattle.model.specs.Outcome.{product_sets}
 use Rattle.model.specs.Tight.{resolved_in, loose_r}
@@ -16,7 +17,7 @@ use Rattle.unpack.specs.Answers.{sized, Says, one_policy, words_b, words_u}
 use Rattle.unpack.specs.FieldLaws.{length_fields}
 use Rattle.unpack.specs.RecordLaws.{resolved_on, pending_on}
 
-module _ (run : List ℕ) (h : Bits run) (tree words : ℕ) (et : tree ≡ tree_at run) (ew : words ≡ 1 + words_for 2 (count_in run)) (l : tree_at run ≤ length run) (f : Found) where
+module _ (run : List ℕ) (h : Bits run) (tree words : ℕ) (et : tree ≡ tree_at run) (ew : words ≡ 1 + words_for 2 (count_in run)) (l : tree_at run ≤ length run) (f : Result Found ℕ) where
   pub says_resolved : kind_in run ≡ 14 → Says run tree (sized words_b words (resolved_in product_sets.value (drop tree run))) f → Says run (tree_at run) (sized words_u 0 (loose_r product_sets.value run)) f
   says_resolved k s =
       subst (λ q. Says run (tree_at run) q f) (sym (resolved_on run h k l))

@@ -8,16 +8,16 @@ use borrow.Author.Tests.{ltb-true, ltb-false, le-leb, lt-leb, eqb-true, eqb-fals
 use lib.Dec.{eqb, ltb}
 use lib.ListN.{length, drop, length-drop}
 use lib.Seq.{drop-drop}
+use Rattle.std.specs.Prelude.{Result, Ok, Err}
 use Rattle.model.specs.Reading.{Parsed, refuse, got, unless, few_obligations}
 use Rattle.model.specs.Products.{last_kind}
 use Rattle.laws.proofs.BitLaws.{Bits}
 use Rattle.policy_model.specs.Span.{arms_of}
 use Rattle.bits.specs.Widths.{plain_width}
 use Rattle.unpack.specs.declared.Found.{Found}
-use Rattle.unpack.specs.declared.Found.TheVariants as found
-use Rattle.unpack.specs.declared.Step.TheVariants as step
+use Rattle.unpack.specs.declared.Step.{Step}
 use Rattle.unpack.specs.Nodes.{lead_in, kind_in, lead_kind_of, plain_word, grant_node, permit_node, deny_node, list_node, node_length, node_count, Small}
-use Rattle.unpack.specs.Answers.{Says, Steps, step_of, plain_step, one_condition, all_conditions, one_policy, all_policies}
+use Rattle.unpack.specs.Answers.{Says, Steps, plain_step, one_condition, all_conditions, one_policy, all_policies}
 use Rattle.unpack.specs.FieldLaws.{need, need_there, need_ended}
 use Rattle.unpack.specs.NormalLaws.{owed8_in}
 use Rattle.unpack.specs.StepLaws.{policy_lists, condition_step, policy_step, grant_step, permit_step, deny_step}
@@ -35,16 +35,19 @@ here_there run at n b e f = let x = ltb-false (length run) (at + n) (sym e ∙ f
 
 -- ---- nodes without lists
 module _ (run : List ℕ) (at words lead p : ℕ) (e : p ≡ plain_width (lead_kind_of lead)) where
-  pub plain_ended : (b : Bool) → b ≡ ltb (length run) (at + (4 + p)) → b ≡ true → step.Refused 19 ≡ plain_step run at words lead
+  abbrev node : ℕ → ℕ → ℕ → Result Step ℕ
+  node n w arms = Ok (record { after = at + n; words = w; arms = arms })
+
+  pub plain_ended : (b : Bool) → b ≡ ltb (length run) (at + (4 + p)) → b ≡ true → Err 19 ≡ plain_step run at words lead
   unfolding plain_step
   plain_ended b f t =
-      sym (ap (λ x. cond x (step.Refused 19) (step.Node (at + (4 + plain_width (lead_kind_of lead))) (words + 1) (arms_of (plain_word lead)))) (ap (λ n. ltb (length run) (at + (4 + n))) (sym e) ∙ sym f ∙ t))
+      sym (ap (λ x. cond x (Err 19) (node (4 + plain_width (lead_kind_of lead)) (words + 1) (arms_of (plain_word lead)))) (ap (λ n. ltb (length run) (at + (4 + n))) (sym e) ∙ sym f ∙ t))
 
-  pub plain_there : (b : Bool) (arms : ℕ) → b ≡ ltb (length run) (at + (4 + p)) → b ≡ false → arms ≡ arms_of (plain_word lead) → step.Node (at + (4 + p)) (words + 1) arms ≡ plain_step run at words lead
+  pub plain_there : (b : Bool) (arms : ℕ) → b ≡ ltb (length run) (at + (4 + p)) → b ≡ false → arms ≡ arms_of (plain_word lead) → node (4 + p) (words + 1) arms ≡ plain_step run at words lead
   unfolding plain_step
   plain_there b arms f g a =
-      ap₂ (λ n m. step.Node (at + (4 + n)) (words + 1) m) e a
-      ∙ sym (ap (λ x. cond x (step.Refused 19) (step.Node (at + (4 + plain_width (lead_kind_of lead))) (words + 1) (arms_of (plain_word lead)))) (ap (λ n. ltb (length run) (at + (4 + n))) (sym e) ∙ sym f ∙ g))
+      ap₂ (λ n m. node (4 + n) (words + 1) m) e a
+      ∙ sym (ap (λ x. cond x (Err 19) (node (4 + plain_width (lead_kind_of lead)) (words + 1) (arms_of (plain_word lead)))) (ap (λ n. ltb (length run) (at + (4 + n))) (sym e) ∙ sym f ∙ g))
 
 -- What is asked of such a node, as a step.
 pub plain_steps : (run : List ℕ) (at depth words : ℕ) (asked : Parsed ℕ) (arms : ℕ → List ℕ → ℕ → Parsed ℕ) → at ≤ length run → words ≤ at → 0 < depth →
@@ -54,7 +57,7 @@ unfolding plain_step
 plain_steps run at depth words asked arms h k d e = by (ltb (length run) (at + (4 + plain_width (kind_in (drop at run))))) refl
   where
     by : (b : Bool) → ltb (length run) (at + (4 + plain_width (kind_in (drop at run)))) ≡ b →
-        Steps run at depth asked arms (cond b (step.Refused 19) (step.Node (at + (4 + plain_width (kind_in (drop at run)))) (words + 1) (arms_of (plain_word (lead_in (drop at run))))))
+        Steps run at depth asked arms (cond b (Err 19) (Ok (record { after = at + (4 + plain_width (kind_in (drop at run))); words = words + 1; arms = arms_of (plain_word (lead_in (drop at run))) })))
     by true f =
         let p = 4 + plain_width (kind_in (drop at run)) in
         e ∙ need_ended p (drop at run) _ (here_ended run at p true (sym f) refl h)
@@ -143,7 +146,7 @@ module _ (run : List ℕ) (at words kind : ℕ) (b : Bits (drop at run)) (e : ki
   stored_ended depth l = stored_is (drop at run) kind depth words b e low high ∙ need_ended (node_length (list_node kind (drop at run))) (drop at run) _ l
 
   pub stored_there : (depth : ℕ) → node_length (list_node kind (drop at run)) ≤ length (drop at run) → at ≤ length run → words ≤ at →
-      Steps run at (suc depth) (one_policy true (suc depth) words (drop at run)) (all_policies true depth) (step.Node (at + node_length (list_node kind (drop at run))) (words + node_count (list_node kind (drop at run))) 0)
+      Steps run at (suc depth) (one_policy true (suc depth) words (drop at run)) (all_policies true depth) (Ok (record { after = at + node_length (list_node kind (drop at run)); words = words + node_count (list_node kind (drop at run)); arms = 0 }))
   stored_there depth l h k =
       let n = list_node kind (drop at run) in
       let r = list_roomy (drop at run) kind in (
@@ -158,6 +161,11 @@ module _ (run : List ℕ) (at words kind : ℕ) (b : Bits (drop at run)) (e : ki
       )
 
 -- ---- a Grant
+-- A condition that was checked, as the end of its Grant.
+abbrev pub step_of : Result Found ℕ → Result Step ℕ
+step_of (Ok f) = Ok (record { after = f.at; words = f.words; arms = 0 })
+step_of (Err n) = Err n
+
 module _ (run : List ℕ) (at words depth : ℕ) (b : Bits (drop at run)) (e : kind_in (drop at run) ≡ 8) (res : Bool) where
   abbrev asks : Parsed ℕ
   asks = one_policy res (suc depth) words (drop at run)
@@ -177,19 +185,27 @@ module _ (run : List ℕ) (at words depth : ℕ) (b : Bits (drop at run)) (e : k
   pub grant_ended : 12 ≤ length (drop at run) → owed8_in (drop at run) b ≤ 64 → length (drop at run) < node_length (grant_node (drop at run)) → asks ≡ refuse 19
   grant_ended l m n = grant_on l m ∙ need_ended (node_length (grant_node (drop at run))) (drop at run) _ n
 
-  pub grant_steps : 12 ≤ length (drop at run) → owed8_in (drop at run) b ≤ 64 → node_length (grant_node (drop at run)) ≤ length (drop at run) → (f : Found) →
+  grant_steps : 12 ≤ length (drop at run) → owed8_in (drop at run) b ≤ 64 → node_length (grant_node (drop at run)) ≤ length (drop at run) → (f : Result Found ℕ) →
       Says run (at + node_length (grant_node (drop at run))) (one_condition depth (words + node_count (grant_node (drop at run))) (drop (at + node_length (grant_node (drop at run))) run)) f → Steps run at (suc depth) asks (all_policies res depth) (step_of f)
-  grant_steps l m n (found.Refused x) s = grant_on l m ∙ need_there (node_length (grant_node (drop at run))) (drop at run) _ n ∙ ap (λ y. one_condition depth (words + node_count (grant_node (drop at run))) y) (drop-drop (node_length (grant_node (drop at run))) at run) ∙ s
-  grant_steps l m n (found.Next a w) s =
+  grant_steps l m n (Err x) s = grant_on l m ∙ need_there (node_length (grant_node (drop at run))) (drop at run) _ n ∙ ap (λ y. one_condition depth (words + node_count (grant_node (drop at run))) y) (drop-drop (node_length (grant_node (drop at run))) at run) ∙ s
+  grant_steps l m n (Ok f) s =
       let r = grant_roomy (drop at run) in
       let x = s.3 in (
         grant_on l m ∙ need_there (node_length (grant_node (drop at run))) (drop at run) _ n ∙ ap (λ y. one_condition depth (words + node_count (grant_node (drop at run))) y) (drop-drop (node_length (grant_node (drop at run))) at run) ∙ s.0
-            ∙ (policy_lists res).none depth 0 w (drop a run) refl,
+            ∙ (policy_lists res).none depth 0 f.words (drop f.at run) refl,
         s.1,
         omega arith,
         s.2,
         omega arith,
       )
+
+  -- By the node's length and count of words, as the code has them.
+  pub grant_ends : 12 ≤ length (drop at run) → owed8_in (drop at run) b ≤ 64 → (k v : ℕ) → k ≡ node_length (grant_node (drop at run)) → v ≡ node_count (grant_node (drop at run)) → k ≤ length (drop at run) →
+      (f : Result Found ℕ) → Says run (at + k) (one_condition depth (words + v) (drop (at + k) run)) f → Steps run at (suc depth) asks (all_policies res depth) (step_of f)
+  grant_ends l m k v n e h f s =
+      grant_steps l m (omega (arith, n, h)) f
+      (subst (λ x. Says run (at + x) (one_condition depth (words + node_count (grant_node (drop at run))) (drop (at + x) run)) f) n
+      (subst (λ y. Says run (at + k) (one_condition depth (words + y) (drop (at + k) run)) f) e s))
 
 -- ---- in a policy's step
 pub residual_true : (res : Bool) → 11 < last_kind res → res ≡ true

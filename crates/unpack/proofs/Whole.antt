@@ -1,10 +1,12 @@
 -- From the check's answer to that of a call: what was read, its words, and how many they are. Assumes nothing.
 use mathlib.Core.Path.{◌≡◌, refl, sym, ◌∙◌, ap, ap₂, subst}
-use mathlib.Core.Bool.{Bool, true, false, ◌&&◌, and-false}
+use mathlib.Core.Bool.{Bool, true, false, cond, ◌&&◌}
+use Rattle.std.specs.Prelude.{Result, Ok, Err}
+use Rattle.std.proofs.Math.Option.{Option, none, some, none-ne-some, some-ne-none}
 use mathlib.Core.List.{List, [], ◌++◌, append-nil}
 use Prim.Native.Nat.{ℕ, ◌+◌, ◌-◌, ◌≤◌, ◌<◌}
 use native.Mathlib.Omega.{arith}
-use borrow.Author.Tests.{le-leb, lt-leb}
+use borrow.Author.Tests.{le-leb, lt-leb, leb-true}
 use lib.Dec.{leb, ltb}
 use lib.ListN.{length, drop, length-drop}
 use Rattle.model.specs.Outcome.{product_sets}
@@ -19,10 +21,12 @@ use Rattle.laws.proofs.BitLaws.{Bits}
 use Rattle.laws.specs.Size.{words}
 use Rattle.laws.proofs.Lengths.{length_encode, length_encode_r, length_numbered}
 use Rattle.packing.specs.Written as packing
-use Rattle.answer.specs.declared.Answer.TheVariants.{Written, Refused}
+use Rattle.refusal.specs.declared.Refusal.{Refusal}
+use Rattle.refusal.specs.declared.Refusal.TheVariants as refusal
+use Rattle.refusal.specs.Numbers.{number_of}
 use Rattle.answer.specs.Answers.{Answered}
 use Rattle.unpack.specs.Nodes.{restored}
-use Rattle.unpack.specs.Answers.{sized, words_u}
+use Rattle.unpack.specs.Answers.{sized, words_u, judged}
 use Rattle.unpack.specs.RestoreLaws.{Restores, restored_none, restores_t}
 
 abbrev Got : {A : Type 0} → Parsed A → Type 0
@@ -37,20 +41,30 @@ abbrev rest_of : Parsed ℕ → List ℕ
 rest_of (refuse n) = []
 rest_of (got n bs) = bs
 
+abbrev ok : ℕ → Result ℕ ℕ
+ok n = Ok n
+
+abbrev err : ℕ → Result ℕ ℕ
+err n = Err n
+
+abbrev cause : Option ℕ → ℕ
+cause none = 0
+cause (some n) = n
+
 -- For anything that is read, with its words and their count.
 module _ {A : Type 0} (enc : A → List ℕ) (size : A → ℕ) (long : (a : A) → length (enc a) ≡ size a) (most : ℕ) (bytes : List ℕ) (q : Parsed A) (out : List ℕ) where
   abbrev given : model.Answer
   given = model.unless_long (leb (length bytes) 65536) (model.on_read (filled q) (λ a. give_words most (length out) (enc a)))
 
-  pub too_long : 65536 < length bytes → Answered given out out (Refused 1)
+  pub too_long : 65536 < length bytes → Answered given out out (Err refusal.Length)
   too_long h = rw (lt-leb (length bytes) 65536 h) (record { answer_is = refl; output_is = refl })
 
   module _ (fits : length bytes ≤ 65536) where
-    pub refused : (n : ℕ) → sized size 0 q ≡ refuse n → Answered given out out (Refused n)
-    refused n e = rw (le-leb (length bytes) 65536 fits) (by q e)
+    pub turned_back : (r : Refusal) → sized size 0 q ≡ refuse (number_of r) → Answered given out out (Err r)
+    turned_back r e = rw (le-leb (length bytes) 65536 fits) (by q e)
       where
-        by : (q : Parsed A) → sized size 0 q ≡ refuse n → Answered (model.on_read (filled q) (λ a. give_words most (length out) (enc a))) out out (Refused n)
-        by (refuse m) f = record { answer_is = ap Refused (ap count_of (sym f)); output_is = refl }
+        by : (q : Parsed A) → sized size 0 q ≡ refuse (number_of r) → Answered (model.on_read (filled q) (λ a. give_words most (length out) (enc a))) out out (Err r)
+        by (refuse m) f = record { answer_is = ap err (ap count_of (sym f)); output_is = refl }
         by (got a bs) f = absurd (subst Got f tt)
 
     module _ (w : ℕ) (bs : List ℕ) (e : sized size 0 q ≡ got w bs) where
@@ -66,14 +80,33 @@ module _ {A : Type 0} (enc : A → List ℕ) (size : A → ℕ) (long : (a : A) 
               subst (λ x. Answered (model.on_read (unless x 20 (got a [])) (λ a. give_words most (length out) (enc a))) out after r) (sym eb ∙ ap (λ l. ltb (length l) 8 && zeros l) (sym (ap rest_of f)))
               (k a (omega (arith, long a, ap count_of f)) (fine refl))
 
-      pub not_filled : false ≡ (ltb (length bs) 8 && zeros bs) → Answered given out out (Refused 20)
-      not_filled f = decided false (sym f) (λ a n h. record { answer_is = refl; output_is = refl })
+      -- What follows is not the filler, or the words are too many or have no room.
+      pub misjudged : (r : Refusal) → some (number_of r) ≡ judged bs w most (length out) → Answered given out out (Err r)
+      misjudged r e = by_filler (ltb (length bs) 8 && zeros bs) refl
+        where
+          answers : {n : ℕ} → some (number_of r) ≡ some n → err (number_of r) ≡ err n
+          answers f = ap (λ o. err (cause o)) f
 
-      pub many_words : true ≡ (ltb (length bs) 8 && zeros bs) → most < w → Answered given out out (Refused 11)
-      many_words f l = decided true (sym f) (λ a n h. rw (lt-leb (length (enc a)) most (omega arith)) (record { answer_is = refl; output_is = refl }))
+          by_room : (b c : Bool) → leb w most ≡ b → leb w (length out) ≡ c → some (number_of r) ≡ cond (b && c) none (some 11) →
+              (a : A) → length (enc a) ≡ w → Answered (give_words most (length out) (enc a)) out out (Err r)
+          by_room false c f g h a n = rw (n, f) (record { answer_is = answers h; output_is = refl })
+          by_room true false f g h a n = rw (n, f, g) (record { answer_is = answers h; output_is = refl })
+          by_room true true f g h a n = absurd (some-ne-none (number_of r) h)
 
-      pub no_room : true ≡ (ltb (length bs) 8 && zeros bs) → length out < w → Answered given out out (Refused 11)
-      no_room f l = decided true (sym f) (λ a n h. rw (lt-leb (length (enc a)) (length out) (omega arith), and-false (leb (length (enc a)) most)) (record { answer_is = refl; output_is = refl }))
+          by_filler : (b : Bool) → (ltb (length bs) 8 && zeros bs) ≡ b → Answered given out out (Err r)
+          by_filler false f = decided false f (λ a n h. record { answer_is = answers (e ∙ ap (λ b. cond b (cond (leb w most && leb w (length out)) none (some 11)) (some 20)) f); output_is = refl })
+          by_filler true f =
+              decided true f (λ a n h. by_room (leb w most) (leb w (length out)) refl refl (e ∙ ap (λ b. cond b (cond (leb w most && leb w (length out)) none (some 11)) (some 20)) f) a n)
+
+      -- It is the filler, and the words have room.
+      pub well_judged : none ≡ judged bs w most (length out) → (true ≡ (ltb (length bs) 8 && zeros bs)) × (w ≤ most) × (w ≤ length out)
+      well_judged e = by (ltb (length bs) 8 && zeros bs) (leb w most) (leb w (length out)) refl refl refl
+        where
+          by : (b c d : Bool) → (ltb (length bs) 8 && zeros bs) ≡ b → leb w most ≡ c → leb w (length out) ≡ d → (true ≡ (ltb (length bs) 8 && zeros bs)) × (w ≤ most) × (w ≤ length out)
+          by true true true f g h = (sym f, leb-true w most g, leb-true w (length out) h)
+          by true true false f g h = absurd (none-ne-some 11 (e ∙ (λ i. cond (f i) (cond (g i && h i) none (some 11)) (some 20))))
+          by true false d f g h = absurd (none-ne-some 11 (e ∙ (λ i. cond (f i) (cond (g i && leb w (length out)) none (some 11)) (some 20))))
+          by false c d f g h = absurd (none-ne-some 20 (e ∙ ap (λ b. cond b (cond (leb w most && leb w (length out)) none (some 11)) (some 20)) f))
 
       module _ (ws : List ℕ) (same : Holds (λ a cs. cs ≡ bs → enc a ≡ ws) q) where
         pub as_long : length ws ≡ w
@@ -83,7 +116,7 @@ module _ {A : Type 0} (enc : A → List ℕ) (size : A → ℕ) (long : (a : A) 
             by (refuse m) f h = absurd (subst Got (sym f) tt)
             by (got a cs) f h = ap length (sym (h.it (ap rest_of f))) ∙ omega (arith, long a, ap count_of f)
 
-        pub done : true ≡ (ltb (length bs) 8 && zeros bs) → w ≤ most → w ≤ length out → {after : List ℕ} {n : ℕ} → packing.Written ws out after n → Answered given out after (Written w)
+        pub done : true ≡ (ltb (length bs) 8 && zeros bs) → w ≤ most → w ≤ length out → {after : List ℕ} {n : ℕ} → packing.Written ws out after n → Answered given out after (Ok w)
         done f l m {after} {n} k =
             decided true (sym f) (λ a x h. by a x (words_are a q e same h))
           where
@@ -91,10 +124,10 @@ module _ {A : Type 0} (enc : A → List ℕ) (size : A → ℕ) (long : (a : A) 
             words_are a (refuse m) f s h = absurd (subst Got (sym f) tt)
             words_are a (got b cs) f s h = ap enc (sym h.it) ∙ s.it (ap rest_of f)
 
-            by : (a : A) → length (enc a) ≡ w → enc a ≡ ws → Answered (model.on_read (unless true 20 (got a [])) (λ a. give_words most (length out) (enc a))) out after (Written w)
+            by : (a : A) → length (enc a) ≡ w → enc a ≡ ws → Answered (model.on_read (unless true 20 (got a [])) (λ a. give_words most (length out) (enc a))) out after (Ok w)
             by a x y =
                 rw (le-leb (length (enc a)) most (omega arith), le-leb (length (enc a)) (length out) (omega arith))
-                (record { answer_is = ap Written (sym x); output_is = k.output ∙ ap₂ (λ u v. u ++ drop v out) (sym y) (k.number ∙ ap length (sym y)) })
+                (record { answer_is = ap ok (sym x); output_is = k.output ∙ ap₂ (λ u v. u ++ drop v out) (sym y) (k.number ∙ ap length (sym y)) })
 
 -- ---- sheets
 pub sheet_size : (t : Policy Outcome) → length (encode product_sets.number t) ≡ words t

@@ -1,45 +1,44 @@
 -- What the checks of bits answer, from what is read of them: the words that it takes, and the bits after it. Request 11.
-use Rattle.std.specs.Prelude.{◌≡◌, Bool, cond, List, ℕ, ◌+◌, ◌≤◌, ◌<◌, ltb, length, drop}
+use Rattle.std.specs.Prelude.{◌≡◌, Bool, cond, ◌&&◌, List, ℕ, ◌+◌, ◌≤◌, ◌<◌, ltb, leb, length, drop, Result, Ok, Err}
+use Rattle.std.proofs.Math.Option.{Option, none, some}
 use Rattle.model.specs.Outcome.{product_sets}
 use Rattle.model.specs.Condition.{cnil, ccons}
 use Rattle.model.specs.Policy.{pnil, pcons}
 use Rattle.model.specs.Partial.{ReducedPolicy, as_residual}
 use Rattle.model.specs.Products.{Outcome}
 use Rattle.model.specs.Reading.{Parsed, refuse, got, many}
-use Rattle.model.specs.Tight.{kind_bits, loose_c, loose, UnderNumber}
+use Rattle.model.specs.Tight.{kind_bits, loose_c, loose, zeros, UnderNumber}
 use Rattle.laws.specs.Size.{words_c, words_cs, words as words_t, wordss as words_ts, words_r}
 use Rattle.policy_model.specs.Span.{arms_of}
 use Rattle.bits.specs.Widths.{plain_width}
 use Rattle.unpack.specs.Nodes.{lead_kind_of, plain_word}
 use Rattle.unpack.specs.declared.Found.{Found}
-use Rattle.unpack.specs.declared.Found.TheVariants as found
 use Rattle.unpack.specs.declared.Step.{Step}
-use Rattle.unpack.specs.declared.Step.TheVariants as step
 
 -- How many words what was read takes, after so many.
 abbrev pub sized : {A : Type 0} → (A → ℕ) → ℕ → Parsed A → Parsed ℕ
 sized size words (refuse n) = refuse n
 sized size words (got a bs) = got (words + size a) bs
 
-abbrev pub Says : List ℕ → ℕ → Parsed ℕ → Found → Type 0
-Says run from asked (found.Next at words) = (asked ≡ got words (drop at run)) × (at ≤ length run) × (words ≤ at) × (from ≤ at)
-Says run from asked (found.Refused n) = asked ≡ refuse n
+abbrev pub Says : List ℕ → ℕ → Parsed ℕ → Result Found ℕ → Type 0
+Says run from asked (Ok f) = (asked ≡ got f.words (drop f.at run)) × (f.at ≤ length run) × (f.words ≤ f.at) × (from ≤ f.at)
+Says run from asked (Err n) = asked ≡ refuse n
 
 -- Of one node, after which come so many arms.
-abbrev pub Steps : List ℕ → ℕ → ℕ → Parsed ℕ → (ℕ → List ℕ → ℕ → Parsed ℕ) → Step → Type 0
-Steps run at depth asked arms (step.Node after words n) = (asked ≡ arms words (drop after run) n) × (after ≤ length run) × (at < after) × (words ≤ after) × (0 < depth)
-Steps run at depth asked arms (step.Refused n) = asked ≡ refuse n
-
-abbrev pub step_of : Found → Step
-step_of (found.Next at words) = step.Node at words 0
-step_of (found.Refused n) = step.Refused n
+abbrev pub Steps : List ℕ → ℕ → ℕ → Parsed ℕ → (ℕ → List ℕ → ℕ → Parsed ℕ) → Result Step ℕ → Type 0
+Steps run at depth asked arms (Ok s) = (asked ≡ arms s.words (drop s.after run) s.arms) × (s.after ≤ length run) × (at < s.after) × (s.words ≤ s.after) × (0 < depth)
+Steps run at depth asked arms (Err n) = asked ≡ refuse n
 
 -- A node without lists at `at`, from its first bits.
-unfoldable pub plain_step : List ℕ → ℕ → ℕ → ℕ → Step
+unfoldable pub plain_step : List ℕ → ℕ → ℕ → ℕ → Result Step ℕ
 plain_step run at words lead =
     cond (ltb (length run) (at + (kind_bits + plain_width (lead_kind_of lead))))
-    (step.Refused 19)
-    (step.Node (at + (kind_bits + plain_width (lead_kind_of lead))) (words + 1) (arms_of (plain_word lead)))
+    (Err 19)
+    (Ok (record { after = at + (kind_bits + plain_width (lead_kind_of lead)); words = words + 1; arms = arms_of (plain_word lead) }))
+
+-- Why what was read, of so many words and with these bits after it, is turned back: what follows is not the filler, or the words are too many.
+abbrev pub judged : List ℕ → ℕ → ℕ → ℕ → Option ℕ
+judged bs words most room = cond (ltb (length bs) 8 && zeros bs) (cond (leb words most && leb words room) none (some 11)) (some 20)
 
 -- ---- what is asked of conditions and of policies, after so many words
 abbrev pub one_condition : ℕ → ℕ → List ℕ → Parsed ℕ

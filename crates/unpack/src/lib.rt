@@ -2,19 +2,23 @@
 // restoring their words is a loop without levels.
 #![tactic(auto)]
 
-ghost use Rattle.std.specs.Prelude.{◌≡◌, Bool, true, ◌&&◌, map, ℕ, suc, ◌+◌, ◌-◌, ◌^◌, ◌≤◌, ◌<◌, ltb, length, drop, get_or};
+ghost use Rattle.std.specs.Prelude.{◌≡◌, Bool, true, ◌&&◌, List, map, ℕ, suc, ◌+◌, ◌-◌, ◌^◌, ◌≤◌, ◌<◌, ltb, length, drop, get_or};
 ghost use Rattle.model.specs.Fields.{words_for};
 ghost use Rattle.model.specs.Outcome.{product_sets};
-ghost use Rattle.model.specs.Reading.{levels};
+ghost use Rattle.model.specs.Reading.{levels, Parsed};
 ghost use Rattle.model.specs.Products.{last_kind};
 ghost use Rattle.model.specs.Bits.{run_of};
 ghost use Rattle.model.specs.Tight.{obligation_tight_bits, tight_bytes, zeros, resolved_in, loose_r, unpack_sheet, unpack_record};
 ghost use Rattle.packing.specs.Written.{Written};
+ghost use Rattle.refusal.specs.Numbers.{by_number, refused};
 ghost use Rattle.answer.specs.Answers.{Answered};
 ghost use Rattle.unpack.specs.Nodes.{fields_in, mark_in, loose_entry, plain_word, grant_node, permit_node, deny_first, deny_node, list_node, has_lists, node_length, node_count, Small, obligation_words, entry_words, fixed_words, node_words, kind_in, restored, tree_at, restored_record};
-ghost use Rattle.unpack.specs.Answers.{sized, Says, Steps, step_of, plain_step, one_condition, all_conditions, one_policy, all_policies, words_b, words_u};
+ghost use Rattle.unpack.specs.Answers.{sized, Says, Steps, plain_step, one_condition, all_conditions, one_policy, all_policies, words_b, words_u, judged};
+ghost use Rattle.unpack.specs.Levels.{Lists};
+ghost use Rattle.unpack.specs.StepLaws.{condition_lists, policy_lists};
 
 use answer::Answer;
+use refusal::Refusal;
 
 // A tight form has at most as many bytes.
 pub const TIGHT_BYTES: usize = 65536;
@@ -171,22 +175,31 @@ fn node_words(node: Node) -> usize
         + policy_model::entry_words(node.facts)
 }
 
-// What a check finds: the bit after what was checked, and the words that it takes, or the number of the refusal.
-#[derive(Drop)]
-enum Found {
-    Next { at: usize, words: usize },
-    Refused(u32),
+// Where a check stands: the bits, the place in them, and the words before it.
+#[derive(Clone, Copy)]
+struct Place<'a> {
+    bytes: &'a [u8],
+    at: usize,
+    words: usize,
+    ghost octets: { (i : ℕ) → get_or bytes.now i 0 < 256 },
+    ghost short: { length bytes.now ≤ tight_bytes },
+    ghost inside: { at ≤ length (run_of bytes.now) },
+    ghost fewer: { words ≤ at },
+}
+
+// What a check finds: the bit after what was checked, and the words that it takes.
+#[derive(Clone, Copy)]
+struct Found {
+    at: usize,
+    words: usize,
 }
 
 // The same of one node, and how many arms follow it.
-#[derive(Drop)]
-enum Step {
-    Node {
-        after: usize,
-        words: usize,
-        arms: u32,
-    },
-    Refused(u32),
+#[derive(Clone, Copy)]
+struct Step {
+    after: usize,
+    words: usize,
+    arms: u32,
 }
 
 // Whether the bits end before bit `at`.
@@ -198,127 +211,153 @@ fn ended(bytes: &[u8], at: usize) -> bool
 }
 
 // Checks a node without lists at `at`, from its first bits: they are there to its end.
-fn plain_step(bytes: &[u8], at: usize, words: usize, lead: u32) -> Step
-    requires { (length bytes.now ≤ tight_bytes) × (at ≤ length (run_of bytes.now)) × (words ≤ at) × (lead < 2 ^ 20) }
-    ensures { result ≡ plain_step (run_of bytes.now) at words lead }
+fn plain_step(place: Place<'_>, lead: u32) -> Result<Step, Refusal>
+    requires { lead < 2 ^ 20 }
+    ensures { by_number result ≡ plain_step (run_of place.entry.bytes.now) place.entry.at place.entry.words lead }
 {
+    let Place { bytes, at, words } = place;
     let after = at + (bits::KIND_BITS + bits::plain_bits(lead / policy_model::HALF)) as usize;
     if ended(bytes, after) {
-        return Step::Refused(19);
+        return Err(Refusal::BitsEnd);
     }
-    Step::Node {
+    Ok(Step {
         after,
         words: words + 1,
         arms: policy_model::arms_of(plain_word(lead)),
-    }
+    })
 }
 
-// Checks the condition at `at` up to its arms, after so many words.
-fn condition_step(bytes: &[u8], at: usize, words: usize, depth: usize) -> Step
-    requires { (length bytes.now ≤ tight_bytes) × (at ≤ length (run_of bytes.now)) × (words ≤ at) }
-    ensures { Steps (run_of bytes.now) at depth (one_condition depth words (drop at (run_of bytes.now))) (all_conditions (depth - 1)) result }
-{
-    if ended(bytes, at + 4) {
-        return Step::Refused(19);
-    }
-    let lead = bits::bits_at(bytes, at, PLAIN_BITS);
-    if lead / policy_model::HALF > policy_model::KIND_CONDITION_ANY {
-        return Step::Refused(5);
-    }
-    if depth == 0 {
-        return Step::Refused(7);
-    }
-    plain_step(bytes, at, words, lead)
+// The nodes that a check takes in one loop: conditions, or policies.
+trait Nodes {
+    // What is asked of a node of at most so many levels, after so many words, and of so many nodes.
+    ghost one: { Self → ℕ → ℕ → List ℕ → Parsed ℕ };
+
+    ghost all: { Self → ℕ → ℕ → List ℕ → ℕ → Parsed ℕ };
+
+    // Checks the node at `at` up to its arms, after so many words.
+    fn step(&self, place: Place<'_>, depth: usize) -> Result<Step, Refusal>
+        requires { depth ≤ levels }
+        ensures { Steps (run_of place.entry.bytes.now) place.entry.at depth (one self.now depth place.entry.words (drop place.entry.at (run_of place.entry.bytes.now))) (all self.now (depth - 1)) (by_number result) };
+
+    ghost lists: { (nodes : Self) → Lists (one nodes) (all nodes) };
 }
 
-// Checks the condition at `at`, of at most `depth` levels, after so many words. One loop, as `policy_model` checks words: `left` nodes are due at `level`, and
+// Checks the node at `at`, of at most `depth` levels, after so many words. One loop, as `policy_model` checks words: `left` nodes are due at `level`, and
 // `above` says how many are due at each level above it.
-fn check_condition(bytes: &[u8], at: usize, words: usize, depth: usize) -> Found
-    requires { (length bytes.now ≤ tight_bytes) × (at ≤ length (run_of bytes.now)) × (words ≤ at) × (depth ≤ levels) }
-    ensures { Says (run_of bytes.now) at (one_condition depth words (drop at (run_of bytes.now))) result }
+fn check<N: Nodes>(nodes: &N, place: Place<'_>, depth: usize) -> Result<Found, Refusal>
+    requires { depth ≤ levels }
+    ensures { Says (run_of place.entry.bytes.now) place.entry.at (N.one nodes.now depth place.entry.words (drop place.entry.at (run_of place.entry.bytes.now))) (by_number result) }
 {
     let mut above = [0u32; policy_model::LEVELS];
     let mut level = 0;
     let mut left: u32 = 1;
-    let mut next = at;
-    let mut size = words;
+    let mut next = place.at;
+    let mut size = place.words;
     loop {
         if left == 0 {
             if level == 0 {
-                return Found::Next {
+                return Ok(Found {
                     at: next,
                     words: size,
-                };
+                });
             }
             level -= 1;
             left = above[level];
             continue;
         }
-        match condition_step(bytes, next, size, depth - level) {
-            Step::Refused(number) => return Found::Refused(number),
-            Step::Node { after, words, arms } => {
-                next = after;
-                size = words;
-                if arms == 0 {
-                    left -= 1;
-                } else {
-                    above[level] = left - 1;
-                    level += 1;
-                    left = arms;
-                }
-            }
+        let here = Place {
+            bytes: place.bytes,
+            at: next,
+            words: size,
+        };
+        let Step { after, words, arms } = nodes.step(here, depth - level)?;
+        next = after;
+        size = words;
+        if arms == 0 {
+            left -= 1;
+        } else {
+            above[level] = left - 1;
+            level += 1;
+            left = arms;
         }
     }
 }
 
-// A whole node, as a step.
-fn step_of(found: Found) -> Step
-    ensures { result ≡ step_of found }
-{
-    match found {
-        Found::Next { at, words } => Step::Node {
-            after: at,
-            words,
-            arms: 0,
-        },
-        Found::Refused(number) => Step::Refused(number),
+struct Conditions;
+
+impl Nodes for Conditions {
+    ghost one = { λ _. one_condition };
+
+    ghost all = { λ _. all_conditions };
+
+    ghost lists = { λ _. condition_lists };
+
+    fn step(&self, place: Place<'_>, depth: usize) -> Result<Step, Refusal> {
+        let Place {
+            bytes,
+            at,
+            words: _,
+        } = place;
+        if ended(bytes, at + 4) {
+            return Err(Refusal::BitsEnd);
+        }
+        let lead = bits::bits_at(bytes, at, PLAIN_BITS);
+        if lead / policy_model::HALF > policy_model::KIND_CONDITION_ANY {
+            return Err(Refusal::Kind);
+        }
+        if depth == 0 {
+            return Err(Refusal::Level);
+        }
+        plain_step(place, lead)
     }
 }
 
 // Checks the Grant at `at`, with its condition of at most `depth` levels: the obligation count first, then the other fields.
-fn grant_step(bytes: &[u8], at: usize, words: usize, depth: usize) -> Step
-    requires { (length bytes.now ≤ tight_bytes) × (at ≤ length (run_of bytes.now)) × (words ≤ at) × (depth < levels) × (kind_in (drop at (run_of bytes.now)) ≡ 8) × (at + 4 ≤ length (run_of bytes.now)) }
-    ensures { (residual : Bool) → Steps (run_of bytes.now) at (suc depth) (one_policy residual (suc depth) words (drop at (run_of bytes.now))) (all_policies residual depth) result }
+fn grant_step(place: Place<'_>, depth: usize) -> Result<Step, Refusal>
+    requires { (depth < levels) × (kind_in (drop place.at (run_of place.bytes.now)) ≡ 8) × (place.at + 4 ≤ length (run_of place.bytes.now)) }
+    ensures { (residual : Bool) → Steps (run_of place.entry.bytes.now) place.entry.at (suc depth) (one_policy residual (suc depth) place.entry.words (drop place.entry.at (run_of place.entry.bytes.now))) (all_policies residual depth) (by_number result) }
 {
+    let Place { bytes, at, words } = place;
     if ended(bytes, at + 12) {
-        return Step::Refused(19);
+        return Err(Refusal::BitsEnd);
     }
     if bits::bits_at(bytes, at + 5, 7) > policy_model::MOST_OBLIGATIONS {
-        return Step::Refused(8);
+        return Err(Refusal::Field);
     }
     let node = grant_at(bytes, at);
     let after = at + node_bits(node);
     if ended(bytes, after) {
-        return Step::Refused(19);
+        return Err(Refusal::BitsEnd);
     }
-    step_of(check_condition(bytes, after, words + node_words(node), depth))
+    let rest = Place {
+        bytes,
+        at: after,
+        words: words + node_words(node),
+    };
+    let found = check(&Conditions, rest, depth)?;
+    Ok(Step {
+        after: found.at,
+        words: found.words,
+        arms: 0,
+    })
 }
 
 // Checks the PermitWithTrace or DenyWithTrace at `at`.
-fn stored_step(bytes: &[u8], at: usize, words: usize, kind: u32) -> Step
-    requires { (length bytes.now ≤ tight_bytes) × (at ≤ length (run_of bytes.now)) × (words ≤ at) × (kind_in (drop at (run_of bytes.now)) ≡ kind) × (12 ≤ kind) × (kind ≤ 13) × (at + 4 ≤ length (run_of bytes.now)) }
-    ensures { (depth : ℕ) → Steps (run_of bytes.now) at (suc depth) (one_policy true (suc depth) words (drop at (run_of bytes.now))) (all_policies true depth) result }
+fn stored_step(place: Place<'_>, kind: u32) -> Result<Step, Refusal>
+    requires { (kind_in (drop place.at (run_of place.bytes.now)) ≡ kind) × (12 ≤ kind) × (kind ≤ 13) × (place.at + 4 ≤ length (run_of place.bytes.now)) }
+    ensures { (depth : ℕ) → Steps (run_of place.entry.bytes.now) place.entry.at (suc depth) (one_policy true (suc depth) place.entry.words (drop place.entry.at (run_of place.entry.bytes.now))) (all_policies true depth) (by_number result) }
 {
+    let Place { bytes, at, words } = place;
     let node = node_at(bytes, at, kind);
     let after = at + node_bits(node);
     if ended(bytes, after) {
-        return Step::Refused(19);
+        return Err(Refusal::BitsEnd);
     }
-    Step::Node {
+    Ok(Step {
         after,
         words: words + node_words(node),
         arms: 0,
-    }
+    })
 }
 
 // The last kind that is allowed: nodes 12 and 13 stand in residuals only.
@@ -332,81 +371,56 @@ fn last_kind(residual: bool) -> u32
     }
 }
 
-// Checks the policy at `at` up to its arms, after so many words. A Grant's condition is no arm.
-fn policy_step(bytes: &[u8], at: usize, words: usize, depth: usize, residual: bool) -> Step
-    requires { (length bytes.now ≤ tight_bytes) × (at ≤ length (run_of bytes.now)) × (words ≤ at) × (depth ≤ levels) }
-    ensures { Steps (run_of bytes.now) at depth (one_policy residual depth words (drop at (run_of bytes.now))) (all_policies residual (depth - 1)) result }
-{
-    if ended(bytes, at + 4) {
-        return Step::Refused(19);
-    }
-    let lead = bits::bits_at(bytes, at, PLAIN_BITS);
-    let kind = lead / policy_model::HALF;
-    if kind < policy_model::KIND_PERMIT {
-        return Step::Refused(5);
-    }
-    if kind > last_kind(residual) {
-        return Step::Refused(5);
-    }
-    if depth == 0 {
-        return Step::Refused(7);
-    }
-    if kind == policy_model::KIND_GRANT {
-        return grant_step(bytes, at, words, depth - 1);
-    }
-    if kind > policy_model::KIND_OR_ELSE {
-        return stored_step(bytes, at, words, kind);
-    }
-    plain_step(bytes, at, words, lead)
+// Policies, of a residual or of a sheet. A Grant's condition is no arm.
+struct Policies {
+    residual: bool,
 }
 
-// Checks the policy at `at`, of at most `depth` levels, its conditions among them, in one loop as `check_condition` does.
-fn check_policy(bytes: &[u8], at: usize, words: usize, depth: usize, residual: bool) -> Found
-    requires { (length bytes.now ≤ tight_bytes) × (at ≤ length (run_of bytes.now)) × (words ≤ at) × (depth ≤ levels) }
-    ensures { Says (run_of bytes.now) at (one_policy residual depth words (drop at (run_of bytes.now))) result }
-{
-    let mut above = [0u32; policy_model::LEVELS];
-    let mut level = 0;
-    let mut left: u32 = 1;
-    let mut next = at;
-    let mut size = words;
-    loop {
-        if left == 0 {
-            if level == 0 {
-                return Found::Next {
-                    at: next,
-                    words: size,
-                };
-            }
-            level -= 1;
-            left = above[level];
-            continue;
+impl Nodes for Policies {
+    ghost one = { λ nodes. one_policy nodes.residual };
+
+    ghost all = { λ nodes. all_policies nodes.residual };
+
+    ghost lists = { λ nodes. policy_lists nodes.residual };
+
+    fn step(&self, place: Place<'_>, depth: usize) -> Result<Step, Refusal> {
+        let Place {
+            bytes,
+            at,
+            words: _,
+        } = place;
+        if ended(bytes, at + 4) {
+            return Err(Refusal::BitsEnd);
         }
-        match policy_step(bytes, next, size, depth - level, residual) {
-            Step::Refused(number) => return Found::Refused(number),
-            Step::Node { after, words, arms } => {
-                next = after;
-                size = words;
-                if arms == 0 {
-                    left -= 1;
-                } else {
-                    above[level] = left - 1;
-                    level += 1;
-                    left = arms;
-                }
-            }
+        let lead = bits::bits_at(bytes, at, PLAIN_BITS);
+        let kind = lead / policy_model::HALF;
+        if kind < policy_model::KIND_PERMIT {
+            return Err(Refusal::Kind);
         }
+        if kind > last_kind(self.residual) {
+            return Err(Refusal::Kind);
+        }
+        if depth == 0 {
+            return Err(Refusal::Level);
+        }
+        if kind == policy_model::KIND_GRANT {
+            return grant_step(place, depth - 1);
+        }
+        if kind > policy_model::KIND_OR_ELSE {
+            return stored_step(place, kind);
+        }
+        plain_step(place, lead)
     }
 }
 
-// Obligation number `index` of `count` that begin at bit `at`, 0 past the last.
-fn obligation_or_zero(bytes: &[u8], at: usize, count: u32, index: usize) -> u32
-    requires { (at < 2 ^ 32) × (index < 2 ^ 32) }
-    ensures is { result ≡ get_or (fields_in obligation_tight_bits count (drop at (run_of bytes.now))) index 0 }
-    ensures fits { result < 64 }
+// Field number `index` of `count` that begin at bit `at`, each of so many bits; 0 past the last.
+fn field_or_zero(bytes: &[u8], at: usize, count: u32, width: u32, index: usize) -> u32
+    requires { (at < 2 ^ 32) × (index < 2 ^ 32) × (width ≤ 12) }
+    ensures is { result ≡ get_or (fields_in width count (drop at (run_of bytes.now))) index 0 }
+    ensures fits { result < 2 ^ width }
 {
     if index < count as usize {
-        bits::bits_at(bytes, at + 6 * index, 6)
+        bits::bits_at(bytes, at + width as usize * index, width)
     } else {
         0
     }
@@ -418,16 +432,16 @@ fn restore_obligations(bytes: &[u8], at: usize, count: u32, out: &mut [u32]) -> 
     ensures { (result ≡ words_for 4 count) × Written (obligation_words count (drop at (run_of bytes.now))) out.old out.new result }
 {
     let words = policy_model::obligation_words(count);
-    let mut j = 0;
-    while j < words {
+    for j in 0..words {
         let first = j * 4;
-        out[j] = obligation_or_zero(bytes, at, count, first) * policy_model::THREE_QUARTERS
-            + obligation_or_zero(bytes, at, count, first + 1) * policy_model::HALF
-            + obligation_or_zero(bytes, at, count, first + 2) * policy_model::QUARTER
-            + obligation_or_zero(bytes, at, count, first + 3);
-        j += 1;
+        out[j] = field_or_zero(bytes, at, count, bits::OBLIGATION_BITS, first)
+            * policy_model::THREE_QUARTERS
+            + field_or_zero(bytes, at, count, bits::OBLIGATION_BITS, first + 1) * policy_model::HALF
+            + field_or_zero(bytes, at, count, bits::OBLIGATION_BITS, first + 2)
+                * policy_model::QUARTER
+            + field_or_zero(bytes, at, count, bits::OBLIGATION_BITS, first + 3);
     }
-    j
+    words
 }
 
 // Fact or consulted entry number `index` of `count` that begin at bit `at`, with its zero bits; 0 past the last.
@@ -436,27 +450,22 @@ fn entry_or_zero(bytes: &[u8], at: usize, count: u32, width: u32, index: usize) 
     ensures is { result ≡ get_or (map loose_entry (fields_in width count (drop at (run_of bytes.now)))) index 0 }
     ensures fits { result < 65536 }
 {
-    if index < count as usize {
-        let field = bits::bits_at(bytes, at + width as usize * index, width);
-        field / policy_model::FACTS * policy_model::PRESENCE + field % policy_model::FACTS
-    } else {
-        0
-    }
+    let field = field_or_zero(bytes, at, count, width, index);
+    field / policy_model::FACTS * policy_model::PRESENCE + field % policy_model::FACTS
 }
 
 // Restores `count` facts, or consulted entries, by their width, two a word; an unused last field is 0.
+// Apart from `restore_obligations`: four fields a word against two, each put together in one sum, are plainer than a loop over the fields of a word.
 fn restore_entries(bytes: &[u8], at: usize, count: u32, width: u32, out: &mut [u32]) -> usize
     requires { (at < 2 ^ 32) × (width ≤ 12) × (words_for 2 count ≤ length out.old) }
     ensures { (result ≡ words_for 2 count) × Written (entry_words width count (drop at (run_of bytes.now))) out.old out.new result }
 {
     let words = policy_model::entry_words(count);
-    let mut j = 0;
-    while j < words {
+    for j in 0..words {
         out[j] = entry_or_zero(bytes, at, count, width, j * 2) * policy_model::HALF
             + entry_or_zero(bytes, at, count, width, j * 2 + 1);
-        j += 1;
     }
-    j
+    words
 }
 
 // Restores the first words of a node.
@@ -492,6 +501,7 @@ fn restore_nodes(bytes: &[u8], from: usize, end: usize, out: &mut [u32]) -> usiz
 {
     let mut at = from;
     let mut to = 0;
+    // a `while`: each node says itself where the next one begins
     while at < end {
         let lead = bits::bits_at(bytes, at, PLAIN_BITS);
         let kind = lead / policy_model::HALF;
@@ -520,70 +530,80 @@ fn filled(bytes: &[u8], at: usize) -> bool
     false
 }
 
+// Whether what a check found is all, has at most so many words, and has room for them.
+fn judge(bytes: &[u8], found: Found, most: usize, room: usize) -> Result<(), Refusal>
+    requires { (length bytes.now ≤ tight_bytes) × (found.at ≤ length (run_of bytes.now)) }
+    ensures { refused result ≡ judged (drop found.at (run_of bytes.now)) found.words most room }
+{
+    if !filled(bytes, found.at) {
+        return Err(Refusal::Filler);
+    }
+    if found.words > most || found.words > room {
+        return Err(Refusal::Room);
+    }
+    Ok(())
+}
+
 // Unpacks a sheet. Its length is known before a word changes.
 pub fn unpack_sheet(bytes: &[u8], out: &mut [u32]) -> Answer
     ensures { Answered (unpack_sheet product_sets bytes.now (length out.old)) out.old out.new result }
 {
     if bytes.len() > TIGHT_BYTES {
-        return Answer::Refused(1);
+        return Err(Refusal::Length);
     }
-    match check_policy(bytes, 0, 0, policy_model::LEVELS, false) {
-        Found::Refused(number) => Answer::Refused(number),
-        Found::Next { at, words } => {
-            if !filled(bytes, at) {
-                return Answer::Refused(20);
-            }
-            if words > policy_model::SHEET_WORDS {
-                return Answer::Refused(11);
-            }
-            if out.len() < words {
-                return Answer::Refused(11);
-            }
-            restore_nodes(bytes, 0, at, out);
-            Answer::Written(words)
-        }
-    }
+    let start = Place {
+        bytes,
+        at: 0,
+        words: 0,
+    };
+    let found = check(&Policies { residual: false }, start, policy_model::LEVELS)?;
+    judge(bytes, found, policy_model::SHEET_WORDS, out.len())?;
+    restore_nodes(bytes, 0, found.at, out);
+    Ok(found.words)
 }
 
 // Checks the tree of a Resolved record at `at`: one node 12 or 13.
-fn check_resolved(bytes: &[u8], at: usize, words: usize) -> Found
-    requires { (length bytes.now ≤ tight_bytes) × (at ≤ length (run_of bytes.now)) × (words ≤ at) }
-    ensures { Says (run_of bytes.now) at (sized words_b words (resolved_in product_sets.value (drop at (run_of bytes.now)))) result }
+fn check_resolved(place: Place<'_>) -> Result<Found, Refusal>
+    ensures { Says (run_of place.entry.bytes.now) place.entry.at (sized words_b place.entry.words (resolved_in product_sets.value (drop place.entry.at (run_of place.entry.bytes.now)))) (by_number result) }
 {
-    if ended(bytes, at + 4) {
-        return Found::Refused(19);
+    if ended(place.bytes, place.at + 4) {
+        return Err(Refusal::BitsEnd);
     }
-    if bits::bits_at(bytes, at, 4) < policy_model::KIND_PERMIT_WITH_TRACE {
-        return Found::Refused(5);
+    if bits::bits_at(place.bytes, place.at, 4) < policy_model::KIND_PERMIT_WITH_TRACE {
+        return Err(Refusal::Kind);
     }
-    check_policy(bytes, at, words, 1, true)
+    check(&Policies { residual: true }, place, 1)
 }
 
 // Checks a record: kind (4), the sheet's number (16), consulted count (12), the entries, the tree.
-fn check_record(bytes: &[u8]) -> Found
+fn check_record(bytes: &[u8]) -> Result<Found, Refusal>
     requires { length bytes.now ≤ tight_bytes }
-    ensures { Says (run_of bytes.now) (tree_at (run_of bytes.now)) (sized words_u 0 (loose_r product_sets.value (run_of bytes.now))) result }
+    ensures { Says (run_of bytes.now) (tree_at (run_of bytes.now)) (sized words_u 0 (loose_r product_sets.value (run_of bytes.now))) (by_number result) }
 {
     if ended(bytes, 4) {
-        return Found::Refused(19);
+        return Err(Refusal::BitsEnd);
     }
     let kind = bits::bits_at(bytes, 0, 4);
     if kind < policy_model::KIND_RESOLVED {
-        return Found::Refused(5);
+        return Err(Refusal::Kind);
     }
     if ended(bytes, 32) {
-        return Found::Refused(19);
+        return Err(Refusal::BitsEnd);
     }
     let count = bits::bits_at(bytes, 20, 12);
     let tree = (32 + bits::ENTRY_BITS * count) as usize;
     if ended(bytes, tree) {
-        return Found::Refused(19);
+        return Err(Refusal::BitsEnd);
     }
-    let words = 1 + policy_model::entry_words(count);
+    let place = Place {
+        bytes,
+        at: tree,
+        words: 1 + policy_model::entry_words(count),
+    };
     if kind == policy_model::KIND_RESOLVED {
-        return check_resolved(bytes, tree, words);
+        return check_resolved(place);
     }
-    check_policy(bytes, tree, words, policy_model::LEVELS, true)
+    check(&Policies { residual: true }, place, policy_model::LEVELS)
 }
 
 // Restores a record's words to bit `end`.
@@ -608,22 +628,10 @@ pub fn unpack_record(bytes: &[u8], out: &mut [u32]) -> Answer
     ensures { Answered (unpack_record product_sets bytes.now (length out.old)) out.old out.new result }
 {
     if bytes.len() > TIGHT_BYTES {
-        return Answer::Refused(1);
+        return Err(Refusal::Length);
     }
-    match check_record(bytes) {
-        Found::Refused(number) => Answer::Refused(number),
-        Found::Next { at, words } => {
-            if !filled(bytes, at) {
-                return Answer::Refused(20);
-            }
-            if words > policy_model::RECORD_WORDS {
-                return Answer::Refused(11);
-            }
-            if out.len() < words {
-                return Answer::Refused(11);
-            }
-            restore_record(bytes, at, out);
-            Answer::Written(words)
-        }
-    }
+    let found = check_record(bytes)?;
+    judge(bytes, found, policy_model::RECORD_WORDS, out.len())?;
+    restore_record(bytes, found.at, out);
+    Ok(found.words)
 }

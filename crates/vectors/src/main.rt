@@ -4,20 +4,16 @@
 #![tactic(auto)]
 
 ghost use Rattle.std.specs.Prelude.{◌≡◌, ◌++◌, ◌+◌, ◌*◌, ◌^◌, ◌<◌, ◌≤◌, length, drop};
-ghost use Rattle.model.specs.Required.{one_bit};
 ghost use Rattle.model.specs.Products.{required_facts, required_residual_facts};
 ghost use Rattle.answer.specs.Answers.{number_of as refusal_of, written_of};
-ghost use Rattle.required.specs.Answers.{number_of, count_of};
-ghost use Rattle.questions.specs.Answers.{asked};
+ghost use Rattle.refusal.specs.Numbers.{by_number};
 ghost use Rattle.listing.specs.Inputs.{words_in};
-ghost use Rattle.vectors.specs.Words.{same_words, marks, half_of, set_words};
+ghost use Rattle.vectors.specs.Words.{marks, half_of, set_words};
 ghost use Rattle.vectors.specs.Replies.{Replied, told_by, reply_to, requiring};
 ghost use Rattle.vectors.specs.Stored.{number_bytes, number_in, size_of, Whole, Fitted, Ran, told_in, answers_in, agrees_in};
 ghost use Rattle.vectors.specs.Tallies.{noted_in, step_of, tally_of};
 
-use answer::Answer;
-use questions::Told;
-use required::Required;
+use refusal::Refusal;
 use std::io;
 
 // What a call returns: the number of the refusal, 0 when accepted, and its value (words written or facts counted).
@@ -37,32 +33,13 @@ struct Tally {
 
 // ---- words
 
-// Whether two lists of words are the same.
-fn same_words(a: &[u32], b: &[u32]) -> bool
-    ensures { result ≡ same_words a.now b.now }
-{
-    if a.len() != b.len() {
-        return false;
-    }
-    let mut i = 0;
-    while i < a.len() {
-        if a[i] != b[i] {
-            return false;
-        }
-        i += 1;
-    }
-    true
-}
-
 // The output before a call: at each place another word, so that one that is wrongly written or moved shows.
 fn fill(out: &mut [u32])
     requires { length out.old < 65536 }
     ensures { out.new ≡ marks (length out.old) }
 {
-    let mut i = 0;
-    while i < out.len() {
-        out[i] = 252645135 + i as u32;
-        i += 1;
+    for (i, word) in out.iter_mut().enumerate() {
+        *word = 0x0F0F_0F0F + i as u32;
     }
 }
 
@@ -71,9 +48,9 @@ fn half(number: u64, place: usize) -> u32
     ensures { result ≡ half_of number place }
 {
     if place == 0 {
-        (number / 4294967296) as u32
+        (number >> 32) as u32
     } else {
-        (number % 4294967296) as u32
+        (number & 0xFFFF_FFFF) as u32
     }
 }
 
@@ -85,55 +62,20 @@ fn put_set(set: &[u64], out: &mut [u32])
     if out.len() != 32 {
         return;
     }
-    let mut i = 0;
-    while i < 32 {
-        out[i] = half(set[i / 2], i % 2);
-        i += 1;
+    for (i, word) in out.iter_mut().enumerate() {
+        *word = half(set[i / 2], i % 2);
     }
 }
 
 // ---- the proved calls
 
-fn written(answer: Answer) -> Reply
-    ensures { (result.number ≡ refusal_of answer) × (result.value ≡ written_of answer) }
+fn replied(answer: Result<usize, Refusal>) -> Reply
+    ensures { (result.number ≡ refusal_of (by_number answer)) × (result.value ≡ written_of (by_number answer)) }
 {
     match answer {
-        Answer::Written(words) => Reply {
-            number: 0,
-            value: words,
-        },
-        Answer::Refused(number) => Reply {
-            number: number as usize,
-            value: 0,
-        },
-    }
-}
-
-fn counted(facts: Required) -> Reply
-    ensures { (result.number ≡ number_of facts) × (result.value ≡ count_of facts) }
-{
-    match facts {
-        Required::Facts(count) => Reply {
-            number: 0,
-            value: count as usize,
-        },
-        Required::Refused(number) => Reply {
-            number: number as usize,
-            value: 0,
-        },
-    }
-}
-
-fn said(told: Told) -> Reply
-    ensures { (result.number ≡ (asked told).number) × (result.value ≡ one_bit (asked told).yes) }
-{
-    match told {
-        Told::Says(yes) => Reply {
-            number: 0,
-            value: if yes { 1 } else { 0 },
-        },
-        Told::Refused(number) => Reply {
-            number: number as usize,
+        Ok(value) => Reply { number: 0, value },
+        Err(cause) => Reply {
+            number: cause.number() as usize,
             value: 0,
         },
     }
@@ -143,18 +85,18 @@ fn sheet_facts(sheet: &[u32], out: &mut [u32]) -> Reply
     ensures { Replied (requiring (required_facts sheet.now) out.old) out.new result }
 {
     let mut set = [42405u64; 16];
-    let reply = counted(required::required_facts(sheet, &mut set));
+    let facts = required::required_facts(sheet, &mut set);
     put_set(&set, out);
-    reply
+    replied(facts.map(|count| count as usize))
 }
 
 fn record_facts(words: &[u32], out: &mut [u32]) -> Reply
     ensures { Replied (requiring (required_residual_facts words.now) out.old) out.new result }
 {
     let mut set = [42405u64; 16];
-    let reply = counted(required::required_residual_facts(words, &mut set));
+    let facts = required::required_residual_facts(words, &mut set);
     put_set(&set, out);
-    reply
+    replied(facts.map(|count| count as usize))
 }
 
 // What a call that writes no record, by its number less 4, returns and leaves in the output. A number of no call does nothing.
@@ -164,9 +106,9 @@ fn told_by(call: usize, words: &[u32], out: &mut [u32]) -> Reply
     match call {
         0 => sheet_facts(words, out),
         1 => record_facts(words, out),
-        2 => said(questions::is_permit_constant(words)),
-        3 => said(questions::is_deny_constant(words)),
-        4 => said(questions::carries_obligation(words)),
+        2 => replied(questions::is_permit_constant(words).map(usize::from)),
+        3 => replied(questions::is_deny_constant(words).map(usize::from)),
+        4 => replied(questions::carries_obligation(words).map(usize::from)),
         _ => Reply {
             number: 0,
             value: 0,
@@ -179,10 +121,10 @@ fn answer_to(call: usize, sheet: u32, words: &[u32], table: &[u8], out: &mut [u3
     ensures { Replied (reply_to call sheet words.now table.now out.old) out.new result }
 {
     match call {
-        0 => written(calls::evaluate(words, sheet, table, out)),
-        1 => written(calls::partial_evaluate(words, sheet, table, out)),
-        2 => written(calls::narrow_residual(words, sheet, table, out)),
-        3 => written(calls::complete_residual(words, sheet, table, out)),
+        0 => replied(calls::evaluate(words, sheet, table, out)),
+        1 => replied(calls::partial_evaluate(words, sheet, table, out)),
+        2 => replied(calls::narrow_residual(words, sheet, table, out)),
+        3 => replied(calls::complete_residual(words, sheet, table, out)),
         _ => told_by(call - 4, words, out),
     }
 }
@@ -234,11 +176,7 @@ fn returned(case: &[u8], reply: Reply) -> bool
     requires { number_bytes ≤ length case.now }
     ensures { result ≡ told_in case.now reply.number reply.value }
 {
-    if reply.number == number_in(case, 4) {
-        reply.value == number_in(case, 5)
-    } else {
-        false
-    }
+    reply.number == number_in(case, 4) && reply.value == number_in(case, 5)
 }
 
 // Runs the call of the stored answer at the front, in an output as long as its room; the output that is expected stands beside it.
@@ -261,11 +199,7 @@ fn answers(case: &[u8], words: &mut [u32], expected: &mut [u32], out: &mut [u32]
     ensures { result ≡ answers_in case.now }
 {
     let given = run(case, words, expected, out);
-    if returned(case, given) {
-        same_words(out, expected)
-    } else {
-        false
-    }
+    returned(case, given) && *out == *expected
 }
 
 // Whether the proved call answers as the stored answer at the front says. One that is longer than its room is no answer.
@@ -295,11 +229,7 @@ fn noted(tally: Tally, agrees: bool, place: usize) -> Tally
 {
     let replayed = tally.replayed + 1;
     if agrees {
-        return Tally {
-            replayed,
-            differ: tally.differ,
-            first: tally.first,
-        };
+        return Tally { replayed, ..tally };
     }
     Tally {
         replayed,
@@ -348,17 +278,13 @@ fn tally_of(
         first: 0,
     };
     let mut at = 0;
-    let mut place = 1;
-    let mut left = cases.len();
-    while left > 0 {
+    for before in 0..cases.len() {
         let size = size_of(&cases[at..]);
         if size == 0 {
             return tally;
         }
-        tally = step(&cases[at..], call, tally, place, words, expected, out);
+        tally = step(&cases[at..], call, tally, before + 1, words, expected, out);
         at += size;
-        place += 1;
-        left -= 1;
     }
     tally
 }

@@ -10,41 +10,67 @@ ghost use Rattle.model.specs.Windows.{apply_windows};
 ghost use Rattle.model.specs.Outcome.{product_sets};
 ghost use Rattle.model.specs.Tight.{pack_sheet, pack_record, unpack_sheet, unpack_record};
 ghost use Rattle.model.specs.Batch.{evaluate_batch};
-ghost use Rattle.std.specs.Prelude.{◌≡◌, length};
+ghost use Rattle.std.specs.Prelude.{◌≡◌, ℕ, length};
 ghost use Rattle.std.proofs.Math.Option.{none, some};
 ghost use Rattle.outcome.specs.Carried.{table};
-ghost use Rattle.answer.specs.Answers.{number_of as refusal_of, written_of};
-ghost use Rattle.required.specs.Answers.{number_of, count_of};
-ghost use Rattle.questions.specs.Answers.{asked};
-ghost use Rattle.register.specs.Answers.{in_force_of};
-ghost use Rattle.batch.specs.Answers.{returned as batch_returned};
-ghost use Rattle.vierskof.specs.Answers.{Requires, Writes, Batches, returned};
-ghost use Rattle.vierskof.specs.Answers.{said, named, dated};
+ghost use Rattle.refusal.specs.Numbers.{by_number};
+ghost use Rattle.vierskof.specs.Answers.{Requires, Writes, Batches, said, named, dated};
+ghost use Rattle.vierskof.specs.Answers.{in_one, itself, none_or, one_bit_of};
 
-use answer::Answer;
-use batch::Batch;
 use calendar::Date;
-use questions::Told;
-use register::InForce;
-use required::Required;
+use refusal::Refusal;
 
-// The number of the refusal and the words or bytes written, as one number.
-fn written(answer: Answer) -> u64
-    ensures { result ≡ returned (refusal_of answer) (written_of answer) }
-{
-    match answer {
-        Answer::Written(words) => words as u64,
-        Answer::Refused(number) => (number as u64) * 4294967296,
+// What an accepted call returns, as one number.
+trait Value {
+    ghost value: { Self → ℕ };
+
+    fn number(self) -> u64
+        ensures { result ≡ value self };
+}
+
+// Words or bytes written.
+impl Value for usize {
+    ghost value = { itself };
+
+    fn number(self) -> u64 {
+        self as u64
     }
 }
 
-// The number of the refusal and the count, as one number.
-fn counted(facts: Required) -> u64
-    ensures { result ≡ returned (number_of facts) (count_of facts) }
+// A count of facts.
+impl Value for u32 {
+    ghost value = { itself };
+
+    fn number(self) -> u64 {
+        self as u64
+    }
+}
+
+// Yes or no.
+impl Value for bool {
+    ghost value = { one_bit_of };
+
+    fn number(self) -> u64 {
+        u64::from(self)
+    }
+}
+
+// The number of the sheet in force, if there is one.
+impl Value for Option<u32> {
+    ghost value = { none_or };
+
+    fn number(self) -> u64 {
+        u64::from(self.unwrap_or(register::NO_SHEET))
+    }
+}
+
+// The number of the refusal and the call's value, as one number.
+fn returned<V: Value>(answer: Result<V, Refusal>) -> u64
+    ensures { result ≡ in_one V.value (by_number answer) }
 {
-    match facts {
-        Required::Facts(count) => count as u64,
-        Required::Refused(number) => (number as u64) * 4294967296,
+    match answer {
+        Ok(value) => value.number(),
+        Err(cause) => u64::from(cause.number()) * 4294967296,
     }
 }
 
@@ -58,7 +84,7 @@ pub extern "C" fn vierskof_evaluate(
 ) -> u64
     ensures { Writes (evaluate_by none number sheet.now facts.now (length out.old)) out.old out.new result }
 {
-    written(calls::evaluate(sheet, number, facts, out))
+    returned(calls::evaluate(sheet, number, facts, out))
 }
 
 // Reduces a sheet with a table that may leave facts open, and writes the record, which carries the sheet's number.
@@ -71,7 +97,7 @@ pub extern "C" fn vierskof_partial_evaluate(
 ) -> u64
     ensures { Writes (partial_evaluate_by none permits_first number sheet.now facts.now (length out.old)) out.old out.new result }
 {
-    written(calls::partial_evaluate(sheet, number, facts, out))
+    returned(calls::partial_evaluate(sheet, number, facts, out))
 }
 
 // Reduces a sheet, and leaves arms in sheet order.
@@ -84,7 +110,7 @@ pub extern "C" fn vierskof_partial_evaluate_in_order(
 ) -> u64
     ensures { Writes (partial_evaluate_by none sheet_order number sheet.now facts.now (length out.old)) out.old out.new result }
 {
-    written(calls::partial_evaluate_in_order(sheet, number, facts, out))
+    returned(calls::partial_evaluate_in_order(sheet, number, facts, out))
 }
 
 // Narrows a record of the sheet that has the number by a table of further facts, and writes the record that results.
@@ -97,7 +123,7 @@ pub extern "C" fn vierskof_narrow_residual(
 ) -> u64
     ensures { Writes (narrow_residual_by none permits_first number residual.now facts.now (length out.old)) out.old out.new result }
 {
-    written(calls::narrow_residual(residual, number, facts, out))
+    returned(calls::narrow_residual(residual, number, facts, out))
 }
 
 // Narrows a record, and leaves arms in sheet order.
@@ -110,7 +136,7 @@ pub extern "C" fn vierskof_narrow_residual_in_order(
 ) -> u64
     ensures { Writes (narrow_residual_by none sheet_order number residual.now facts.now (length out.old)) out.old out.new result }
 {
-    written(calls::narrow_residual_in_order(residual, number, facts, out))
+    returned(calls::narrow_residual_in_order(residual, number, facts, out))
 }
 
 // Completes a record of the sheet that has the number with a known table, and writes the record that results.
@@ -123,7 +149,7 @@ pub extern "C" fn vierskof_complete_residual(
 ) -> u64
     ensures { Writes (complete_residual_by none number residual.now facts.now (length out.old)) out.old out.new result }
 {
-    written(calls::complete_residual(residual, number, facts, out))
+    returned(calls::complete_residual(residual, number, facts, out))
 }
 
 // Decides a sheet by an outcome table: 21 before every other cause if it is not accepted.
@@ -138,7 +164,7 @@ pub extern "C" fn vierskof_evaluate_by_levels(
 ) -> u64
     ensures { Writes (evaluate (some (table levels outcomes.now)) number sheet.now facts.now (length out.old)) out.old out.new result }
 {
-    written(calls::evaluate_by_levels(levels, outcomes, sheet, number, facts, out))
+    returned(calls::evaluate_by_levels(levels, outcomes, sheet, number, facts, out))
 }
 
 // Reduces a sheet by an outcome table: 21 before every other cause if it is not accepted.
@@ -153,7 +179,7 @@ pub extern "C" fn vierskof_partial_evaluate_by_levels(
 ) -> u64
     ensures { Writes (partial_evaluate (some (table levels outcomes.now)) permits_first number sheet.now facts.now (length out.old)) out.old out.new result }
 {
-    written(calls::partial_evaluate_by_levels(levels, outcomes, sheet, number, false, facts, out))
+    returned(calls::partial_evaluate_by_levels(levels, outcomes, sheet, number, false, facts, out))
 }
 
 // Reduces a sheet in sheet order by an outcome table: 21 before every other cause if it is not accepted.
@@ -168,7 +194,7 @@ pub extern "C" fn vierskof_partial_evaluate_in_order_by_levels(
 ) -> u64
     ensures { Writes (partial_evaluate (some (table levels outcomes.now)) sheet_order number sheet.now facts.now (length out.old)) out.old out.new result }
 {
-    written(calls::partial_evaluate_by_levels(levels, outcomes, sheet, number, true, facts, out))
+    returned(calls::partial_evaluate_by_levels(levels, outcomes, sheet, number, true, facts, out))
 }
 
 // Narrows a record by an outcome table: 21 before every other cause if it is not accepted.
@@ -183,7 +209,9 @@ pub extern "C" fn vierskof_narrow_residual_by_levels(
 ) -> u64
     ensures { Writes (narrow_residual (some (table levels outcomes.now)) permits_first number residual.now facts.now (length out.old)) out.old out.new result }
 {
-    written(calls::narrow_residual_by_levels(levels, outcomes, residual, number, false, facts, out))
+    returned(calls::narrow_residual_by_levels(
+        levels, outcomes, residual, number, false, facts, out,
+    ))
 }
 
 // Narrows a record in sheet order by an outcome table: 21 before every other cause if it is not accepted.
@@ -198,7 +226,7 @@ pub extern "C" fn vierskof_narrow_residual_in_order_by_levels(
 ) -> u64
     ensures { Writes (narrow_residual (some (table levels outcomes.now)) sheet_order number residual.now facts.now (length out.old)) out.old out.new result }
 {
-    written(calls::narrow_residual_by_levels(levels, outcomes, residual, number, true, facts, out))
+    returned(calls::narrow_residual_by_levels(levels, outcomes, residual, number, true, facts, out))
 }
 
 // Completes a record by an outcome table: 21 before every other cause if it is not accepted.
@@ -213,7 +241,7 @@ pub extern "C" fn vierskof_complete_residual_by_levels(
 ) -> u64
     ensures { Writes (complete_residual (some (table levels outcomes.now)) number residual.now facts.now (length out.old)) out.old out.new result }
 {
-    written(calls::complete_residual_by_levels(levels, outcomes, residual, number, facts, out))
+    returned(calls::complete_residual_by_levels(levels, outcomes, residual, number, facts, out))
 }
 
 // The facts that a sheet names: their count, and their set in `set`, sixteen numbers, fact 0 the top bit of the first.
@@ -221,7 +249,7 @@ pub extern "C" fn vierskof_complete_residual_by_levels(
 pub extern "C" fn vierskof_required_facts(sheet: &[u32], set: &mut [u64]) -> u64
     ensures { Requires (required_facts sheet.now) set.old set.new result }
 {
-    counted(required::required_facts(sheet, set))
+    returned(required::required_facts(sheet, set))
 }
 
 // The same of a record's tree.
@@ -229,17 +257,7 @@ pub extern "C" fn vierskof_required_facts(sheet: &[u32], set: &mut [u64]) -> u64
 pub extern "C" fn vierskof_required_residual_facts(residual: &[u32], set: &mut [u64]) -> u64
     ensures { Requires (required_residual_facts residual.now) set.old set.new result }
 {
-    counted(required::required_residual_facts(residual, set))
-}
-
-// The number of the refusal and yes or no, as one number.
-fn told(answer: Told) -> u64
-    ensures { result ≡ said (asked answer) }
-{
-    match answer {
-        Told::Says(yes) => if yes { 1 } else { 0 },
-        Told::Refused(number) => (number as u64) * 4294967296,
-    }
+    returned(required::required_residual_facts(residual, set))
 }
 
 // Whether a record's tree is a permit: 1 if its top node is 6 or 12.
@@ -247,7 +265,7 @@ fn told(answer: Told) -> u64
 pub extern "C" fn vierskof_is_permit_constant(residual: &[u32]) -> u64
     ensures { result ≡ said (is_permit_constant residual.now) }
 {
-    told(questions::is_permit_constant(residual))
+    returned(questions::is_permit_constant(residual))
 }
 
 // Whether it is a deny: 1 if its top node is 7 or 13.
@@ -255,7 +273,7 @@ pub extern "C" fn vierskof_is_permit_constant(residual: &[u32]) -> u64
 pub extern "C" fn vierskof_is_deny_constant(residual: &[u32]) -> u64
     ensures { result ≡ said (is_deny_constant residual.now) }
 {
-    told(questions::is_deny_constant(residual))
+    returned(questions::is_deny_constant(residual))
 }
 
 // Whether it carries an obligation: 1 if any 8 or 12 in it has obligations.
@@ -263,18 +281,7 @@ pub extern "C" fn vierskof_is_deny_constant(residual: &[u32]) -> u64
 pub extern "C" fn vierskof_carries_obligation(residual: &[u32]) -> u64
     ensures { result ≡ said (carries_obligation residual.now) }
 {
-    told(questions::carries_obligation(residual))
-}
-
-// The number of the refusal and that of the sheet in force, as one number.
-fn in_force(answer: InForce) -> u64
-    ensures { result ≡ named (in_force_of answer) }
-{
-    match answer {
-        InForce::Sheet(number) => number as u64,
-        InForce::NoSheet => register::NO_SHEET as u64,
-        InForce::Refused(number) => (number as u64) * 4294967296,
-    }
+    returned(questions::carries_obligation(residual))
 }
 
 // Which sheet of a register is in force for a group on a day, counted from 1900-01-01: its number, or 65,536 for none.
@@ -282,7 +289,7 @@ fn in_force(answer: InForce) -> u64
 pub extern "C" fn vierskof_sheet_in_force(entries: &[u32], group: u32, day: u32) -> u64
     ensures { result ≡ named (sheet_in_force entries.now group day) }
 {
-    in_force(register::sheet_in_force(entries, group, day))
+    returned(register::sheet_in_force(entries, group, day))
 }
 
 // Joins two tables, and writes the table that results.
@@ -290,7 +297,7 @@ pub extern "C" fn vierskof_sheet_in_force(entries: &[u32], group: u32, day: u32)
 pub extern "C" fn vierskof_join_tables(one: &[u8], two: &[u8], out: &mut [u8]) -> u64
     ensures { Writes (join_tables one.now two.now (length out.old)) out.old out.new result }
 {
-    written(join::join_tables(one, two, out))
+    returned(join::join_tables(one, two, out))
 }
 
 // Sets the facts that a list of windows names by the age of a reading: from the date of the reading to today's.
@@ -314,7 +321,7 @@ pub extern "C" fn vierskof_apply_windows(
         month: today_month,
         day: today_day,
     };
-    written(windows::apply_windows(windows, reading, today, facts, out))
+    returned(windows::apply_windows(windows, reading, today, facts, out))
 }
 
 // Packs a sheet in the tight form, and writes the bytes.
@@ -322,7 +329,7 @@ pub extern "C" fn vierskof_apply_windows(
 pub extern "C" fn vierskof_pack_sheet(sheet: &[u32], out: &mut [u8]) -> u64
     ensures { Writes (pack_sheet product_sets sheet.now (length out.old)) out.old out.new result }
 {
-    written(pack::pack_sheet(sheet, out))
+    returned(pack::pack_sheet(sheet, out))
 }
 
 // Packs a record.
@@ -330,7 +337,7 @@ pub extern "C" fn vierskof_pack_sheet(sheet: &[u32], out: &mut [u8]) -> u64
 pub extern "C" fn vierskof_pack_record(residual: &[u32], out: &mut [u8]) -> u64
     ensures { Writes (pack_record product_sets residual.now (length out.old)) out.old out.new result }
 {
-    written(pack::pack_record(residual, out))
+    returned(pack::pack_record(residual, out))
 }
 
 // Unpacks a sheet, and writes its words.
@@ -338,7 +345,7 @@ pub extern "C" fn vierskof_pack_record(residual: &[u32], out: &mut [u8]) -> u64
 pub extern "C" fn vierskof_unpack_sheet(bytes: &[u8], out: &mut [u32]) -> u64
     ensures { Writes (unpack_sheet product_sets bytes.now (length out.old)) out.old out.new result }
 {
-    written(unpack::unpack_sheet(bytes, out))
+    returned(unpack::unpack_sheet(bytes, out))
 }
 
 // Unpacks a record.
@@ -346,17 +353,7 @@ pub extern "C" fn vierskof_unpack_sheet(bytes: &[u8], out: &mut [u32]) -> u64
 pub extern "C" fn vierskof_unpack_record(bytes: &[u8], out: &mut [u32]) -> u64
     ensures { Writes (unpack_record product_sets bytes.now (length out.old)) out.old out.new result }
 {
-    written(unpack::unpack_record(bytes, out))
-}
-
-// The number of a batch's refusal and the words written in all, as one number.
-fn batched(batch: Batch) -> u64
-    ensures { result ≡ batch_returned batch }
-{
-    match batch {
-        Batch::Written(words) => words as u64,
-        Batch::Refused(number) => (number as u64) * 4294967296,
-    }
+    returned(unpack::unpack_record(bytes, out))
 }
 
 // Decides a batch of requests by the sheets in force, within an allowance of visited nodes: a reply for each request, and the records one after the other.
@@ -371,7 +368,7 @@ pub extern "C" fn vierskof_evaluate_batch(
 ) -> u64
     ensures { Batches (evaluate_batch none entries.now sheets.now requests.now allowance (length replies.old) (length out.old)) replies.old replies.new out.old out.new result }
 {
-    batched(batch::evaluate_batch(entries, sheets, requests, allowance, replies, out))
+    returned(batch::evaluate_batch(entries, sheets, requests, allowance, replies, out))
 }
 
 // The same by an outcome table, one for the whole batch.
@@ -388,7 +385,7 @@ pub extern "C" fn vierskof_evaluate_batch_by_levels(
 ) -> u64
     ensures { Batches (evaluate_batch (some (table levels outcomes.now)) entries.now sheets.now requests.now allowance (length replies.old) (length out.old)) replies.old replies.new out.old out.new result }
 {
-    batched(batch::evaluate_batch_by_levels(
+    returned(batch::evaluate_batch_by_levels(
         levels, outcomes, entries, sheets, requests, allowance, replies, out,
     ))
 }

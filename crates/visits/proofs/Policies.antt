@@ -2,6 +2,7 @@
 use mathlib.Core.Path.{◌≡◌, refl, sym, ◌∙◌, ap, subst}
 use mathlib.Core.Bool.{Bool, true, false, not, cond, ◌||◌, beq}
 use mathlib.Core.List.{List, [], ◌∷◌}
+use Rattle.std.specs.Prelude.{Option, Some, None}
 use Prim.Native.Nat.{ℕ, zero, suc, ◌+◌, ◌-◌, ◌/◌, ◌%◌, ◌≤◌, ◌<◌}
 use native.Mathlib.Omega.{arith}
 use borrow.Author.Tests.{le-leb, lt-leb}
@@ -33,9 +34,6 @@ use Rattle.policy_model.proofs.Checking.{word_at, no_word}
 use Rattle.policy_model.proofs.Quads.{obligations_leave}
 use Rattle.policy_model.proofs.Policies.{policy_leaves}
 use Rattle.visits.specs.declared.Visit.{Visit}
-use Rattle.visits.specs.declared.Visit.TheVariants.{Within, Over}
-use Rattle.visits.specs.declared.Count.{Count}
-use Rattle.visits.specs.declared.Count.TheVariants as sheet
 use Rattle.visits.specs.Holding.{holds_c, holds_p, holds_ps, holds_any, nodes_p, nodes_ps, nodes_any}
 use Rattle.visits.specs.Counting.{counted_by, Counts, visits_within, CountsSheet}
 use Rattle.visits.proofs.Holding.{has_holds, some_p, visits_are}
@@ -115,13 +113,13 @@ of_sheet w h e = subst OfSheet (sym e) (either_of (leb 6 (kind_of w)) (get_or (p
 
 module _ (T : Table) (W : List ℕ) (at allowance n : ℕ) where
   -- The answer to the policy at `at`, of so many levels; and to arms.
-  abbrev pub CountsP : ℕ → Visit → Type 0
+  abbrev pub CountsP : ℕ → Option Visit → Type 0
   CountsP depth r = Counts words (holds_p T) (nodes_p T) at allowance n (read_policy false depth (drop at W)) r
 
-  abbrev pub CountsPs : Bool → ℕ → ℕ → Visit → Type 0
+  abbrev pub CountsPs : Bool → ℕ → ℕ → Option Visit → Type 0
   CountsPs stop depth arms r = Counts wordss (holds_ps stop T) (nodes_ps stop T) at allowance n (many pnil pcons (read_policy false depth) arms (drop at W)) r
 
-  abbrev pub CountsAny : Bool → ℕ → ℕ → Visit → Type 0
+  abbrev pub CountsAny : Bool → ℕ → ℕ → Option Visit → Type 0
   CountsAny sofar depth arms r = Counts wordss (holds_any T sofar) (nodes_any T) at allowance n (many pnil pcons (read_policy false depth) arms (drop at W)) r
 
   -- ---- no word, no level, no node left
@@ -129,15 +127,15 @@ module _ (T : Table) (W : List ℕ) (at allowance n : ℕ) where
   nothing_there zero = refl
   nothing_there (suc depth) = refl
 
-  pub no_words : (depth : ℕ) (r : Visit) → length W ≤ at → CountsP depth r
+  pub no_words : (depth : ℕ) (r : Option Visit) → length W ≤ at → CountsP depth r
   no_words depth r h = refused words (holds_p T) (nodes_p T) at allowance n (read_policy false depth (drop at W)) (ap (read_policy false depth) (no_word W at h) ∙ nothing_there depth)
 
-  pub no_levels : (depth : ℕ) (r : Visit) → at < length W → depth ≡ 0 → CountsP depth r
+  pub no_levels : (depth : ℕ) (r : Option Visit) → at < length W → depth ≡ 0 → CountsP depth r
   no_levels depth r lt z =
       refused words (holds_p T) (nodes_p T) at allowance n (read_policy false depth (drop at W))
       (ap (λ d. read_policy false d (drop at W)) z ∙ ap (read_policy false 0) (word_at W at lt) ∙ policy_deep false (get_or W at 0) (drop (at + 1) W))
 
-  pub no_nodes : (depth : ℕ) → allowance ≤ n → CountsP depth Over
+  pub no_nodes : (depth : ℕ) → allowance ≤ n → CountsP depth None
   no_nodes depth h = none_left words (holds_p T) (nodes_p T) at allowance n (read_policy false depth (drop at W)) (some_p T) h
 
   -- ---- a node by its head
@@ -155,23 +153,23 @@ module _ (T : Table) (W : List ℕ) (at allowance n : ℕ) where
         level zero f = absurd (f refl)
         level (suc d) f = policy_node_lem false d (get_or W at 0) (drop (at + 1) W) ∙ ap at_level (let e : d ≡ suc d - 1 = omega arith in e)
 
-    by_head : (h : PolicyHead) (r : Visit) → h ≡ policy_head (get_or W at 0) false → Counts words (holds_p T) (nodes_p T) at allowance n (Node h) r → CountsP depth r
+    by_head : (h : PolicyHead) (r : Option Visit) → h ≡ policy_head (get_or W at 0) false → Counts words (holds_p T) (nodes_p T) at allowance n (Node h) r → CountsP depth r
     by_head h r e c = subst (λ q. Counts words (holds_p T) (nodes_p T) at allowance n q r) (sym (node_is h e)) c
 
-    pub permit_counted : (o : ℕ) (r : Visit) → Permit o ≡ policy_head (get_or W at 0) false → r ≡ counted_by allowance (n + 1) true (at + 1) → CountsP depth r
+    pub permit_counted : (o : ℕ) (r : Option Visit) → Permit o ≡ policy_head (get_or W at 0) false → r ≡ counted_by allowance (n + 1) true (at + 1) → CountsP depth r
     unfolding policy_node
     permit_counted o r e p = by_head (Permit o) r e (leaf words (holds_p T) (nodes_p T) at allowance n (permit o) (drop (at + 1) W) true (Node (Permit o)) r refl p refl refl refl)
 
     -- A word that one division shows to be a Permit.
-    pub permit_word_counted : (r : Visit) → get_or W at 0 / 65536 ≡ 24576 → r ≡ counted_by allowance (n + 1) true (at + 1) → CountsP depth r
+    pub permit_word_counted : (r : Option Visit) → get_or W at 0 / 65536 ≡ 24576 → r ≡ counted_by allowance (n + 1) true (at + 1) → CountsP depth r
     permit_word_counted r e p = permit_counted (get_or W at 0 % 65536) r (permit_word (get_or W at 0) false e) p
 
-    pub deny_counted : (r : Visit) → Deny ≡ policy_head (get_or W at 0) false → r ≡ counted_by allowance (n + 1) false (at + 1) → CountsP depth r
+    pub deny_counted : (r : Option Visit) → Deny ≡ policy_head (get_or W at 0) false → r ≡ counted_by allowance (n + 1) false (at + 1) → CountsP depth r
     unfolding policy_node
     deny_counted r e p = by_head Deny r e (leaf words (holds_p T) (nodes_p T) at allowance n deny (drop (at + 1) W) false (Node Deny) r refl p refl refl refl)
 
     -- A grant counts besides its condition.
-    pub grant_counted : (hidden : Bool) (k o c : ℕ) (r : Visit) → GrantHead hidden k o ≡ policy_head (get_or W at 0) false → c ≡ at + 2 + (k + 3) / 4 →
+    pub grant_counted : (hidden : Bool) (k o c : ℕ) (r : Option Visit) → GrantHead hidden k o ≡ policy_head (get_or W at 0) false → c ≡ at + 2 + (k + 3) / 4 →
         Counts words_c (holds_c T) (visits_c T) c allowance (n + 1) (read_condition (depth - 1) (drop c W)) r → CountsP depth r
     unfolding policy_node
     grant_counted hidden k o c r e p a =
@@ -185,11 +183,11 @@ module _ (T : Table) (W : List ℕ) (at allowance n : ℕ) where
         })
 
     -- Without arms All is false; with arms it is what they come to.
-    pub all_none : (arms : ℕ) (r : Visit) → All arms ≡ policy_head (get_or W at 0) false → arms ≡ 0 → r ≡ counted_by allowance (n + 1) false (at + 1) → CountsP depth r
+    pub all_none : (arms : ℕ) (r : Option Visit) → All arms ≡ policy_head (get_or W at 0) false → arms ≡ 0 → r ≡ counted_by allowance (n + 1) false (at + 1) → CountsP depth r
     unfolding policy_node
     all_none arms r e z p = by_head (All arms) r e (rw z (leaf words (holds_p T) (nodes_p T) at allowance n (all pnil) (drop (at + 1) W) false (Node (All 0)) r refl p refl refl refl))
 
-    pub all_counted : (arms : ℕ) (r : Visit) → All arms ≡ policy_head (get_or W at 0) false → (arms ≡ 0 → ⊥) →
+    pub all_counted : (arms : ℕ) (r : Option Visit) → All arms ≡ policy_head (get_or W at 0) false → (arms ≡ 0 → ⊥) →
         Counts wordss (holds_ps false T) (nodes_ps false T) (at + 1) allowance (n + 1) (many pnil pcons (read_policy false (depth - 1)) arms (drop (at + 1) W)) r → CountsP depth r
     unfolding policy_node
     all_counted arms r e f c =
@@ -198,7 +196,7 @@ module _ (T : Table) (W : List ℕ) (at allowance n : ℕ) where
         (below wordss (holds_ps false T) (nodes_ps false T) words (holds_p T) (nodes_p T) at allowance n (many pnil pcons one arms (drop (at + 1) W)) all r
         (λ ts vs q. (some_arm pnil pcons one (λ l. holds_p T (all l) ≡ holds_ps false T l) (λ t l. refl) arms (drop (at + 1) W) f ts vs q, (refl, refl))) c)
 
-    pub any_counted : (arms : ℕ) (r : Visit) → Any arms ≡ policy_head (get_or W at 0) false →
+    pub any_counted : (arms : ℕ) (r : Option Visit) → Any arms ≡ policy_head (get_or W at 0) false →
         Counts wordss (holds_any T false) (nodes_any T) (at + 1) allowance (n + 1) (many pnil pcons (read_policy false (depth - 1)) arms (drop (at + 1) W)) r → CountsP depth r
     unfolding policy_node
     any_counted arms r e c =
@@ -207,40 +205,40 @@ module _ (T : Table) (W : List ℕ) (at allowance n : ℕ) where
         (λ ts vs q. (refl, (refl, refl))) c)
 
     -- An OrElse is a list of two, up to a permit.
-    or_second : (a : Policy Outcome) (q : Parsed (Policy Outcome)) (r : Visit) →
+    or_second : (a : Policy Outcome) (q : Parsed (Policy Outcome)) (r : Option Visit) →
         Counts wordss (holds_ps true T) (nodes_ps true T) (at + 1) allowance (n + 1) (next (next q (λ b us. got (pcons b pnil) us)) (λ ts us. got (pcons a ts) us)) r →
         Counts words (holds_p T) (nodes_p T) at allowance n (next q (λ b us. got (or_else a b) us)) r
     or_second a (refuse m) r c = record { says = nothing }
     or_second a (got b us) r c = record { says = fine (c.says.it ∙ counted_as allowance (omega arith) refl (omega arith)) }
 
-    or_first_lem : (q : Parsed (Policy Outcome)) (k : List ℕ → Parsed (Policy Outcome)) (r : Visit) →
+    or_first_lem : (q : Parsed (Policy Outcome)) (k : List ℕ → Parsed (Policy Outcome)) (r : Option Visit) →
         Counts wordss (holds_ps true T) (nodes_ps true T) (at + 1) allowance (n + 1) (next q (λ a vs. next (next (k vs) (λ b us. got (pcons b pnil) us)) (λ ts us. got (pcons a ts) us))) r →
         Counts words (holds_p T) (nodes_p T) at allowance n (next q (λ a vs. next (k vs) (λ b us. got (or_else a b) us))) r
     or_first_lem (refuse m) k r c = record { says = nothing }
     or_first_lem (got a vs) k r c = or_second a (k vs) r c
 
-    pub or_counted : (r : Visit) → OrElse ≡ policy_head (get_or W at 0) false →
+    pub or_counted : (r : Option Visit) → OrElse ≡ policy_head (get_or W at 0) false →
         Counts wordss (holds_ps true T) (nodes_ps true T) (at + 1) allowance (n + 1) (many pnil pcons (read_policy false (depth - 1)) 2 (drop (at + 1) W)) r → CountsP depth r
     unfolding policy_node
     or_counted r e c = by_head OrElse r e (or_first_lem (read_policy false (depth - 1) (drop (at + 1) W)) (λ vs. read_policy false (depth - 1) vs) r c)
 
-    pub no_permit_trace : (k o : ℕ) (r : Visit) → PermitWithTrace k o ≡ policy_head (get_or W at 0) false → CountsP depth r
+    pub no_permit_trace : (k o : ℕ) (r : Option Visit) → PermitWithTrace k o ≡ policy_head (get_or W at 0) false → CountsP depth r
     no_permit_trace k o r e = absurd (of_sheet (get_or W at 0) (PermitWithTrace k o) e)
 
-    pub no_deny_trace : (hidden denied : Bool) (o : ℕ) (r : Visit) → DenyWithTrace hidden denied o ≡ policy_head (get_or W at 0) false → CountsP depth r
+    pub no_deny_trace : (hidden denied : Bool) (o : ℕ) (r : Option Visit) → DenyWithTrace hidden denied o ≡ policy_head (get_or W at 0) false → CountsP depth r
     no_deny_trace hidden denied o r e = absurd (of_sheet (get_or W at 0) (DenyWithTrace hidden denied o) e)
 
-    pub bad_kind : (r : Visit) → BadKind ≡ policy_head (get_or W at 0) false → CountsP depth r
+    pub bad_kind : (r : Option Visit) → BadKind ≡ policy_head (get_or W at 0) false → CountsP depth r
     unfolding policy_node
     bad_kind r e = by_head BadKind r e (record { says = nothing })
 
-    pub bad_field : (r : Visit) → BadField ≡ policy_head (get_or W at 0) false → CountsP depth r
+    pub bad_field : (r : Option Visit) → BadField ≡ policy_head (get_or W at 0) false → CountsP depth r
     unfolding policy_node
     bad_field r e = by_head BadField r e (record { says = nothing })
 
   -- ---- a Grant of three words: two nodes
   module _ (plain : plain_grant (drop at W) ≡ true) where
-    plain_says : (r : Visit) → ((v : Bool) → v ≡ is_present (T (get_or W (at + 2) 0 % 1024)) → r ≡ counted_by allowance (n + 2) v (at + 3)) → (depth : ℕ) → CountsP depth r
+    plain_says : (r : Option Visit) → ((v : Bool) → v ≡ is_present (T (get_or W (at + 2) 0 % 1024)) → r ≡ counted_by allowance (n + 2) v (at + 3)) → (depth : ℕ) → CountsP depth r
     plain_says r p depth = record {
       says = weaker (read_policy false depth (drop at W)) (λ t rest e.
           let reads = follows_got (deeper product_sets.value false depth (suc (suc depth)) (drop at W) (omega arith)) e in
@@ -250,11 +248,11 @@ module _ (T : Table) (W : List ℕ) (at allowance n : ℕ) where
           (itself (read_policy false depth (drop at W)));
     }
 
-    pub plain_counted : (v : Bool) (r : Visit) → v ≡ is_present (T (get_or W (at + 2) 0 % 1024)) → r ≡ counted_by allowance (n + 2) v (at + 3) → (depth : ℕ) → CountsP depth r
+    pub plain_counted : (v : Bool) (r : Option Visit) → v ≡ is_present (T (get_or W (at + 2) 0 % 1024)) → r ≡ counted_by allowance (n + 2) v (at + 3) → (depth : ℕ) → CountsP depth r
     plain_counted v r i p = plain_says r (λ w j. p ∙ counted_as allowance refl (i ∙ sym j) refl)
 
-    pub plain_over : allowance < n + 2 → (depth : ℕ) → CountsP depth Over
-    plain_over h = plain_says Over (λ v j. over_is allowance (n + 2) v (at + 3) h)
+    pub plain_over : allowance < n + 2 → (depth : ℕ) → CountsP depth None
+    plain_over h = plain_says None (λ v j. over_is allowance (n + 2) v (at + 3) h)
 
 -- ---- arms
 skipped : {A : Type 0} (size : A → ℕ) (at n : ℕ) (q : Parsed A) → Skipped size at q n → Holds (λ a rest. n ≡ at + size a) q
@@ -263,48 +261,48 @@ skipped size at n (refuse k) h = nothing
 skipped size at n (got a rest) h = fine h
 
 module _ (stop : Bool) (T : Table) (W : List ℕ) (depth allowance : ℕ) where
-  pub policies_none : (at arms n : ℕ) (r : Visit) → arms ≡ 0 → r ≡ counted_by allowance n (not stop) at → CountsPs T W at allowance n stop depth arms r
+  pub policies_none : (at arms n : ℕ) (r : Option Visit) → arms ≡ 0 → r ≡ counted_by allowance n (not stop) at → CountsPs T W at allowance n stop depth arms r
   policies_none at arms n r z e =
       arms_none pnil pcons words wordss (holds_p T) (nodes_p T) refl (λ a b. refl) (read_policy false depth) (policy_leaves false depth) W allowance (holds_ps stop T) (nodes_ps stop T) at arms n z refl r e
 
   module _ (at arms n : ℕ) (some : arms ≡ 0 → ⊥) where
-    pub policies_over : CountsP T W at allowance n depth Over → CountsPs T W at allowance n stop depth arms Over
+    pub policies_over : CountsP T W at allowance n depth None → CountsPs T W at allowance n stop depth arms None
     policies_over c =
         arm_over pnil pcons words wordss (holds_p T) (nodes_p T) refl (λ a b. refl) (read_policy false depth) (policy_leaves false depth) W allowance (holds_ps stop T) (nodes_ps stop T) at arms n some
         (λ a b. omega arith) c
 
-    module _ (h : Bool) (e m : ℕ) (r : Visit) (first : CountsP T W at allowance n depth (Within h e m)) where
-      pub policies_more : beq h stop ≡ false → CountsPs T W e allowance m stop depth (arms - 1) r → CountsPs T W at allowance n stop depth arms r
+    module _ (w : Visit) (r : Option Visit) (first : CountsP T W at allowance n depth (Some w)) where
+      pub policies_more : beq w.holds stop ≡ false → CountsPs T W w.next allowance w.nodes stop depth (arms - 1) r → CountsPs T W at allowance n stop depth arms r
       policies_more d rest =
           arm_first pnil pcons words wordss (holds_p T) (nodes_p T) refl (λ a b. refl) (read_policy false depth) (policy_leaves false depth) W allowance
-          (holds_ps stop T) (holds_ps stop T) (nodes_ps stop T) (nodes_ps stop T) at arms n h e m r some first
-          (λ a b v. go_on_at (holds_p T a) h stop (nodes_p T a) (nodes_ps stop T b) (holds_ps stop T b) v d) rest
+          (holds_ps stop T) (holds_ps stop T) (nodes_ps stop T) (nodes_ps stop T) at arms n w r some first
+          (λ a b v. go_on_at (holds_p T a) w.holds stop (nodes_p T a) (nodes_ps stop T b) (holds_ps stop T b) v d) rest
 
-      pub policies_stop : beq h stop ≡ true → (end : ℕ) → ((depth : ℕ) (res : Bool) → Skipped wordss e (many pnil pcons (read_policy res depth) (arms - 1) (drop e W)) end) →
-          r ≡ counted_by allowance m stop end → CountsPs T W at allowance n stop depth arms r
+      pub policies_stop : beq w.holds stop ≡ true → (end : ℕ) → ((depth : ℕ) (res : Bool) → Skipped wordss w.next (many pnil pcons (read_policy res depth) (arms - 1) (drop w.next W)) end) →
+          r ≡ counted_by allowance w.nodes stop end → CountsPs T W at allowance n stop depth arms r
       policies_stop d end k p =
           arm_first pnil pcons words wordss (holds_p T) (nodes_p T) refl (λ a b. refl) (read_policy false depth) (policy_leaves false depth) W allowance
-          (holds_ps stop T) (λ _. stop) (nodes_ps stop T) (λ _. 0) at arms n h e m r some first
-          (λ a b v. stops_at (holds_p T a) h stop (nodes_p T a) (nodes_ps stop T b) (holds_ps stop T b) v d)
-          (arms_passed pnil pcons words wordss (holds_p T) (nodes_p T) refl (λ a b. refl) (read_policy false depth) (policy_leaves false depth) W allowance stop e (arms - 1) m end r p
-          (skipped wordss e end (many pnil pcons (read_policy false depth) (arms - 1) (drop e W)) (k depth false)))
+          (holds_ps stop T) (λ _. stop) (nodes_ps stop T) (λ _. 0) at arms n w r some first
+          (λ a b v. stops_at (holds_p T a) w.holds stop (nodes_p T a) (nodes_ps stop T b) (holds_ps stop T b) v d)
+          (arms_passed pnil pcons words wordss (holds_p T) (nodes_p T) refl (λ a b. refl) (read_policy false depth) (policy_leaves false depth) W allowance stop w.next (arms - 1) w.nodes end r p
+          (skipped wordss w.next end (many pnil pcons (read_policy false depth) (arms - 1) (drop w.next W)) (k depth false)))
 
 -- Every arm of an Any.
 module _ (T : Table) (W : List ℕ) (depth allowance : ℕ) where
-  pub any_none : (sofar : Bool) (at arms n : ℕ) (r : Visit) → arms ≡ 0 → r ≡ counted_by allowance n sofar at → CountsAny T W at allowance n sofar depth arms r
+  pub any_none : (sofar : Bool) (at arms n : ℕ) (r : Option Visit) → arms ≡ 0 → r ≡ counted_by allowance n sofar at → CountsAny T W at allowance n sofar depth arms r
   any_none sofar at arms n r z e =
       arms_none pnil pcons words wordss (holds_p T) (nodes_p T) refl (λ a b. refl) (read_policy false depth) (policy_leaves false depth) W allowance (holds_any T sofar) (nodes_any T) at arms n z refl r e
 
-  pub any_over : (sofar : Bool) (at arms n : ℕ) → (arms ≡ 0 → ⊥) → CountsP T W at allowance n depth Over → CountsAny T W at allowance n sofar depth arms Over
+  pub any_over : (sofar : Bool) (at arms n : ℕ) → (arms ≡ 0 → ⊥) → CountsP T W at allowance n depth None → CountsAny T W at allowance n sofar depth arms None
   any_over sofar at arms n some c =
       arm_over pnil pcons words wordss (holds_p T) (nodes_p T) refl (λ a b. refl) (read_policy false depth) (policy_leaves false depth) W allowance (holds_any T sofar) (nodes_any T) at arms n some
       (λ a b. omega arith) c
 
-  pub any_more : (sofar : Bool) (at arms n : ℕ) → (arms ≡ 0 → ⊥) → (h : Bool) (e m : ℕ) (r : Visit) → CountsP T W at allowance n depth (Within h e m) → (now : Bool) → now ≡ (sofar || h) →
-      CountsAny T W e allowance m now depth (arms - 1) r → CountsAny T W at allowance n sofar depth arms r
-  any_more sofar at arms n some h e m r first now is rest =
+  pub any_more : (sofar : Bool) (at arms n : ℕ) → (arms ≡ 0 → ⊥) → (w : Visit) (r : Option Visit) → CountsP T W at allowance n depth (Some w) → (now : Bool) → now ≡ (sofar || w.holds) →
+      CountsAny T W w.next allowance w.nodes now depth (arms - 1) r → CountsAny T W at allowance n sofar depth arms r
+  any_more sofar at arms n some w r first now is rest =
       arm_first pnil pcons words wordss (holds_p T) (nodes_p T) refl (λ a b. refl) (read_policy false depth) (policy_leaves false depth) W allowance
-      (holds_any T sofar) (holds_any T now) (nodes_any T) (nodes_any T) at arms n h e m r some first
+      (holds_any T sofar) (holds_any T now) (nodes_any T) (nodes_any T) at arms n w r some first
       (λ a b v. (refl, ap (λ x. holds_any T (sofar || x) b) v ∙ ap (λ x. holds_any T x b) (sym is))) rest
 
 -- ---- a sheet
@@ -313,7 +311,7 @@ whole_holds (refuse n) f h = nothing
 whole_holds (got t []) f h = fine h.it
 whole_holds (got t (w ∷ ws)) f h = nothing
 
-module _ (T : Table) (W : List ℕ) (allowance : ℕ) (r : Count) where
+module _ (T : Table) (W : List ℕ) (allowance : ℕ) (r : Option ℕ) where
   sheet_says : ((t : Policy Outcome) (rest : List ℕ) → read_policy false 32 W ≡ got t rest → r ≡ visits_within allowance (nodes_p T t)) → CountsSheet T W allowance r
   sheet_says f = record {
     says = λ g. if_holds (sheet_length W) 1 (whole (read_policy false 32 W)) (λ _.
@@ -321,12 +319,12 @@ module _ (T : Table) (W : List ℕ) (allowance : ℕ) (r : Count) where
         (whole_holds {Q = λ t _. r ≡ visits_within allowance (nodes_p T t)} (read_policy false 32 W) (λ t e. e) (weaker (read_policy false 32 W) f (itself (read_policy false 32 W)))));
   }
 
-  pub sheet_within : (h : Bool) (e m : ℕ) → CountsP T W 0 allowance 0 32 (Within h e m) → r ≡ sheet.Within m → CountsSheet T W allowance r
-  sheet_within h e m c p = sheet_says (λ t rest q.
-      let was = was_within allowance h e m (holds_p T t) (0 + words t) (0 + nodes_p T t) (held_at c.says q) in
-      let same : m ≡ nodes_p T t = omega (arith, was.nodes_are) in
-      p ∙ ap sheet.Within same ∙ sym (ap (λ b. cond b (sheet.Within (nodes_p T t)) sheet.Over) (le-leb (nodes_p T t) allowance (omega (arith, was.fits)))))
+  pub sheet_within : (w : Visit) → CountsP T W 0 allowance 0 32 (Some w) → r ≡ Some w.nodes → CountsSheet T W allowance r
+  sheet_within w c p = sheet_says (λ t rest q.
+      let was = was_within allowance w (holds_p T t) (0 + words t) (0 + nodes_p T t) (held_at c.says q) in
+      let same : w.nodes ≡ nodes_p T t = omega (arith, was.nodes_are) in
+      p ∙ ap Some same ∙ sym (ap (λ b. cond b (Some (nodes_p T t)) None) (le-leb (nodes_p T t) allowance (omega (arith, was.fits)))))
 
-  pub sheet_over : CountsP T W 0 allowance 0 32 Over → r ≡ sheet.Over → CountsSheet T W allowance r
+  pub sheet_over : CountsP T W 0 allowance 0 32 None → r ≡ None → CountsSheet T W allowance r
   sheet_over c p = sheet_says (λ t rest q.
-      p ∙ sym (ap (λ b. cond b (sheet.Within (nodes_p T t)) sheet.Over) (lt-leb (nodes_p T t) allowance (omega (arith, was_over allowance (0 + nodes_p T t) (holds_p T t) (0 + words t) (held_at c.says q))))))
+      p ∙ sym (ap (λ b. cond b (Some (nodes_p T t)) None) (lt-leb (nodes_p T t) allowance (omega (arith, was_over allowance (0 + nodes_p T t) (holds_p T t) (0 + words t) (held_at c.says q))))))

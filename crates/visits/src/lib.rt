@@ -12,318 +12,208 @@ ghost use Rattle.model.specs.Products.{read_policy};
 ghost use Rattle.laws.specs.Size.{words_c, words_cs, words as words_t, wordss as words_ts};
 ghost use Rattle.policy_model.specs.Plain.{plain_grant};
 ghost use Rattle.visits.specs.Holding.{holds_c, holds_cs, visits_cs, holds_p, holds_ps, holds_any, nodes_p, nodes_ps, nodes_any};
-ghost use Rattle.visits.specs.Counting.{counted_by, flipped, Counts, CountsSheet};
+ghost use Rattle.visits.specs.Counting.{counted_by, Counts, CountsSheet};
 
 use policy_model::{ConditionHead, PolicyHead};
 
-// What a walk comes to: whether the node holds (a condition is satisfied, a policy permits), the position after its words and the nodes visited by then;
-// or that the allowance doesn't hold them. Of words that don't read nothing is asked.
-#[derive(Drop)]
-enum Visit {
-    Within {
-        holds: bool,
-        next: usize,
+// What a walk comes to that the allowance holds: whether the node holds (a condition is satisfied, a policy permits), the position after its words and the
+// nodes visited by then. Of words that don't read nothing is asked.
+#[derive(Clone, Copy)]
+struct Visit {
+    holds: bool,
+    next: usize,
+    nodes: u32,
+}
+
+// What a walk reads, and how many nodes it may visit.
+#[derive(Clone, Copy)]
+struct Walk<'a> {
+    words: &'a [u32],
+    facts: &'a [u8],
+    allowance: u32,
+}
+
+impl Walk<'_> {
+    // So many nodes, if the allowance holds them.
+    fn counted(&self, nodes: u32, holds: bool, next: usize) -> Option<Visit>
+        ensures { result ≡ counted_by self.now.allowance nodes holds next }
+    {
+        if self.allowance < nodes {
+            return None;
+        }
+        Some(Visit { holds, next, nodes })
+    }
+
+    // The condition at `at`, of at most `depth` levels, after `nodes` that were visited before. Every node counts, so with none left it is over at once.
+    #[cycle(condition_visits)]
+    fn visit_condition(&self, at: usize, depth: usize, nodes: u32) -> Option<Visit>
+        ensures { Counts words_c (holds_c (table_of self.now.facts.now)) (visits_c (table_of self.now.facts.now)) at self.now.allowance nodes (read_condition depth (drop at self.now.words.now)) result }
+    {
+        if self.words.len() <= at || depth == 0 || self.allowance <= nodes {
+            return None;
+        }
+        let next = at + 1;
+        let count = nodes + 1;
+        let word = self.words[at];
+        if word / policy_model::FACTS == policy_model::HAS {
+            return self.counted(
+                count,
+                facts::present(self.facts, word % policy_model::FACTS),
+                next,
+            );
+        }
+        let below = depth - 1;
+        match policy_model::condition_head(word) {
+            ConditionHead::Always => self.counted(count, true, next),
+            ConditionHead::Never => self.counted(count, false, next),
+            ConditionHead::Has(fact) => {
+                self.counted(count, facts::present(self.facts, fact), next)
+            }
+            ConditionHead::Not => {
+                let arm = self.visit_condition(next, below, count)?;
+                Some(Visit {
+                    holds: !arm.holds,
+                    ..arm
+                })
+            }
+            ConditionHead::All(0) => self.counted(count, false, next),
+            ConditionHead::All(arms) => self.visit_conditions(next, below, arms, false, count),
+            ConditionHead::Any(arms) => self.visit_conditions(next, below, arms, true, count),
+            ConditionHead::BadKind | ConditionHead::BadField => None,
+        }
+    }
+
+    // The `arms` from `at` of an All (`stop` false) or an Any (`stop` true): an arm whose value is `stop` decides, and those after it aren't visited.
+    #[cycle(condition_visits)]
+    fn visit_conditions(
+        &self,
+        at: usize,
+        depth: usize,
+        arms: u32,
+        stop: bool,
         nodes: u32,
-    },
-    Over,
-}
-
-// The nodes of a sheet, if the allowance holds them.
-#[derive(Drop)]
-pub enum Count {
-    Within(u32),
-    Over,
-}
-
-fn counted(allowance: u32, nodes: u32, holds: bool, next: usize) -> Visit
-    ensures { result ≡ counted_by allowance nodes holds next }
-{
-    if allowance < nodes {
-        return Visit::Over;
-    }
-    Visit::Within { holds, next, nodes }
-}
-
-// Not flips.
-fn negated(arm: Visit) -> Visit
-    ensures { result ≡ flipped arm }
-{
-    match arm {
-        Visit::Within { holds, next, nodes } => Visit::Within {
-            holds: !holds,
-            next,
-            nodes,
-        },
-        Visit::Over => Visit::Over,
-    }
-}
-
-// The condition at `at`, of at most `depth` levels, after `nodes` that were visited before. Every node counts, so with none left it is over at once.
-#[cycle(condition_visits)]
-fn visit_condition(
-    words: &[u32],
-    at: usize,
-    depth: usize,
-    facts: &[u8],
-    allowance: u32,
-    nodes: u32,
-) -> Visit
-    ensures { Counts words_c (holds_c (table_of facts.now)) (visits_c (table_of facts.now)) at allowance nodes (read_condition depth (drop at words.now)) result }
-{
-    if words.len() <= at {
-        return Visit::Over;
-    }
-    if depth == 0 {
-        return Visit::Over;
-    }
-    if allowance <= nodes {
-        return Visit::Over;
-    }
-    let next = at + 1;
-    let count = nodes + 1;
-    let word = words[at];
-    if word / policy_model::FACTS == policy_model::HAS {
-        return counted(
-            allowance,
-            count,
-            facts::present(facts, word % policy_model::FACTS),
-            next,
-        );
-    }
-    let below = depth - 1;
-    match policy_model::condition_head(word) {
-        ConditionHead::Always => counted(allowance, count, true, next),
-        ConditionHead::Never => counted(allowance, count, false, next),
-        ConditionHead::Has(fact) => counted(allowance, count, facts::present(facts, fact), next),
-        ConditionHead::Not => {
-            negated(visit_condition(words, next, below, facts, allowance, count))
-        }
-        ConditionHead::All(arms) => {
-            if arms == 0 {
-                return counted(allowance, count, false, next);
-            }
-            visit_conditions(words, next, below, arms, false, facts, allowance, count)
-        }
-        ConditionHead::Any(arms) => {
-            visit_conditions(words, next, below, arms, true, facts, allowance, count)
-        }
-        ConditionHead::BadKind => Visit::Over,
-        ConditionHead::BadField => Visit::Over,
-    }
-}
-
-// The `arms` from `at` of an All (`stop` false) or an Any (`stop` true): an arm whose value is `stop` decides, and those after it aren't visited.
-#[cycle(condition_visits)]
-fn visit_conditions(
-    words: &[u32],
-    at: usize,
-    depth: usize,
-    arms: u32,
-    stop: bool,
-    facts: &[u8],
-    allowance: u32,
-    nodes: u32,
-) -> Visit
-    ensures { Counts words_cs (holds_cs stop (table_of facts.now)) (visits_cs stop (table_of facts.now)) at allowance nodes (many cnil ccons (read_condition depth) arms (drop at words.now)) result }
-{
-    let mut next = at;
-    let mut left = arms;
-    let mut count = nodes;
-    while left != 0 {
-        let arm = visit_condition(words, next, depth, facts, allowance, count);
-        match arm {
-            Visit::Over => return Visit::Over,
-            Visit::Within {
-                holds,
-                next: end,
-                nodes: visited,
-            } => {
-                next = end;
-                count = visited;
-                left -= 1;
-                if holds == stop {
-                    return counted(
-                        allowance,
-                        count,
-                        stop,
-                        policy_model::skip_conditions(words, next, left),
-                    );
-                }
+    ) -> Option<Visit>
+        ensures { Counts words_cs (holds_cs stop (table_of self.now.facts.now)) (visits_cs stop (table_of self.now.facts.now)) at self.now.allowance nodes (many cnil ccons (read_condition depth) arms (drop at self.now.words.now)) result }
+    {
+        let mut next = at;
+        let mut count = nodes;
+        for left in (0..arms).rev() {
+            let arm = self.visit_condition(next, depth, count)?;
+            next = arm.next;
+            count = arm.nodes;
+            if arm.holds == stop {
+                let end = policy_model::skip_conditions(self.words, next, left);
+                return self.counted(count, stop, end);
             }
         }
+        self.counted(count, !stop, next)
     }
-    counted(allowance, count, !stop, next)
-}
 
-// A Grant of three words on one fact, the commonest policy: two nodes.
-fn visit_plain(words: &[u32], at: usize, facts: &[u8], allowance: u32, nodes: u32) -> Visit
-    requires { (plain_grant (drop at words.now) ≡ true) × (nodes < allowance) }
-    ensures { (depth : ℕ) → Counts words_t (holds_p (table_of facts.now)) (nodes_p (table_of facts.now)) at allowance nodes (read_policy false depth (drop at words.now)) result }
-{
-    if allowance - nodes < 2 {
-        return Visit::Over;
-    }
-    let fact = words[at + 2] % policy_model::FACTS;
-    counted(allowance, nodes + 2, facts::present(facts, fact), at + 3)
-}
-
-// The policy at `at`, of at most `depth` levels, in a sheet.
-#[cycle(policy_visits)]
-fn visit_policy(
-    words: &[u32],
-    at: usize,
-    depth: usize,
-    facts: &[u8],
-    allowance: u32,
-    nodes: u32,
-) -> Visit
-    requires { length words.now ≤ record_words }
-    ensures { Counts words_t (holds_p (table_of facts.now)) (nodes_p (table_of facts.now)) at allowance nodes (read_policy false depth (drop at words.now)) result }
-{
-    if words.len() <= at {
-        return Visit::Over;
-    }
-    if depth == 0 {
-        return Visit::Over;
-    }
-    if allowance <= nodes {
-        return Visit::Over;
-    }
-    let next = at + 1;
-    let count = nodes + 1;
-    let word = words[at];
-    if word / policy_model::HALF == policy_model::PERMIT {
-        return counted(allowance, count, true, next);
-    }
-    if policy_model::plain_grant(words, at) {
-        return visit_plain(words, at, facts, allowance, nodes);
-    }
-    let below = depth - 1;
-    match policy_model::policy_head(word, false) {
-        PolicyHead::Permit(_) => counted(allowance, count, true, next),
-        PolicyHead::Deny => counted(allowance, count, false, next),
-        PolicyHead::Grant {
-            hidden: _,
-            obligations,
-            outcome: _,
-        } => {
-            let condition = next + 1 + policy_model::obligation_words(obligations);
-            visit_condition(words, condition, below, facts, allowance, count)
+    // A Grant of three words on one fact, the commonest policy: two nodes.
+    fn visit_plain(&self, at: usize, nodes: u32) -> Option<Visit>
+        requires { (plain_grant (drop at self.now.words.now) ≡ true) × (nodes < self.now.allowance) }
+        ensures { (depth : ℕ) → Counts words_t (holds_p (table_of self.now.facts.now)) (nodes_p (table_of self.now.facts.now)) at self.now.allowance nodes (read_policy false depth (drop at self.now.words.now)) result }
+    {
+        if self.allowance - nodes < 2 {
+            return None;
         }
-        PolicyHead::All(arms) => {
-            if arms == 0 {
-                return counted(allowance, count, false, next);
+        let fact = self.words[at + 2] % policy_model::FACTS;
+        self.counted(nodes + 2, facts::present(self.facts, fact), at + 3)
+    }
+
+    // The policy at `at`, of at most `depth` levels, in a sheet.
+    #[cycle(policy_visits)]
+    fn visit_policy(&self, at: usize, depth: usize, nodes: u32) -> Option<Visit>
+        requires { length self.now.words.now ≤ record_words }
+        ensures { Counts words_t (holds_p (table_of self.now.facts.now)) (nodes_p (table_of self.now.facts.now)) at self.now.allowance nodes (read_policy false depth (drop at self.now.words.now)) result }
+    {
+        if self.words.len() <= at || depth == 0 || self.allowance <= nodes {
+            return None;
+        }
+        let next = at + 1;
+        let count = nodes + 1;
+        let word = self.words[at];
+        if word / policy_model::HALF == policy_model::PERMIT {
+            return self.counted(count, true, next);
+        }
+        if policy_model::plain_grant(self.words, at) {
+            return self.visit_plain(at, nodes);
+        }
+        let below = depth - 1;
+        match policy_model::policy_head(word, false) {
+            PolicyHead::Permit(_) => self.counted(count, true, next),
+            PolicyHead::Deny => self.counted(count, false, next),
+            PolicyHead::Grant { obligations, .. } => {
+                let condition = next + 1 + policy_model::obligation_words(obligations);
+                self.visit_condition(condition, below, count)
             }
-            visit_policies(words, next, below, arms, false, facts, allowance, count)
+            PolicyHead::All(0) => self.counted(count, false, next),
+            PolicyHead::All(arms) => self.visit_policies(next, below, arms, false, count),
+            PolicyHead::Any(arms) => self.visit_any(next, below, arms, count),
+            PolicyHead::OrElse => self.visit_policies(next, below, 2, true, count),
+            PolicyHead::PermitWithTrace { .. }
+            | PolicyHead::DenyWithTrace { .. }
+            | PolicyHead::BadKind
+            | PolicyHead::BadField => None,
         }
-        PolicyHead::Any(arms) => visit_any(words, next, below, arms, facts, allowance, count),
-        PolicyHead::OrElse => visit_policies(words, next, below, 2, true, facts, allowance, count),
-        PolicyHead::PermitWithTrace {
-            obligations: _,
-            outcome: _,
-        } => Visit::Over,
-        PolicyHead::DenyWithTrace {
-            hidden: _,
-            denied: _,
-            outcome: _,
-        } => Visit::Over,
-        PolicyHead::BadKind => Visit::Over,
-        PolicyHead::BadField => Visit::Over,
     }
-}
 
-// The `arms` from `at` of an All, up to its deny (`stop` false), or an OrElse's two, up to a permit (`stop` true).
-#[cycle(policy_visits)]
-fn visit_policies(
-    words: &[u32],
-    at: usize,
-    depth: usize,
-    arms: u32,
-    stop: bool,
-    facts: &[u8],
-    allowance: u32,
-    nodes: u32,
-) -> Visit
-    requires { length words.now ≤ record_words }
-    ensures { Counts words_ts (holds_ps stop (table_of facts.now)) (nodes_ps stop (table_of facts.now)) at allowance nodes (many pnil pcons (read_policy false depth) arms (drop at words.now)) result }
-{
-    let mut next = at;
-    let mut left = arms;
-    let mut count = nodes;
-    while left != 0 {
-        let arm = visit_policy(words, next, depth, facts, allowance, count);
-        match arm {
-            Visit::Over => return Visit::Over,
-            Visit::Within {
-                holds,
-                next: end,
-                nodes: visited,
-            } => {
-                next = end;
-                count = visited;
-                left -= 1;
-                if holds == stop {
-                    return counted(
-                        allowance,
-                        count,
-                        stop,
-                        policy_model::skip_policies(words, next, left),
-                    );
-                }
+    // The `arms` from `at` of an All, up to its deny (`stop` false), or an OrElse's two, up to a permit (`stop` true).
+    // Beside `visit_conditions`: one rule for both would take a trait of the two cycles, with a member for each reading, size, value and count, for a loop of nine lines.
+    #[cycle(policy_visits)]
+    fn visit_policies(
+        &self,
+        at: usize,
+        depth: usize,
+        arms: u32,
+        stop: bool,
+        nodes: u32,
+    ) -> Option<Visit>
+        requires { length self.now.words.now ≤ record_words }
+        ensures { Counts words_ts (holds_ps stop (table_of self.now.facts.now)) (nodes_ps stop (table_of self.now.facts.now)) at self.now.allowance nodes (many pnil pcons (read_policy false depth) arms (drop at self.now.words.now)) result }
+    {
+        let mut next = at;
+        let mut count = nodes;
+        for left in (0..arms).rev() {
+            let arm = self.visit_policy(next, depth, count)?;
+            next = arm.next;
+            count = arm.nodes;
+            if arm.holds == stop {
+                let end = policy_model::skip_policies(self.words, next, left);
+                return self.counted(count, stop, end);
             }
         }
+        self.counted(count, !stop, next)
     }
-    counted(allowance, count, !stop, next)
-}
 
-// The `arms` from `at` of an Any, each of which is visited.
-#[cycle(policy_visits)]
-fn visit_any(
-    words: &[u32],
-    at: usize,
-    depth: usize,
-    arms: u32,
-    facts: &[u8],
-    allowance: u32,
-    nodes: u32,
-) -> Visit
-    requires { length words.now ≤ record_words }
-    ensures { Counts words_ts (holds_any (table_of facts.now) false) (nodes_any (table_of facts.now)) at allowance nodes (many pnil pcons (read_policy false depth) arms (drop at words.now)) result }
-{
-    let mut next = at;
-    let mut left = arms;
-    let mut count = nodes;
-    let mut permits = false;
-    while left != 0 {
-        let arm = visit_policy(words, next, depth, facts, allowance, count);
-        match arm {
-            Visit::Over => return Visit::Over,
-            Visit::Within {
-                holds,
-                next: end,
-                nodes: visited,
-            } => {
-                next = end;
-                count = visited;
-                permits = permits | holds;
-                left -= 1;
-            }
+    // The `arms` from `at` of an Any, each of which is visited.
+    #[cycle(policy_visits)]
+    fn visit_any(&self, at: usize, depth: usize, arms: u32, nodes: u32) -> Option<Visit>
+        requires { length self.now.words.now ≤ record_words }
+        ensures { Counts words_ts (holds_any (table_of self.now.facts.now) false) (nodes_any (table_of self.now.facts.now)) at self.now.allowance nodes (many pnil pcons (read_policy false depth) arms (drop at self.now.words.now)) result }
+    {
+        let mut next = at;
+        let mut count = nodes;
+        let mut permits = false;
+        for _ in 0..arms {
+            let arm = self.visit_policy(next, depth, count)?;
+            next = arm.next;
+            count = arm.nodes;
+            permits |= arm.holds;
         }
+        self.counted(count, permits, next)
     }
-    counted(allowance, count, permits, next)
 }
 
-// How many nodes direct evaluation of the sheet visits under a known table; over exactly where that exceeds the allowance.
-pub fn visits(sheet: &[u32], facts: &[u8], allowance: u32) -> Count
+// How many nodes direct evaluation of the sheet visits under a known table, if the allowance holds them.
+pub fn visits(sheet: &[u32], facts: &[u8], allowance: u32) -> Option<u32>
     requires { length sheet.now ≤ record_words }
     ensures { CountsSheet (table_of facts.now) sheet.now allowance result }
 {
-    match visit_policy(sheet, 0, policy_model::LEVELS, facts, allowance, 0) {
-        Visit::Within {
-            holds: _,
-            next: _,
-            nodes,
-        } => Count::Within(nodes),
-        Visit::Over => Count::Over,
-    }
+    let walk = Walk {
+        words: sheet,
+        facts,
+        allowance,
+    };
+    Some(walk.visit_policy(0, policy_model::LEVELS, 0)?.nodes)
 }

@@ -1,63 +1,32 @@
 -- The fields of a window's words as code reads them, and a turn of each loop. Assumes nothing.
 use mathlib.Core.Path.{◌≡◌, refl, sym, ◌∙◌, ap, ap₂, subst}
-use mathlib.Core.Bool.{Bool, true, false, cond, not, ◌&&◌, ◌||◌, and-false}
-use mathlib.Core.Option.{none, some}
-use mathlib.Core.List.{List, [], ◌∷◌, ◌++◌, append_assoc}
+use mathlib.Core.Bool.{Bool, true, false, cond, not, ◌&&◌, ◌||◌, and-true, and-false}
+use mathlib.Core.Option.{none}
+use mathlib.Core.List.{List, [], ◌∷◌, ◌++◌, map, append_assoc}
 use Prim.Native.Nat.{ℕ, zero, suc, ◌+◌, ◌-◌, ◌*◌, ◌/◌, ◌%◌, ◌^◌, ◌≤◌, ◌<◌}
 use native.Mathlib.Omega.{arith}
 use lib.Bits.{bit_and, and_high}
 use lib.Dec.{eqb, leb}
-use borrow.Author.Tests.{le-leb, lt-leb, eq-eqb, ne_eqb, not-false}
+use borrow.Author.Tests.{le-leb, lt-leb, ne_eqb, not-false}
 use lib.ListN.{length, drop, get_or, set, drop_of_length-le, length-append, length-drop}
 use lib.Seq.{drop-cons}
 use Rattle.model.specs.Fields.{bits, split, packed}
 use Rattle.model.specs.Facts.{Presence, unknown, fact_bits, table_bytes, table_fields}
 use Rattle.model.specs.Writing.{presence_field}
-use Rattle.model.specs.Windows.{Window, window_of, windows_of, age_bits, verdict, right_window, right_windows, decided, becomes, named, set_fields, bad_date, bad_list, windows_fault, windowed_table, apply_windows}
-use Rattle.model.specs.Calls.{refusal, wrote, unless_fault, afterwards}
+use Rattle.model.specs.Windows.{Window, window_of, windows_of, right_window, right_windows, decided, becomes, named, set_fields, bad_date, bad_list, windows_fault, windowed_table, apply_windows}
+use Rattle.model.specs.Calls.{refusal, wrote, unless_fault}
 use Rattle.model.specs.Calendar.{Date, exists, unknown_date, age_in_days, age_in_years}
 use Rattle.laws.proofs.ShiftLaws.{split_shift}
 use Rattle.laws.proofs.WordLaws.{length_packed}
 use Rattle.laws.proofs.UnpackedLaws.{fields_packed, packed_fields, length_fields}
 use Rattle.laws.proofs.WindowLaws.{Judged, length_set_fields, narrow_set_fields}
 use Rattle.laws.proofs.FieldSetLaws.{unit_at, replaced}
-use Rattle.answer.specs.declared.Answer.TheVariants.{Written, Refused}
-use Rattle.answer.specs.Answers.{answer_of, Answered}
-use Rattle.windows.specs.Setting.{number_of, in_ages, held_by, held_as, fields_by, set_where, marked, Windowed}
+use Rattle.std.specs.Prelude.{Ok}
+use Rattle.std.specs.Simd.{first_chunks}
+use Rattle.answer.specs.Answers.{Answered}
+use Rattle.windows.specs.Setting.{number_of, window_in, all_right, held_as, fields_by, set_where, marked, Windowed}
 use Rattle.calendar.specs.Answers.{shown}
-use Rattle.windows.specs.SettingLaws.{by_same, by_none, by_append, set_fields_by, decided_fields, set_by, then_set, last_windows, next_window, set_one, set_none}
-
--- ---- the fields of two words
-pub first_age : (ages : ℕ) → ages < 4294967296 → ages / 65536 ≡ bits age_bits age_bits ages
-first_age ages h = omega arith
-
-pub last_age : (ages : ℕ) → ages % 65536 ≡ bits 0 age_bits ages
-last_age ages = omega arith
-
-pub fact_of : (lead : ℕ) → lead % 1024 ≡ bits 0 fact_bits lead
-fact_of lead = omega arith
-
-pub verdict_of : (lead : ℕ) → lead < 4294967296 → lead / 2147483648 ≡ presence_field (verdict (eqb (bits 31 1 lead) 1))
-verdict_of lead h = few (lead / 2147483648) (omega arith) ∙ ap (λ n. presence_field (verdict (eqb n 1))) (let z : lead / 2147483648 ≡ bits 31 1 lead = omega arith in z)
-  where
-    few : (n : ℕ) → n < 2 → n ≡ presence_field (verdict (eqb n 1))
-    few zero k = refl
-    few (suc zero) k = refl
-    few (suc (suc n)) k = absurd (omega arith)
-
-module _ (ages n : ℕ) (few : ages < 4294967296) where
-  pub too_young : n < ages / 65536 → false ≡ in_ages ages n
-  too_young h = rw (lt-leb (bits age_bits age_bits ages) n (omega (arith, first_age ages few)))
-
-  pub old_enough : ages / 65536 ≤ n → leb n (ages % 65536) ≡ in_ages ages n
-  old_enough h = rw (le-leb (bits age_bits age_bits ages) n (omega (arith, first_age ages few))) (ap (leb n) (last_age ages))
-
-module _ (lead ages value days years : ℕ) (few : lead < 4294967296) where
-  pub other_verdict : (lead / 2147483648 ≡ value → ⊥) → false ≡ held_as value days years (window_of lead ages)
-  other_verdict h = sym (ap (λ b. b && held_by days years (window_of lead ages)) (ne_eqb (presence_field (verdict (window_of lead ages).opens)) value (λ e. h (verdict_of lead few ∙ e))))
-
-  pub its_verdict : {b : Bool} → lead / 2147483648 ≡ value → b ≡ held_by days years (window_of lead ages) → b ≡ held_as value days years (window_of lead ages)
-  its_verdict e told = told ∙ sym (ap (λ b. b && held_by days years (window_of lead ages)) (eq-eqb (presence_field (verdict (window_of lead ages).opens)) value (sym (verdict_of lead few) ∙ e)))
+use Rattle.windows.specs.SettingLaws.{by_same, by_none, by_append, set_fields_by, decided_fields, set_by, then_set, set_one, set_none}
 
 -- ---- one field of a byte
 abbrev old_of : ℕ → ℕ → ℕ
@@ -108,66 +77,75 @@ placed byte place value b p v =
       fields = sym (ap₂ (λ x y. split 2 4 (byte - x + y)) taken added) ∙ r.fields;
     }
 
--- ---- the list judged
-right_next : (list : List ℕ) (i : ℕ) → i + 1 < length list → right_windows (drop i list) ≡ (right_window (get_or list i 0) (get_or list (i + 1) 0) && right_windows (drop (i + 2) list))
-right_next list i h =
-    ap right_windows (drop-cons list i 0 (omega arith) ∙ ap (λ l. get_or list i 0 ∷ l) (drop-cons list (suc i) 0 (omega arith)))
-    ∙ ap₂ (λ a b. right_window (get_or list i 0) (get_or list a 0) && right_windows (drop b list))
-    (let z : suc i ≡ i + 1 = omega arith in z) (let z : suc (suc i) ≡ i + 2 = omega arith in z)
+-- ---- a list by the two words of each window
+by_pairs : (list : List ℕ) (n : ℕ) → n ≡ length list / 2 → map window_in (first_chunks 2 n list) ≡ windows_of list
+by_pairs [] zero h = refl
+by_pairs [] (suc n) h = absurd (omega arith)
+by_pairs (w ∷ []) zero h = refl
+by_pairs (w ∷ []) (suc n) h = absurd (omega arith)
+by_pairs (w ∷ v ∷ list) zero h = absurd (omega arith)
+by_pairs (w ∷ v ∷ list) (suc n) h = ap (λ ws. window_of w v ∷ ws) (by_pairs list n (omega arith))
 
-pub right_more : (list : List ℕ) (i : ℕ) (b : Bool) → i + 1 < length list → b ≡ right_window (get_or list i 0) (get_or list (i + 1) 0) → right_windows list ≡ right_windows (drop i list) → b ≡ true → right_windows list ≡ right_windows (drop (i + 2) list)
-right_more list i b h e sofar t = sofar ∙ right_next list i h ∙ ap (λ x. x && right_windows (drop (i + 2) list)) (sym e ∙ t)
+pub pairs_are : (list : List ℕ) (ps : List (List ℕ)) → ps ≡ first_chunks 2 (length list / 2) list → map window_in ps ≡ windows_of list
+pairs_are list ps h = ap (map window_in) h ∙ by_pairs list (length list / 2) refl
 
-pub wrong_here : (list : List ℕ) (i : ℕ) (b : Bool) → i + 1 < length list → b ≡ right_window (get_or list i 0) (get_or list (i + 1) 0) → right_windows list ≡ right_windows (drop i list) → b ≡ false → true ≡ bad_list list
-wrong_here list i b h e sofar t =
-    let wrong : right_windows list ≡ false = sofar ∙ right_next list i h ∙ ap (λ x. x && right_windows (drop (i + 2) list)) (sym e ∙ t) in
-    sym (ap (λ x. not (x && leb (length list) 64)) wrong)
+right_pairs : (list : List ℕ) (n : ℕ) → n ≡ length list / 2 → right_windows list ≡ (eqb (length list % 2) 0 && all_right (first_chunks 2 n list))
+right_pairs [] zero h = refl
+right_pairs [] (suc n) h = absurd (omega arith)
+right_pairs (w ∷ []) n h = refl
+right_pairs (w ∷ v ∷ list) zero h = absurd (omega arith)
+right_pairs (w ∷ v ∷ list) (suc n) h =
+    let same : length (w ∷ v ∷ list) % 2 ≡ length list % 2 = omega arith in
+    rw (same, right_pairs list n (omega arith)) (in_front (right_window w v) (eqb (length list % 2) 0) (all_right (first_chunks 2 n list)))
+  where
+    in_front : (a b c : Bool) → (a && (b && c)) ≡ (b && (a && c))
+    in_front true true c = refl
+    in_front true false c = refl
+    in_front false true c = refl
+    in_front false false c = refl
 
-pub right_all : (list : List ℕ) (i : ℕ) → length list ≤ i → leb (length list) 64 ≡ true → right_windows list ≡ right_windows (drop i list) → false ≡ bad_list list
-right_all list i h few sofar =
-    sym (ap₂ (λ x y. not (x && y)) (sofar ∙ ap right_windows (drop_of_length-le list h)) few)
+pub long_bad : (list : List ℕ) → 64 < length list → true ≡ bad_list list
+long_bad list h = sym (ap (λ b. not (right_windows list && b)) (lt-leb (length list) 64 h) ∙ ap not (and-false (right_windows list)))
 
-odd_list : (list : List ℕ) → (length list % 2 ≡ 0 → ⊥) → right_windows list ≡ false
-odd_list [] h = absurd (h refl)
-odd_list (w ∷ []) h = refl
-odd_list (w ∷ v ∷ rest) h = ap (λ x. right_window w v && x) (odd_list rest (λ e. h (omega arith))) ∙ and-false (right_window w v)
+module _ (list : List ℕ) (ps : List (List ℕ)) (are : ps ≡ first_chunks 2 (length list / 2) list) where
+  bad_by : bad_list list ≡ not ((eqb (length list % 2) 0 && all_right ps) && leb (length list) 64)
+  bad_by = ap (λ b. not (b && leb (length list) 64)) (right_pairs list (length list / 2) refl ∙ ap (λ x. eqb (length list % 2) 0 && all_right x) (sym are))
 
-pub odd_bad : (list : List ℕ) → (length list % 2 ≡ 0 → ⊥) → true ≡ bad_list list
-odd_bad list h = sym (ap (λ x. not (x && leb (length list) 64)) (odd_list list h))
+  pub odd_bad : eqb (length list % 2) 0 ≡ false → true ≡ bad_list list
+  odd_bad h = sym (bad_by ∙ ap (λ b. not ((b && all_right ps) && leb (length list) 64)) h)
 
-pub long_bad : (list : List ℕ) → leb (length list) 64 ≡ false → true ≡ bad_list list
-long_bad list h = sym (ap not (ap (λ x. right_windows list && x) h ∙ and-false (right_windows list)))
+  pub bad_rest : eqb (length list % 2) 0 ≡ true → length list ≤ 64 → not (all_right ps) ≡ bad_list list
+  bad_rest h k = sym (bad_by ∙ ap₂ (λ a b. not ((a && all_right ps) && b)) h (le-leb (length list) 64 k) ∙ ap not (and-true (all_right ps)))
 
 -- ---- a turn of a loop from the last window to the first
-module _ (such : Window → Bool) (value : ℕ) (list fields : List ℕ) where
+module _ (such : Window → Bool) (value : ℕ) (ps : List (List ℕ)) (fields : List ℕ) where
   -- The facts of the windows from i on are set, where these are such.
   abbrev pub SetFrom : ℕ → List ℕ → Type 0
-  SetFrom i now = now ≡ fields_by (set_where such value (windows_of (drop (i * 2) list))) 0 fields
+  SetFrom i now = now ≡ fields_by (set_where such value (map window_in (drop i ps))) 0 fields
 
-  pub none_set : (i : ℕ) → length list < i * 2 + 2 → SetFrom i fields
-  none_set i h = sym (ap (λ ws. fields_by (set_where such value ws) 0 fields) (last_windows list i h) ∙ by_none (set_where such value []) 0 (λ f q k. refl) fields)
+  pub none_set : (i : ℕ) → length ps ≤ i → SetFrom i fields
+  none_set i h = sym (ap (λ l. fields_by (set_where such value (map window_in l)) 0 fields) (drop_of_length-le ps h) ∙ by_none (set_where such value []) 0 (λ f q k. refl) fields)
 
-  module _ (i j : ℕ) (e : j ≡ i + 1) (h : i * 2 + 1 < length list) where
-    abbrev w : Window
-    w = window_of (get_or list (i * 2) 0) (get_or list (i * 2 + 1) 0)
+  module _ (i j : ℕ) (w : Window) (e : j ≡ suc i) (h : i < length ps) (is : w ≡ window_in (get_or ps i [])) where
+    next : w ∷ map window_in (drop (suc i) ps) ≡ map window_in (drop i ps)
+    next = ap (λ x. x ∷ map window_in (drop (suc i) ps)) is ∙ sym (ap (map window_in) (drop-cons ps i [] h))
 
-    abbrev later : List Window
-    later = windows_of (drop ((i + 1) * 2) list)
-
-    pub one_set : {now next : List ℕ} {b : Bool} → b ≡ such w → b ≡ true → SetFrom j now → next ≡ set now (get_or list (i * 2) 0 % 1024) value → SetFrom i next
+    pub one_set : {now new : List ℕ} {b : Bool} → b ≡ such w → b ≡ true → SetFrom j now → new ≡ set now w.fact value → SetFrom i new
     one_set told so so_far turn =
+        let ws = map window_in (drop (suc i) ps) in
         turn
-        ∙ ap₂ (λ l f. set l f value) (so_far ∙ ap (λ k. fields_by (set_where such value (windows_of (drop (k * 2) list))) 0 fields) e) (fact_of (get_or list (i * 2) 0))
-        ∙ set_by (set_where such value later) w.fact value fields
-        ∙ by_same (then_set (set_where such value later) w.fact value) (set_where such value (w ∷ later)) (set_one such value w later (sym told ∙ so)) 0 fields
-        ∙ ap (λ l. fields_by (set_where such value l) 0 fields) (sym (next_window list i h))
+        ∙ ap (λ l. set l w.fact value) (so_far ∙ ap (λ k. fields_by (set_where such value (map window_in (drop k ps))) 0 fields) e)
+        ∙ set_by (set_where such value ws) w.fact value fields
+        ∙ by_same (then_set (set_where such value ws) w.fact value) (set_where such value (w ∷ ws)) (set_one such value w ws (sym told ∙ so)) 0 fields
+        ∙ ap (λ l. fields_by (set_where such value l) 0 fields) next
 
     pub none_more : {now : List ℕ} {b : Bool} → b ≡ such w → b ≡ false → SetFrom j now → SetFrom i now
     none_more told not_so so_far =
+        let ws = map window_in (drop (suc i) ps) in
         so_far
-        ∙ ap (λ k. fields_by (set_where such value (windows_of (drop (k * 2) list))) 0 fields) e
-        ∙ by_same (set_where such value later) (set_where such value (w ∷ later)) (set_none such value w later (sym told ∙ not_so)) 0 fields
-        ∙ ap (λ l. fields_by (set_where such value l) 0 fields) (sym (next_window list i h))
+        ∙ ap (λ k. fields_by (set_where such value (map window_in (drop k ps))) 0 fields) e
+        ∙ by_same (set_where such value ws) (set_where such value (w ∷ ws)) (set_none such value w ws (sym told ∙ not_so)) 0 fields
+        ∙ ap (λ l. fields_by (set_where such value l) 0 fields) next
 
 -- ---- the table that is written
 -- A date that was judged and isn't unknown exists.
@@ -243,22 +221,12 @@ module _ (list : List ℕ) (reading today : Date) (table : List ℕ) (j : Judged
 
 -- ---- the answer
 module _ (list : List ℕ) (reading today : Date) (table out : List ℕ) where
-  pub refused_for : (n : ℕ) → some n ≡ windows_fault list reading today table → Answered (apply_windows list reading today table (length out)) out out (Refused n)
-  refused_for n e =
-      record {
-        answer_is = ap (λ o. answer_of (unless_fault o (cond (leb table_bytes (length out)) (wrote (windowed_table list reading today table)) (refusal 11)))) e;
-        output_is = ap (λ o. afterwards (unless_fault o (cond (leb table_bytes (length out)) (wrote (windowed_table list reading today table)) (refusal 11))) out) e;
-      }
-
   module _ (e : windows_fault list reading today table ≡ none) where
     accepted : (b : Bool) → leb table_bytes (length out) ≡ b → apply_windows list reading today table (length out) ≡ cond b (wrote (windowed_table list reading today table)) (refusal 11)
     accepted b h = ap₂ (λ o c. unless_fault o (cond c (wrote (windowed_table list reading today table)) (refusal 11))) e h
 
-    pub no_room : length out < table_bytes → Answered (apply_windows list reading today table (length out)) out out (Refused 11)
-    no_room h = subst (λ a. Answered a out out (Refused 11)) (sym (accepted false (lt-leb table_bytes (length out) h))) (record { answer_is = refl; output_is = refl })
-
-    pub room_enough : {after : List ℕ} → table_bytes ≤ length out → Windowed list reading today table out after → Answered (apply_windows list reading today table (length out)) out after (Written table_bytes)
+    pub room_enough : {after : List ℕ} → table_bytes ≤ length out → Windowed list reading today table out after → Answered (apply_windows list reading today table (length out)) out after (Ok table_bytes)
     room_enough {after} h w =
         let long : length (windowed_table list reading today table) ≡ table_bytes = length_packed 2 4 table_bytes (set_fields (named (windows_of list)) (becomes reading today (windows_of list)) 0 (table_fields table)) in
-        subst (λ a. Answered a out after (Written table_bytes)) (sym (accepted true (le-leb table_bytes (length out) h)))
-        (record { answer_is = ap Written (sym long); output_is = w.is ∙ ap (λ n. windowed_table list reading today table ++ drop n out) (sym long) })
+        subst (λ a. Answered a out after (Ok table_bytes)) (sym (accepted true (le-leb table_bytes (length out) h)))
+        (record { answer_is = ap Ok (sym long); output_is = w.is ∙ ap (λ n. windowed_table list reading today table ++ drop n out) (sym long) })

@@ -1,23 +1,37 @@
 -- What the loops do: every field of a table becomes a function of its fact and of what it was.
-use Rattle.std.specs.Prelude.{◌≡◌, Bool, true, cond, ◌&&◌, List, [], ◌∷◌, ◌++◌, ℕ, suc, ◌^◌, eqb, leb, drop}
+use Rattle.std.specs.Prelude.{◌≡◌, Bool, true, cond, ◌&&◌, List, [], ◌∷◌, ◌++◌, ℕ, suc, ◌^◌, eqb, leb, drop, get_or, Option, Some, None}
 use Rattle.model.specs.Fields.{bits}
 use Rattle.model.specs.Writing.{presence_field}
-use Rattle.model.specs.Facts.{table_bytes}
+use Rattle.model.specs.Facts.{fact_bits, table_bytes}
 use Rattle.model.specs.Calendar.{Date}
-use Rattle.model.specs.Windows.{Window, age_bits, verdict, some_of, windowed_table}
-use Rattle.calendar.specs.declared.Age.{Age}
-use Rattle.calendar.specs.declared.Age.TheVariants.{Reached, Ahead}
+use Rattle.model.specs.Windows.{Window, age_bits, zero_bits, window_of, right_window, verdict, some_of, windowed_table}
+use Rattle.windows.specs.declared.Window.{Window as Listed}
 
 -- An age as a number: one above every last age stands for those below 0, which lie in no window.
-abbrev pub number_of : Age → ℕ
-number_of (Reached n) = n
-number_of Ahead = 2 ^ age_bits
+abbrev pub number_of : Option ℕ → ℕ
+number_of (Some n) = n
+number_of None = 2 ^ age_bits
+
+-- The window that is meant, the one of two words, and how the code's reads: with its zero field.
+abbrev pub window_meant : Listed → Window
+window_meant w = record { opens = w.opens; in_years = w.in_years; fact = w.fact; first = w.first; last = w.last }
+
+abbrev pub window_in : List ℕ → Window
+window_in ws = window_of (get_or ws 0 0) (get_or ws 1 0)
+
+pub record Reads (ws : List ℕ) (w : Listed) : Type 0 where
+  pub meant : window_meant w ≡ window_in ws
+  pub zero_is : w.zero ≡ bits fact_bits zero_bits (get_or ws 0 0)
+
+abbrev pub right_in : List ℕ → Bool
+right_in ws = right_window (get_or ws 0 0) (get_or ws 1 0)
+
+abbrev pub all_right : List (List ℕ) → Bool
+all_right [] = true
+all_right (ws ∷ rest) = right_in ws && all_right rest
 
 abbrev pub between : ℕ → ℕ → ℕ → Bool
 between first last age = leb first age && leb age last
-
-abbrev pub in_ages : ℕ → ℕ → Bool
-in_ages ages age = between (bits age_bits age_bits ages) (bits 0 age_bits ages) age
 
 abbrev pub held_by : ℕ → ℕ → Window → Bool
 held_by days years w = between w.first w.last (cond w.in_years years days)

@@ -1,6 +1,6 @@
 -- Fields set one by one, and all of them at once.
-use Rattle.std.specs.Prelude.{◌≡◌, refl, Bool, true, false, cond, not, ◌&&◌, ◌||◌, List, [], ◌∷◌, ◌++◌, ℕ, zero, suc, ◌+◌, ◌*◌, ◌/◌, ◌%◌, ◌^◌, ◌≤◌, ◌<◌, eqb, leb, ℤ, pos, negsuc, length, drop, get_or, set}
-use Rattle.std.proofs.Common.{sym, ◌∙◌, ap, ap₂, arith, eq-eqb, ne_eqb, length-drop, drop-cons}
+use Rattle.std.specs.Prelude.{◌≡◌, refl, Bool, true, false, cond, not, ◌&&◌, ◌||◌, List, [], ◌∷◌, ◌++◌, ℕ, zero, suc, ◌+◌, ◌/◌, ◌%◌, ◌^◌, ◌≤◌, ◌<◌, eqb, leb, ℤ, pos, negsuc, length, get_or, set}
+use Rattle.std.proofs.Common.{sym, ◌∙◌, ap, ap₂, arith, eq-eqb, ne_eqb}
 use Rattle.std.proofs.Math.Bool.{and-true, and-false}
 use Rattle.std.proofs.lemmas.Bool.{lt-leb}
 use Rattle.model.specs.Fields.{bits, split}
@@ -50,21 +50,7 @@ pub set_fields_by : (is_named : ℕ → Bool) (says : ℕ → Presence) (a : ℕ
 set_fields_by is_named says a [] = refl
 set_fields_by is_named says a (q ∷ qs) = ap (λ l. cond (is_named a) (presence_field (says a)) q ∷ l) (set_fields_by is_named says (suc a) qs)
 
--- ---- the windows of a list, from the last
-pub last_windows : (list : List ℕ) (i : ℕ) → length list < i * 2 + 2 → windows_of (drop (i * 2) list) ≡ []
-last_windows list i h = few (drop (i * 2) list) (omega (arith, length-drop (i * 2) list))
-  where
-    few : (l : List ℕ) → length l < 2 → windows_of l ≡ []
-    few [] k = refl
-    few (w ∷ []) k = refl
-    few (w ∷ v ∷ l) k = absurd (omega arith)
-
-pub next_window : (list : List ℕ) (i : ℕ) → i * 2 + 1 < length list → windows_of (drop (i * 2) list) ≡ window_of (get_or list (i * 2) 0) (get_or list (i * 2 + 1) 0) ∷ windows_of (drop ((i + 1) * 2) list)
-next_window list i h =
-    ap windows_of (drop-cons list (i * 2) 0 (omega arith) ∙ ap (λ l. get_or list (i * 2) 0 ∷ l) (drop-cons list (suc (i * 2)) 0 (omega arith)))
-    ∙ ap₂ (λ a b. window_of (get_or list (i * 2) 0) (get_or list a 0) ∷ windows_of (drop b list))
-    (let z : suc (i * 2) ≡ i * 2 + 1 = omega arith in z) (let z : suc (suc (i * 2)) ≡ (i + 1) * 2 = omega arith in z)
-
+-- ---- one window more
 cond_or : (a b : Bool) {A : Type 0} (v q : A) → cond a v (cond b v q) ≡ cond (a || b) v q
 cond_or true b v q = refl
 cond_or false b v q = refl

@@ -1,19 +1,21 @@
 // Retention windows: the facts that a list names, set in a table by the age of a reading.
 #![tactic(auto)]
 
-ghost use Rattle.std.specs.Prelude.{◌≡◌, ◌/◌, ◌≤◌, ◌<◌, length, set};
+ghost use Rattle.std.specs.Prelude.{◌≡◌, ◌/◌, ◌≤◌, ◌<◌, length, map, set};
 ghost use Rattle.std.proofs.Math.Option.{none};
 ghost use Rattle.model.specs.Fields.{split};
 ghost use Rattle.model.specs.Facts.{table_bytes, table_fields};
-ghost use Rattle.model.specs.Windows.{window_of, windows_of, right_window, bad_list, windows_fault, apply_windows};
-ghost use Rattle.facts.specs.Answers.{fault_of};
+ghost use Rattle.model.specs.Windows.{verdict, bad_list, windows_fault, apply_windows};
+ghost use Rattle.facts.specs.Answers.{presence_of, presence_number};
 ghost use Rattle.answer.specs.Answers.{Answered};
+ghost use Rattle.refusal.specs.Numbers.{refused};
 ghost use Rattle.calendar.specs.Answers.{date_of};
-ghost use Rattle.windows.specs.Setting.{number_of, in_ages, held_by, held_as, fields_by, set_where, marked, Windowed};
+ghost use Rattle.windows.specs.Setting.{number_of, Reads, window_in, window_meant, right_in, all_right, held_by, held_as, fields_by, set_where, marked, Windowed};
 
 use answer::Answer;
-use calendar::{Age, Date};
-use facts::TableFault;
+use calendar::Date;
+use facts::{Presence, TableKind};
+use refusal::Refusal;
 
 // A window's first word: its verdict above its unit, and a fact below twenty zero bits.
 const VERDICT: u32 = 2147483648;
@@ -28,81 +30,103 @@ const FIRST_AGE: u32 = 65536;
 // At most 32 windows.
 const LIST_WORDS: usize = 64;
 
-// A fact's field in a table.
-const ABSENT: u8 = 0;
+// A window of the list: while an age of its unit lies between two ages, both included, its fact is Present if it is open, Absent if it is closed.
+#[derive(Clone, Copy)]
+struct Window {
+    opens: bool,
+    in_years: bool,
+    zero: u32,
+    fact: u32,
+    first: u32,
+    last: u32,
+}
 
-const PRESENT: u8 = 1;
+// The age of a reading in either unit, as the windows take it.
+#[derive(Clone, Copy)]
+struct Ages {
+    days: u32,
+    years: u32,
+}
 
-const UNKNOWN: u8 = 2;
+impl Window {
+    // Of its two words: verdict (1), unit (1), zero (20), fact (10); first and last age (16 each).
+    fn of(words: [u32; 2]) -> Window
+        ensures { Reads words result }
+    {
+        let [lead, ages] = words;
+        Window {
+            opens: lead / VERDICT == 1,
+            in_years: lead / UNIT % 2 == 1,
+            zero: lead / policy_model::FACTS % ABOVE_ZERO,
+            fact: lead % policy_model::FACTS,
+            first: ages / FIRST_AGE,
+            last: ages % FIRST_AGE,
+        }
+    }
+
+    // What it makes its fact.
+    fn verdict(self) -> Presence
+        ensures { presence_of result ≡ verdict self.opens }
+    {
+        if self.opens {
+            Presence::Present
+        } else {
+            Presence::Absent
+        }
+    }
+
+    // Whether it holds the age, taken in its own unit.
+    fn holds(self, age: Ages) -> bool
+        ensures { result ≡ held_by age.days age.years (window_meant self) }
+    {
+        let age = if self.in_years { age.years } else { age.days };
+        self.first <= age && age <= self.last
+    }
+
+    // Whether it makes its fact the value: only while it holds the age.
+    fn says(self, value: Presence, age: Ages) -> bool
+        ensures { result ≡ held_as (presence_number value) age.days age.years (window_meant self) }
+    {
+        self.verdict() == value && self.holds(age)
+    }
+}
 
 // Whether the zero field is 0 and the first age isn't above the last.
-fn is_right(lead: u32, ages: u32) -> bool
-    ensures { result ≡ right_window lead ages }
+fn is_right(words: [u32; 2]) -> bool
+    ensures { result ≡ right_in words }
 {
-    if lead / policy_model::FACTS % ABOVE_ZERO != 0 {
-        return false;
+    let window = Window::of(words);
+    window.zero == 0 && window.first <= window.last
+}
+
+// Whether every window is right.
+fn all_right(windows: &[[u32; 2]]) -> bool
+    ensures { result ≡ all_right windows.now }
+{
+    for words in windows {
+        if !is_right(*words) {
+            return false;
+        }
     }
-    ages / FIRST_AGE <= ages % FIRST_AGE
+    true
 }
 
 // Whether a list is turned back.
-fn is_bad_list(windows: &[u32]) -> bool
-    ensures { result ≡ bad_list windows.now }
+fn is_bad_list(list: &[u32]) -> bool
+    ensures { result ≡ bad_list list.now }
 {
-    if windows.len() > LIST_WORDS {
+    let (windows, odd) = list.as_chunks::<2>();
+    if list.len() > LIST_WORDS || !odd.is_empty() {
         return true;
     }
-    if windows.len() % 2 != 0 {
-        return true;
-    }
-    let mut i = 0;
-    while i < windows.len() {
-        if !is_right(windows[i], windows[i + 1]) {
-            return true;
-        }
-        i += 2;
-    }
-    false
+    !all_right(windows)
 }
 
 // An age as the loops take it. That of a reading after today becomes one above every last age, so it lies in no window.
-fn number(age: Age) -> u32
+fn number(age: Option<u32>) -> u32
     ensures { result ≡ number_of age }
 {
-    match age {
-        Age::Ahead => FIRST_AGE,
-        Age::Reached(number) => number,
-    }
-}
-
-// Whether an age lies between the two ages of a window, both included.
-fn is_in(ages: u32, age: u32) -> bool
-    ensures { result ≡ in_ages ages age }
-{
-    if age < ages / FIRST_AGE {
-        return false;
-    }
-    age <= ages % FIRST_AGE
-}
-
-// Whether a window holds the age, taken in its own unit.
-fn holds(lead: u32, ages: u32, days: u32, years: u32) -> bool
-    ensures { result ≡ held_by days years (window_of lead ages) }
-{
-    if lead / UNIT % 2 == 1 {
-        return is_in(ages, years);
-    }
-    is_in(ages, days)
-}
-
-// Whether a window makes its fact the value: Present if it is open, Absent if it is closed, and only while it holds the age.
-fn says(lead: u32, ages: u32, value: u8, days: u32, years: u32) -> bool
-    ensures { result ≡ held_as value days years (window_of lead ages) }
-{
-    if (lead / VERDICT) as u8 != value {
-        return false;
-    }
-    holds(lead, ages, days, years)
+    age.unwrap_or(FIRST_AGE)
 }
 
 // A byte of a table with a value in one of its four fields: 85 times the value has it in all four. The place is a shift, so nothing branches on it.
@@ -115,100 +139,86 @@ fn with_field(byte: u8, place: u32, value: u8) -> u8
 }
 
 // Sets the field of a fact.
-fn set_field(out: &mut [u8], fact: u32, value: u8)
-    requires { (fact / 4 < length out.old) × (value < 4) }
-    ensures { table_fields out.new ≡ set (table_fields out.old) fact value }
+fn set_field(out: &mut [u8], fact: u32, value: Presence)
+    requires { fact / 4 < length out.old }
+    ensures { table_fields out.new ≡ set (table_fields out.old) fact (presence_number value) }
 {
     let at = (fact / 4) as usize;
-    out[at] = with_field(out[at], fact % 4, value);
+    out[at] = with_field(out[at], fact % 4, value as u8);
 }
 
-// Sets every fact that a list names to one value.
-fn mark(windows: &[u32], value: u8, out: &mut [u8])
-    requires { (table_bytes ≤ length out.old) × (value < 4) }
-    ensures { table_fields out.new ≡ fields_by (marked value (windows_of windows.now)) 0 (table_fields out.old) }
+// Sets every fact that a window names to one value.
+// One loop for this and `decide`, lent its test as a closure, would need that test as a ghost argument too, which is longer than this loop.
+fn mark(windows: &[[u32; 2]], value: Presence, out: &mut [u8])
+    requires { table_bytes ≤ length out.old }
+    ensures { table_fields out.new ≡ fields_by (marked (presence_number value) (map window_in windows.now)) 0 (table_fields out.old) }
 {
-    let mut i = windows.len() / 2;
-    while i > 0 {
-        i -= 1;
-        set_field(out, windows[i * 2] % policy_model::FACTS, value);
+    for i in (0..windows.len()).rev() {
+        set_field(out, Window::of(windows[i]).fact, value);
     }
 }
 
 // Sets every fact of which some window says a value to this value.
-fn decide(windows: &[u32], value: u8, days: u32, years: u32, out: &mut [u8])
-    requires { (table_bytes ≤ length out.old) × (value < 4) }
-    ensures { table_fields out.new ≡ fields_by (set_where (held_as value days years) value (windows_of windows.now)) 0 (table_fields out.old) }
+fn decide(windows: &[[u32; 2]], value: Presence, age: Ages, out: &mut [u8])
+    requires { table_bytes ≤ length out.old }
+    ensures { table_fields out.new ≡ fields_by (set_where (held_as (presence_number value) age.days age.years) (presence_number value) (map window_in windows.now)) 0 (table_fields out.old) }
 {
-    let mut i = windows.len() / 2;
-    while i > 0 {
-        i -= 1;
-        let lead = windows[i * 2];
-        if says(lead, windows[i * 2 + 1], value, days, years) {
-            set_field(out, lead % policy_model::FACTS, value);
+    for i in (0..windows.len()).rev() {
+        let window = Window::of(windows[i]);
+        if window.says(value, age) {
+            set_field(out, window.fact, value);
         }
     }
 }
 
 // Why a call is turned back: for a date, the list or the table.
-fn fault(windows: &[u32], reading: Date, today: Date, facts: &[u8]) -> TableFault
-    ensures { fault_of result ≡ windows_fault windows.now (date_of reading) (date_of today) facts.now }
+fn check(list: &[u32], reading: Date, today: Date, facts: &[u8]) -> Result<(), Refusal>
+    ensures { refused result ≡ windows_fault list.now (date_of reading) (date_of today) facts.now }
 {
-    if calendar::is_bad(reading) {
-        return TableFault::Refused(12);
+    if reading.is_bad() || today.is_bad() {
+        return Err(Refusal::Date);
     }
-    if calendar::is_bad(today) {
-        return TableFault::Refused(12);
+    if is_bad_list(list) || facts.len() != facts::TABLE_BYTES {
+        return Err(Refusal::Windows);
     }
-    if is_bad_list(windows) {
-        return TableFault::Refused(13);
-    }
-    if facts.len() != facts::TABLE_BYTES {
-        return TableFault::Refused(13);
-    }
-    facts::partial_fault(facts)
+    facts::check_table(facts, TableKind::Partial)
 }
 
 // Copies the table, and sets the facts that the list names: to Unknown if either date is. Else all of them are Absent first, then those Present of which an
 // open window holds the age, and last those Absent of which a closed one does, which goes before open ones.
-fn write(windows: &[u32], reading: Date, today: Date, facts: &[u8], out: &mut [u8])
-    requires { (windows_fault windows.now (date_of reading) (date_of today) facts.now ≡ none) × (table_bytes ≤ length out.old) }
-    ensures { Windowed windows.now (date_of reading) (date_of today) facts.now out.old out.new }
+fn write(list: &[u32], reading: Date, today: Date, facts: &[u8], out: &mut [u8])
+    requires { (windows_fault list.now (date_of reading) (date_of today) facts.now ≡ none) × (table_bytes ≤ length out.old) }
+    ensures { Windowed list.now (date_of reading) (date_of today) facts.now out.old out.new }
 {
     out[..facts.len()].copy_from_slice(facts);
-    if calendar::is_unknown(reading) {
-        mark(windows, UNKNOWN, out);
+    let windows = list.as_chunks::<2>().0;
+    if reading.is_unknown() || today.is_unknown() {
+        mark(windows, Presence::Unknown, out);
         return;
     }
-    if calendar::is_unknown(today) {
-        mark(windows, UNKNOWN, out);
-        return;
-    }
-    let days = number(calendar::age_in_days(reading, today));
-    let years = number(calendar::age_in_years(reading, today));
-    mark(windows, ABSENT, out);
-    decide(windows, PRESENT, days, years, out);
-    decide(windows, ABSENT, days, years, out);
+    let age = Ages {
+        days: number(reading.age_in_days(today)),
+        years: number(reading.age_in_years(today)),
+    };
+    mark(windows, Presence::Absent, out);
+    decide(windows, Presence::Present, age, out);
+    decide(windows, Presence::Absent, age, out);
 }
 
 // Everything is judged before a byte changes.
 pub fn apply_windows(
-    windows: &[u32],
+    list: &[u32],
     reading: Date,
     today: Date,
     facts: &[u8],
     out: &mut [u8],
 ) -> Answer
-    ensures { Answered (apply_windows windows.now (date_of reading) (date_of today) facts.now (length out.old)) out.old out.new result }
+    ensures { Answered (apply_windows list.now (date_of reading) (date_of today) facts.now (length out.old)) out.old out.new result }
 {
-    match fault(windows, reading, today, facts) {
-        TableFault::Refused(number) => Answer::Refused(number),
-        TableFault::Faultless => {
-            if out.len() < facts::TABLE_BYTES {
-                return Answer::Refused(11);
-            }
-            write(windows, reading, today, facts, out);
-            Answer::Written(facts::TABLE_BYTES)
-        }
+    check(list, reading, today, facts)?;
+    if out.len() < facts::TABLE_BYTES {
+        return Err(Refusal::Room);
     }
+    write(list, reading, today, facts, out);
+    Ok(facts::TABLE_BYTES)
 }

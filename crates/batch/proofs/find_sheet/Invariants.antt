@@ -2,14 +2,13 @@
 use mathlib.Core.Path.{◌≡◌}
 use mathlib.Core.Option.{some}
 use mathlib.Core.List.{List}
-use Prim.Native.Nat.{◌-◌, ◌≤◌}
-use lib.ListN.{length, drop}
+use lib.ListN.{length}
 use Rattle.model.specs.Batch.{Handed, handed_over, sheet_of}
 use Rattle.batch.proofs.Handed.{sought}
 use Rattle.batch.proofs.find_sheet.Given as goal
 
-abbrev pub invariant-loop-at : goal.invariant-loop-at
-invariant-loop-at l = (l.at ≤ length l.sheets) × ((hs : List Handed) → handed_over l.sheets ≡ some hs → sought l.number (handed_over (drop l.at l.sheets)) ≡ some (sheet_of l.number hs))
+abbrev pub invariant-loop-lead : goal.invariant-loop-lead
+invariant-loop-lead l = (hs : List Handed) → handed_over l.sheets ≡ some hs → sought l.number (handed_over l.rest) ≡ some (sheet_of l.number hs)
 
-abbrev pub decreases-loop-at : goal.decreases-loop-at
-decreases-loop-at l = length l.sheets - l.at
+abbrev pub decreases-loop-lead : goal.decreases-loop-lead
+decreases-loop-lead l = length l.rest

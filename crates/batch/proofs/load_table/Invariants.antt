@@ -1,12 +1,9 @@
 -- `batch::load_table` meets its contract. The loop's invariant: the bytes of the words so far stand at the start. Assumes nothing.
 use mathlib.Core.Path.{◌≡◌}
-use Prim.Native.Nat.{◌-◌, ◌*◌, ◌+◌, ◌≤◌}
-use lib.ListN.{take, drop, length as list_length}
+use Prim.Native.Nat.{◌*◌}
+use lib.ListN.{take, length as list_length}
 use Rattle.model.specs.Batch.{bytes_of, table_words}
 use Rattle.batch.proofs.load_table.Given as goal
 
 abbrev pub invariant-loop-i : goal.invariant-loop-i
-invariant-loop-i l = (4 * l.i ≤ l.length + 3) × ((list_length l.bytes ≡ 256) × (take (4 * l.i) l.bytes ≡ bytes_of (take l.i (take table_words (drop l.at l.requests)))))
-
-abbrev pub decreases-loop-i : goal.decreases-loop-i
-decreases-loop-i l = l.length - 4 * l.i
+invariant-loop-i l = (list_length l.bytes ≡ 256) × (take (4 * l.i) l.bytes ≡ bytes_of (take l.i (take table_words l.words)))

@@ -29,4 +29,4 @@ unfolding plain_width
 returns-in-10 c = record { is = plain_by _ 10 c.in-10.is; few = omega arith }
 
 pub returns-in_default : goal.returns-in_default
-returns-in_default c = record { is = plain_none _ c.in_default.in_default-own.rest.0.0.0.0.0.1 c.in_default.in_default-own.rest.0.0.0.0.1 c.in_default.in_default-own.rest.0.0.0.1 c.in_default.in_default-own.rest.0.0.1 c.in_default.in_default-own.rest.0.1 c.in_default.in_default-own.rest.1; few = omega arith }
+returns-in_default c = record { is = plain_none _ (λ e. omega arith) (λ e. omega arith) (λ e. omega arith) (λ e. omega arith) (λ e. omega arith) (λ e. omega arith); few = omega arith }

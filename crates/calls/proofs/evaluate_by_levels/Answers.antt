@@ -1,22 +1,17 @@
 -- `calls::evaluate_by_levels` meets its contract, by whether the table is accepted. Assumes nothing.
-use mathlib.Core.Path.{sym, ◌∙◌}
-use native.Mathlib.Omega.{arith}
 use lib.ListN.{length}
 use Rattle.model.specs.Calls as model
-use Rattle.calls.proofs.Levels.{with_table, table_refused, few_levels}
+use Rattle.outcome.specs.Carried.{table}
+use Rattle.calls.proofs.Judging.{passed_on}
+use Rattle.calls.proofs.Levels.{with_table, table_refused}
 use Rattle.calls.proofs.evaluate_by_levels.Goals as goal
 
-pub overflow_cast-levels : goal.overflow_cast-levels
-overflow_cast-levels c =
+pub returns-in_err-table : goal.returns-in_err-table
+returns-in_err-table c =
     let args = c.args in
-    omega (arith, few_levels args.levels args.outcomes.now (sym c.accepts.ensures ∙ c.if-accepts.true))
-
-pub returns-then-accepts : goal.returns-then-accepts
-returns-then-accepts c =
-    let args = c.args in
-    with_table (λ L. model.evaluate L args.number args.sheet.now args.facts.now (length args.out.now)) args.levels args.outcomes.now (sym c.accepts.ensures ∙ c.if-accepts.true) c.evaluate_by.ensures
+    passed_on _ _ c.from_residual.ensures.1 (table_refused (λ L. model.evaluate L args.number args.sheet.now args.facts.now (length args.out.now)) (table args.levels args.outcomes.now) c.in_err-table.ensures)
 
 pub returns : goal.returns
 returns c =
     let args = c.args in
-    table_refused (λ L. model.evaluate L args.number args.sheet.now args.facts.now (length args.out.now)) args.levels args.outcomes.now args.out.now (sym c.accepts.ensures ∙ c.if-accepts.false)
+    with_table (λ L. model.evaluate L args.number args.sheet.now args.facts.now (length args.out.now)) (table args.levels args.outcomes.now) c.in_ok-table.ensures c.evaluate_by.ensures

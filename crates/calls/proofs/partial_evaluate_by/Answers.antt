@@ -1,41 +1,20 @@
 -- `calls::partial_evaluate_by` meets its contract. Assumes nothing.
-use mathlib.Core.Path.{sym, ap, ◌∙◌}
-use mathlib.Core.Bool.{false}
-use native.Mathlib.Omega.{arith}
-use Rattle.model.specs.Facts.{table_of}
+use Rattle.model.specs.Facts.{table_of, partial_facts}
 use Rattle.outcome.specs.Carried.{carried}
-use Rattle.outcome.specs.CarriedLaws.{few_carried}
-use Rattle.policy_model.specs.Answers.{sheet_refusal}
 use Rattle.partial_policy.specs.Reducing.{order_of}
 use Rattle.partial.specs.Answers.{reduced_after}
-use Rattle.calls.proofs.Sheets.{sheet_few, sheet_number_lem, sheet_refused, sheet_made}
+use Rattle.calls.proofs.Judging.{passed_on}
+use Rattle.calls.proofs.Sheets.{sheet_refused, sheet_made}
 use Rattle.calls.proofs.partial_evaluate_by.Goals as goal
-use Rattle.calls.proofs.partial_evaluate_by.Goals.{Start}
 
-pub reduce-requires : goal.reduce-requires
-reduce-requires c =
+pub returns-in_err-judge_sheet : goal.returns-in_err-judge_sheet
+returns-in_err-judge_sheet c =
     let args = c.args in
-    let g = (carried args.outcome_levels args.outcomes.now) in
-    let few = few_carried args.outcome_levels args.outcomes.now (omega (arith, (goal.at.reduce-requires c).Start)) in
-    sheet_few g few false args.number args.sheet.now args.facts.now (ap sheet_refusal (sym c.in-Accepted.is) ∙ c.judge_sheet.ensures args.outcomes.now)
+    let g = carried args.outcomes in
+    passed_on _ _ c.from_residual.ensures.1 (sheet_refused g partial_facts args.number args.sheet.now args.facts.now (reduced_after g (order_of args.in_order) (table_of args.facts.now)) args.out.now _ c.in_err-judge_sheet.ensures.judged)
 
-pub under_number-requires : goal.under_number-requires
-under_number-requires c =
+pub returns : goal.returns
+returns c =
     let args = c.args in
-    let g = (carried args.outcome_levels args.outcomes.now) in
-    let few = few_carried args.outcome_levels args.outcomes.now (omega (arith, (goal.at.under_number-requires c).Start)) in
-    sheet_number_lem g few false args.number args.sheet.now args.facts.now (ap sheet_refusal (sym c.in-Accepted.is) ∙ c.judge_sheet.ensures args.outcomes.now)
-
-pub returns-in-Refused : goal.returns-in-Refused
-returns-in-Refused c =
-    let args = c.args in
-    let g = (carried args.outcome_levels args.outcomes.now) in
-    let few = few_carried args.outcome_levels args.outcomes.now (omega (arith, (goal.at.returns-in-Refused c).Start)) in
-    sheet_refused g few false args.number args.sheet.now args.facts.now (reduced_after g (order_of args.in_order) (table_of args.facts.now)) args.out.now _ (ap sheet_refusal (sym c.in-Refused.is) ∙ c.judge_sheet.ensures args.outcomes.now)
-
-pub returns-in-Accepted : goal.returns-in-Accepted
-returns-in-Accepted c =
-    let args = c.args in
-    let g = (carried args.outcome_levels args.outcomes.now) in
-    let few = few_carried args.outcome_levels args.outcomes.now (omega (arith, (goal.at.returns-in-Accepted c).Start)) in
-    sheet_made g few false args.number args.sheet.now args.facts.now (reduced_after g (order_of args.in_order) (table_of args.facts.now)) args.out.now (ap sheet_refusal (sym c.in-Accepted.is) ∙ c.judge_sheet.ensures args.outcomes.now) c.reduce.ensures c.under_number.ensures
+    let g = carried args.outcomes in
+    sheet_made g partial_facts args.number args.sheet.now args.facts.now (reduced_after g (order_of args.in_order) (table_of args.facts.now)) args.out.now c.in_ok-judge_sheet.ensures.few c.in_ok-judge_sheet.ensures.judged c.reduce-reduced.ensures c.under_number.ensures

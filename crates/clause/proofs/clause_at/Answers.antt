@@ -17,7 +17,7 @@ returns-in-PermitWithTrace c =
 
 pub returns-in-DenyWithTrace : goal.returns-in-DenyWithTrace
 returns-in-DenyWithTrace c =
-    clause_deny _ _ _ c.if-words-at.false _ _ _ _ (sym c.in-DenyWithTrace.is ∙ c.policy_head.ensures) c.word_at-marks.ensures c.clause_of-in-DenyWithTrace.ensures
+    clause_deny _ _ _ c.if-words-at.false _ _ _ _ _ (sym c.in-DenyWithTrace.is ∙ c.policy_head.ensures) c.word_at-marks.ensures c.then_some.ensures c.clause_of-in-DenyWithTrace.ensures
 
 pub returns-in_default : goal.returns-in_default
 returns-in_default c =

@@ -3,7 +3,7 @@ use Rattle.condition.proofs.Evaluating.{eval_end, eval_has_word}
 use Rattle.condition.proofs.eval_arm.Goals as goal
 
 pub returns-then-words-at : goal.returns-then-words-at
-returns-then-words-at c = rw c.answer.ensures (eval_end _ _ _ _ _ _ c.if-words-at.true)
+returns-then-words-at c = eval_end _ _ _ _ _ _ c.if-words-at.true
 
 pub returns-then-word-eq-HAS : goal.returns-then-word-eq-HAS
 returns-then-word-eq-HAS c =

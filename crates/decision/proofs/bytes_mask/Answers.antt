@@ -1,13 +1,14 @@
--- `decision::bytes_mask` meets its contract. The loop's invariant: the mask has the first i bytes. Assumes nothing.
+-- `decision::bytes_mask` meets its contract: one byte more in each turn. Assumes nothing.
+use mathlib.Core.Path.{ap, ◌∙◌}
+use native.Mathlib.Numerals.{add-one}
 use native.Mathlib.Omega.{arith}
-use Rattle.decision.proofs.Masks.{bytes_none, bytes_more, bytes_all}
+use lib.ListN.{take}
+use lib.Seq.{take-suc}
+use Rattle.decision.proofs.Masks.{masked_more}
 use Rattle.decision.proofs.bytes_mask.Goals as goal
 
-pub loop-i-init : goal.loop-i-init
-loop-i-init c = bytes_none _ _ _
-
-pub loop-i-preserved : goal.loop-i-preserved
-loop-i-preserved c = bytes_more _ _ _ _ _ _ c.loop-i-test.true (omega arith) c.loop-i.invariant c.with_bit-all.ensures
-
-pub returns : goal.returns
-returns c = bytes_all _ _ _ _ _ c.loop-i-test.false c.loop-i.invariant
+pub loop-obligation-preserved : goal.loop-obligation-preserved
+loop-obligation-preserved c =
+    let bytes = c.args.bytes.now in
+    let i = c.loop-obligation.obligation-index in
+    masked_more _ _ _ _ _ _ (ap (λ n. take n bytes) (add-one i) ∙ take-suc bytes i 0 (omega arith)) c.loop-obligation.invariant c.with_bit-all.ensures

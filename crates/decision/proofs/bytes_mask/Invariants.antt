@@ -1,10 +1,7 @@
--- `decision::bytes_mask` meets its contract. The loop's invariant: the mask has the first i bytes. Assumes nothing.
-use Prim.Native.Nat.{◌-◌}
-use Rattle.decision.proofs.Masks.{MaskingBytes}
+-- `decision::bytes_mask` meets its contract: one byte more in each turn. Assumes nothing.
+use lib.ListN.{take}
+use Rattle.decision.specs.Answers.{Masked}
 use Rattle.decision.proofs.bytes_mask.Given as goal
 
-abbrev pub invariant-loop-i : goal.invariant-loop-i
-invariant-loop-i l = MaskingBytes l.mask l.buf l.count l.all l.i
-
-abbrev pub decreases-loop-i : goal.decreases-loop-i
-decreases-loop-i l = l.count - l.i
+abbrev pub invariant-loop-obligation : goal.invariant-loop-obligation
+invariant-loop-obligation l = Masked l.mask (take l.obligation-index l.bytes) l.all

@@ -1,10 +1,8 @@
--- `decision::list_mask` meets its contract. The loop's invariant: the mask is that of the first i fields. Assumes nothing.
-use Prim.Native.Nat.{◌-◌}
-use Rattle.decision.proofs.Masks.{MaskingFields}
+-- `decision::list_mask` meets its contract: one field more in each turn. Assumes nothing.
+use lib.ListN.{drop}
+use Rattle.decision.specs.Nodes.{obligation_fields}
+use Rattle.decision.specs.Answers.{Masked}
 use Rattle.decision.proofs.list_mask.Given as goal
 
 abbrev pub invariant-loop-i : goal.invariant-loop-i
-invariant-loop-i l = MaskingFields l.node l.count l.mask l.i
-
-abbrev pub decreases-loop-i : goal.decreases-loop-i
-decreases-loop-i l = l.count - l.i
+invariant-loop-i l = Masked 0 (obligation_fields l.i (drop 2 l.node)) l.mask

@@ -1,5 +1,6 @@
 -- `decision::obligation_count` meets its contract. Assumes nothing.
 use mathlib.Core.Bool.{true}
+use mathlib.Core.Logic.{inl, inr}
 use mathlib.Core.List.{[], ◌∷◌}
 use mathlib.Core.Path.{◌≡◌, refl, sym, ◌∙◌, ap}
 use native.Mathlib.Omega.{arith}
@@ -28,10 +29,11 @@ none_counted BadKind k = refl
 none_counted BadField k = refl
 
 pub returns-in-Grant : goal.returns-in-Grant
-returns-in-Grant c = counted_as _ _ (sym c.in-Grant.is ∙ c.policy_head.ensures)
-
-pub returns-in-PermitWithTrace : goal.returns-in-PermitWithTrace
-returns-in-PermitWithTrace c = counted_as _ _ (sym c.in-PermitWithTrace.is ∙ c.policy_head.ensures)
+returns-in-Grant c =
+    elim c.in-Grant.is [
+      | inl h ↦ counted_as _ _ (sym h.2 ∙ c.policy_head.ensures)
+      | inr h ↦ counted_as _ _ (sym h.1 ∙ c.policy_head.ensures)
+    ]
 
 pub returns-in_default : goal.returns-in_default
 unfolding obligation_count_of

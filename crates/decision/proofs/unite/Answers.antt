@@ -1,4 +1,4 @@
--- `decision::unite` meets its contract. Assumes nothing.
+-- `decision::unite` meets its contract: those of the permit so far are in the mask, and the incoming ones are appended. Assumes nothing.
 use Rattle.decision.proofs.Unions.{both_are}
 use Rattle.decision.proofs.unite.Goals as goal
 

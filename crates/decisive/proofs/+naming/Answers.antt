@@ -7,7 +7,7 @@ use Rattle.policy_model.specs.declared.ConditionHead.{ConditionHead}
 use Rattle.policy_model.specs.Heads.{condition_head}
 use Rattle.decisive.proofs.Positions.{fact_below}
 use Rattle.decisive.proofs.Nodes.{decides_end, decides_limit, decides_bad_kind, decides_bad_field, decides_always, decides_never, decides_none, decides_has, decides_not, decides_any, decides_all, decides_arm}
-use Rattle.decisive.proofs.Arms.{passing_none, passing_more, passing_stop, passing_end}
+use Rattle.decisive.proofs.Arms.{passing_more, passing_stop, passing_end}
 use Prim.Native.Nat.{ℕ}
 use Rattle.decisive.proofs.+naming.Goals as goal
 use Rattle.decisive.proofs.+naming.Goals.{decisive_facts-After-condition_head}
@@ -22,26 +22,17 @@ decisive_arm-returns-then-word-eq-HAS t c =
     let a = c.args in
     decides_arm _ a.words.now a.at a.depth a.out.now _ _ c.if-words-at.false c.if-word-eq-HAS.true (omega arith) c.name_fact.ensures
 
-pub decisive_arm-returns : goal.decisive_arm-returns
-decisive_arm-returns t c = c.decisive_facts.ensures
-
-pub decisive_arms-loop-left-init : goal.decisive_arms-loop-left-init
-decisive_arms-loop-left-init t c = passing_none _ _ _ _ _ _ _
-
 pub decisive_arms-returns-then-arm-stop : goal.decisive_arms-returns-then-arm-stop
 decisive_arms-returns-then-arm-stop t c =
-    passing_stop _ _ _ _ _ _ _ _ _ _ _ _ _ c.decisive_arm-arm.result c.loop-left-test.true c.loop-left.invariant c.decisive_arm-arm.ensures c.out-1.given.1
+    passing_stop _ _ _ _ _ _ _ _ _ _ _ c.loop-left.left _ c.decisive_arm-arm.result (λ z. omega arith) c.loop-left.invariant c.decisive_arm-arm.ensures c.out-1.given.1
     _ _ _ c.skip_conditions.ensures (record { satisfied_is = refl; next_is = refl; count_is = refl }) c.slide.ensures c.if-arm-stop.true (omega (arith, c.out-then-arm-stop-1.given, c.out-1.given.1))
-
-pub decisive_arms-loop-left-smaller : goal.decisive_arms-loop-left-smaller
-decisive_arms-loop-left-smaller t c = omega arith
 
 pub decisive_arms-loop-left-preserved : goal.decisive_arms-loop-left-preserved
 decisive_arms-loop-left-preserved t c =
-    passing_more _ _ _ _ _ _ _ _ _ _ _ _ _ c.decisive_arm-arm.result c.loop-left-test.true c.loop-left.invariant c.decisive_arm-arm.ensures c.out-1.given.1 c.if-arm-stop.false
+    passing_more _ _ _ _ _ _ _ _ _ _ _ c.loop-left.left _ c.decisive_arm-arm.result (λ z. omega arith) c.loop-left.invariant c.decisive_arm-arm.ensures c.out-1.given.1 c.if-arm-stop.false
 
 pub decisive_arms-returns : goal.decisive_arms-returns
-decisive_arms-returns t c = passing_end _ _ _ _ _ _ _ _ _ _ _ _ c.loop-left-test.false c.loop-left.invariant (record { satisfied_is = refl; next_is = refl; count_is = refl })
+decisive_arms-returns t c = passing_end _ _ _ _ _ _ _ _ _ c.loop-left.left _ _ (omega arith) c.loop-left.invariant (record { satisfied_is = refl; next_is = refl; count_is = refl })
 
 pub decisive_facts-returns-then-words-at : goal.decisive_facts-returns-then-words-at
 decisive_facts-returns-then-words-at t c =

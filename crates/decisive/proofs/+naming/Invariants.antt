@@ -16,6 +16,3 @@ decreases-decisive_facts l = l.depth * 3
 -- what answers for the arms that are left answers for them all
 abbrev pub invariant-decisive_arms-loop-left : goal.invariant-decisive_arms-loop-left
 invariant-decisive_arms-loop-left l = Passing (table_of l.facts) l.stop l.words l.depth l.at l.arms l.initial.out l.out l.next l.left l.count
-
-abbrev pub decreases-decisive_arms-loop-left : goal.decreases-decisive_arms-loop-left
-decreases-decisive_arms-loop-left l = l.left

@@ -4,8 +4,5 @@ use Rattle.model.specs.Facts.{known_facts}
 use Rattle.facts.proofs.Faults.{marks_say}
 use Rattle.facts.proofs.marks.Goals as goal
 
-pub returns-in-Partial : goal.returns-in-Partial
-returns-in-Partial c = rw c.in-Partial.is c.marks_of_three.ensures
-
 pub returns-in-Known : goal.returns-in-Known
 returns-in-Known c = rw c.in-Known.is (marks_say known_facts c.args.byte (omega arith))

@@ -1,18 +1,10 @@
 -- `join::agree_after` meets its contract. The loop's invariant: the table agrees exactly where there is no mark so far and what is left agrees.
--- The measure is how many bytes are left. Assumes nothing.
-use mathlib.Core.Path.{◌≡◌}
-use mathlib.Core.Bool.{◌&&◌}
-use mathlib.Core.List.{[]}
-use Prim.Native.Nat.{◌-◌, ◌≤◌}
-use lib.Dec.{eqb}
-use lib.ListN.{length, drop}
+-- Assumes nothing.
+use Rattle.std.proofs.Common.{◌≡◌, ◌&&◌, ◌+◌, [], eqb, drop}
 use Rattle.model.specs.Facts.{table_fields}
 use Rattle.join.specs.Joining.{agree}
 use Rattle.join.proofs.agree_after.Given as goal
 
-abbrev pub invariant-loop-i : goal.invariant-loop-i
-invariant-loop-i l =
-    (l.i ≤ length l.longer) × (agree (table_fields (drop l.from l.longer)) [] ≡ (eqb l.marked 0 && agree (table_fields (drop l.i l.longer)) []))
-
-abbrev pub decreases-loop-i : goal.decreases-loop-i
-decreases-loop-i l = length l.longer - l.i
+abbrev pub invariant-loop-byte : goal.invariant-loop-byte
+invariant-loop-byte l =
+    agree (table_fields (drop l.from l.longer)) [] ≡ (eqb l.marked 0 && agree (table_fields (drop (l.from + l.byte-index) l.longer)) [])

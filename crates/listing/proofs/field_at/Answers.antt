@@ -1,5 +1,6 @@
 -- `listing::field_at` meets its contract: by the kind of the list, a shift leaves the field lowest. Assumes nothing.
-use mathlib.Core.Path.{refl, sym, ap, ◌∙◌}
+use mathlib.Core.Logic.{inl, inr}
+use mathlib.Core.Path.{◌≡◌, refl, sym, ap, ◌∙◌}
 use Prim.Native.Nat.{◌-◌, ◌*◌, ◌/◌, ◌%◌, ◌^◌}
 use native.Mathlib.Omega.{arith}
 use lib.ListN.{drop}
@@ -19,13 +20,8 @@ returns-in-Obligations c =
 pub returns-in-Facts : goal.returns-in-Facts
 returns-in-Facts c =
     let args = c.args in
-    ap (λ w. w / 2 ^ (16 - args.place % 2 * 16) % 65536) c.word_at-in-Facts.ensures
-    ∙ field_by_shift entry_bits 1 refl args.words.now args.at args.place (omega (arith, c.word_at-in-Facts.ensures))
-    ∙ ap (λ k. field_at (width_of k) (drop args.at args.words.now) args.place) (sym c.in-Facts.is)
-
-pub returns-in-Consulted : goal.returns-in-Consulted
-returns-in-Consulted c =
-    let args = c.args in
-    ap (λ w. w / 2 ^ (16 - args.place % 2 * 16) % 65536) c.word_at-in-Consulted.ensures
-    ∙ field_by_shift entry_bits 1 refl args.words.now args.at args.place (omega (arith, c.word_at-in-Consulted.ensures))
-    ∙ ap (λ k. field_at (width_of k) (drop args.at args.words.now) args.place) (sym c.in-Consulted.is)
+    let w = c.word_at-in-Facts.ensures in
+    let width : width_of c.args.kind ≡ entry_bits = elim c.in-Facts.is [ inl e ↦ ap width_of e | inr e ↦ ap width_of e ] in
+    ap (λ w. w / 2 ^ (16 - args.place % 2 * 16) % 65536) w
+    ∙ field_by_shift entry_bits 1 refl args.words.now args.at args.place (omega (arith, w))
+    ∙ ap (λ k. field_at k (drop args.at args.words.now) args.place) (sym width)

@@ -7,25 +7,10 @@ use Rattle.listing.specs.Writers.{copied_whole, wrote_then}
 use Rattle.listing.specs.ListTexts.{length_named}
 use Rattle.listing.proofs.put_consulted.Goals as goal
 
-pub slice_bounds-copy-count : goal.slice_bounds-copy-count
-slice_bounds-copy-count c =
-    let args = c.args in
-    omega (arith, length_named (text "\nconsulted ") Consulted args.words.now 1 args.count)
-
-pub slice_bounds-copy-start : goal.slice_bounds-copy-start
-slice_bounds-copy-start c =
-    let args = c.args in
-    omega (arith, length_named (text "\nconsulted ") Consulted args.words.now 1 args.count)
-
 pub copy-requires : goal.copy-requires
 copy-requires c =
     let args = c.args in
     simp (length-take, length-drop) (omega (arith, length_named (text "\nconsulted ") Consulted args.words.now 1 args.count))
-
-pub overflow_add-result : goal.overflow_add-result
-overflow_add-result c =
-    let args = c.args in
-    omega (arith, length_named (text "\nconsulted ") Consulted args.words.now 1 args.count)
 
 pub returns : goal.returns
 returns c =

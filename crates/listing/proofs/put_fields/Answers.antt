@@ -1,6 +1,6 @@
 -- `listing::put_fields` meets its contract. The loop's invariant: the output holds the text of the fields passed, where it began with the
--- first one's. The measure is how many are left. Assumes nothing.
-use mathlib.Core.Path.{◌≡◌, refl, sym, ap, ◌∙◌}
+-- first one's. Assumes nothing.
+use mathlib.Core.Path.{◌≡◌, sym, ap, ◌∙◌}
 use mathlib.Core.List.{◌∷◌, ◌++◌}
 use Prim.Native.Nat.{◌+◌}
 use native.Mathlib.Numerals.{add-one}
@@ -9,7 +9,7 @@ use lib.ListN.{length, length-append, length-take, length-drop}
 use Rattle.model.specs.Listing.{text}
 use Rattle.listing.specs.Texts.{most_of, field_text, fields_text}
 use Rattle.listing.specs.Writers.{copied_whole, wrote_as, wrote_then}
-use Rattle.listing.specs.ListTexts.{fields_none, fields_one, fields_more, length_field, length_fields}
+use Rattle.listing.specs.ListTexts.{fields_none, fields_one, fields_more, length_fields}
 use Rattle.listing.proofs.Lists.{room_left}
 use Rattle.listing.proofs.put_fields.Goals as goal
 
@@ -18,36 +18,14 @@ returns-then-count-eq0 c =
     let args = c.args in
     wrote_as (sym (fields_none args.kind args.words.now args.at) ∙ ap (fields_text args.kind args.words.now args.at) (sym c.if-count-eq0.true)) (copied_whole (text "-") c.copy.ensures.count c.copy.ensures.copied)
 
-pub put_field-n-requires : goal.put_field-n-requires
-put_field-n-requires c =
-    let args = c.args in
-    omega (arith, room_left (most_of args.kind) 0 args.count 0 (length args.out.now) (omega arith) (omega arith) (omega arith))
-
 pub loop-i-init : goal.loop-i-init
 loop-i-init c =
     let args = c.args in
     let one = fields_one args.kind args.words.now args.at in
     let first = c.put_field-n.ensures in (
-      omega arith,
-      omega arith,
-      refl,
       first.count ∙ ap (λ b. length (field_text args.kind b)) c.field_at.ensures ∙ ap length (sym one),
       λ before w. wrote_as (sym one) w,
     )
-
-pub slice_bounds-put_next-count : goal.slice_bounds-put_next-count
-slice_bounds-put_next-count c =
-    let args = c.args in
-    let at = c.loop-i in
-    let left = room_left (most_of args.kind) at.i args.count at.n (length args.out.now) c.loop-i-test.true (omega (arith, length_fields args.kind args.words.now args.at at.i)) (omega arith) in
-    omega arith
-
-pub slice_bounds-put_next-start : goal.slice_bounds-put_next-start
-slice_bounds-put_next-start c =
-    let args = c.args in
-    let at = c.loop-i in
-    let left = room_left (most_of args.kind) at.i args.count at.n (length args.out.now) c.loop-i-test.true (omega (arith, length_fields args.kind args.words.now args.at at.i)) (omega arith) in
-    omega arith
 
 pub put_next-n-requires : goal.put_next-n-requires
 put_next-n-requires c =
@@ -55,16 +33,6 @@ put_next-n-requires c =
     let at = c.loop-i in
     let left = room_left (most_of args.kind) at.i args.count at.n (length args.out.now) c.loop-i-test.true (omega (arith, length_fields args.kind args.words.now args.at at.i)) (omega arith) in
     simp (length-take, length-drop) (omega arith)
-
-pub overflow_add-n : goal.overflow_add-n
-overflow_add-n c =
-    let args = c.args in
-    let at = c.loop-i in
-    let left = room_left (most_of args.kind) at.i args.count at.n (length args.out.now) c.loop-i-test.true (omega (arith, length_fields args.kind args.words.now args.at at.i)) (omega arith) in
-    omega (arith, length_field args.kind c.field_at-in-loop-i.result)
-
-pub loop-i-smaller : goal.loop-i-smaller
-loop-i-smaller c = omega arith
 
 pub loop-i-preserved : goal.loop-i-preserved
 loop-i-preserved c =
@@ -74,20 +42,8 @@ loop-i-preserved c =
     let next = c.put_next-n.ensures in
     let more : fields_text args.kind args.words.now args.at at.i ++ 44 ∷ field_text args.kind field.result ≡ fields_text args.kind args.words.now args.at (at.i + 1) =
     ap (λ b. fields_text args.kind args.words.now args.at at.i ++ 44 ∷ field_text args.kind b) field.ensures
-    ∙ sym (fields_more args.kind args.words.now args.at at.i at.invariant.0)
+    ∙ sym (fields_more args.kind args.words.now args.at at.i (omega arith))
     ∙ ap (fields_text args.kind args.words.now args.at) (sym (add-one at.i)) in (
-      omega arith,
-      omega arith,
-      omega arith,
       omega (arith, ap length more, length-append (fields_text args.kind args.words.now args.at at.i) (44 ∷ field_text args.kind field.result)),
-      λ before w. wrote_as more (wrote_then (at.invariant.4 before w) next),
+      λ before w. wrote_as more (wrote_then (at.invariant.1 before w) next),
     )
-
-pub returns : goal.returns
-returns c =
-    let args = c.args in
-    let at = c.loop-i in
-    let first = c.put_field-n.ensures in
-    let end : at.i ≡ args.count = omega arith in
-    wrote_as (ap (fields_text args.kind args.words.now args.at) end)
-    (at.invariant.4 args.out.now (wrote_as (ap (field_text args.kind) c.field_at.ensures) first))

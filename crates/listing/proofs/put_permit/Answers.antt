@@ -2,17 +2,10 @@
 use mathlib.Core.Path.{ap}
 use mathlib.Core.List.{◌++◌}
 use Prim.Native.Nat.{◌%◌}
-use native.Mathlib.Omega.{arith}
 use Rattle.model.specs.Listing.{text, digits}
 use Rattle.listing.specs.Texts.{permit_lists, permit_text}
 use Rattle.listing.specs.Writers.{wrote_as, wrote_then}
-use Rattle.listing.specs.RecordTexts.{length_permit_lists}
 use Rattle.listing.proofs.put_permit.Goals as goal
-
-pub overflow_add-result : goal.overflow_add-result
-overflow_add-result c =
-    let args = c.args in
-    omega (arith, length_permit_lists args.words.now args.at)
 
 pub returns : goal.returns
 unfolding permit_text

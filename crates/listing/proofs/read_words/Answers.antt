@@ -1,10 +1,10 @@
--- `listing::read_words` meets its contract. The loop's invariant: the words passed stand in the output, before what stood there.
--- The measure is how many are left. Assumes nothing.
+-- `listing::read_words` meets its contract. The loop's invariant: the words passed stand in the output, before what stood there. Assumes nothing.
 use mathlib.Core.Path.{◌≡◌, refl, sym, ap, ◌∙◌}
-use mathlib.Core.List.{◌++◌}
+use mathlib.Core.List.{[], ◌++◌}
+use Rattle.std.proofs.Common.{append-nil, drop_of_length-le}
 use Prim.Native.Nat.{◌+◌, ◌*◌}
 use native.Mathlib.Omega.{arith}
-use lib.ListN.{length, take, drop, set, length-drop, length-set}
+use lib.ListN.{length, take, drop, set, length-drop, length-take}
 use lib.Seq.{take_at, drop_at}
 use Rattle.model.specs.Reading.{got}
 use Rattle.laws.specs.FieldAt.{firsts}
@@ -21,31 +21,29 @@ returns-then-input-at c =
 
 pub loop-i-init : goal.loop-i-init
 unfolding firsts
-loop-i-init c = (omega arith, omega arith, refl, refl)
-
-pub loop-i-smaller : goal.loop-i-smaller
-loop-i-smaller c = omega arith
+loop-i-init c = refl
 
 pub loop-i-preserved : goal.loop-i-preserved
 loop-i-preserved c =
     let args = c.args in
-    let at = c.loop-i in (
-      omega arith,
-      omega arith,
-      length-set at.out at.i c.long_at.result ∙ at.invariant.2,
-      ap (set at.out at.i) c.long_at.ensures
-          ∙ store_next (λ k. word_in args.input.now (args.at + 4 * k)) at.i at.out args.out.now (omega arith) at.invariant.3,
-    )
+    let at = c.loop-i in
+    ap (set at.word-items at.i) c.long_at.ensures
+    ∙ store_next (λ k. word_in args.input.now (args.at + 4 * k)) at.i at.word-items (take args.count args.out.now) c.loop-i-test.true at.invariant
 
 pub returns : goal.returns
 returns c =
     let args = c.args in
     let at = c.loop-i in
-    let end : at.i ≡ args.count = omega arith in
-    let ws = words_in args.input.now args.at args.count in
-    let long : length ws ≡ args.count = length_firsts (λ k. word_in args.input.now (args.at + 4 * k)) args.count in
-    let out : at.out ≡ ws ++ drop args.count args.out.now = at.invariant.3 ∙ ap (λ n. words_in args.input.now args.at n ++ drop n args.out.now) end in (
-      words_there args.count args.at args.input.now at.invariant.1
-          ∙ ap (λ l. got l (drop (args.at + 4 * args.count) args.input.now)) (sym (ap (take args.count) out ∙ take_at ws (drop args.count args.out.now) args.count long)),
-      ap (drop args.count) out ∙ drop_at ws (drop args.count args.out.now) args.count long,
+    let n = args.count in
+    let rest = drop n args.out.now in
+    let end : at.i ≡ n = omega (arith, length-take n args.out.now) in
+    let ws = words_in args.input.now args.at n in
+    let long : length ws ≡ n = length_firsts (λ k. word_in args.input.now (args.at + 4 * k)) n in
+    let none : drop at.i (take n args.out.now) ≡ [] = drop_of_length-le (take n args.out.now) {i = at.i} (omega arith) in
+    let words : at.word-items ≡ ws =
+    at.invariant ∙ ap (λ l. words_in args.input.now args.at at.i ++ l) none ∙ append-nil (words_in args.input.now args.at at.i) ∙ ap (words_in args.input.now args.at) end in
+    let out : at.word-items ++ rest ≡ ws ++ rest = ap (λ l. l ++ rest) words in (
+      words_there n args.at args.input.now (omega arith)
+          ∙ ap (λ l. got l (drop (args.at + 4 * n) args.input.now)) (sym (ap (take n) out ∙ take_at ws rest n long)),
+      ap (drop n) out ∙ drop_at ws rest n long,
     )

@@ -1,12 +1,12 @@
 -- `outcome::most` meets its contract. Assumes nothing.
+use Rattle.std.proofs.Common.{rules}
 use Rattle.model.specs.Levels.{outcome_count}
-use Rattle.outcome.specs.CarriedLaws.{carried_none, carried_some}
 use Rattle.outcome.proofs.most.Goals as goal
 
-pub returns-then-levels-eq0 : goal.returns-then-levels-eq0
+pub returns-in-None-clause-counts : goal.returns-in-None-clause-counts
 unfolding outcome_count
-returns-then-levels-eq0 c = λ bs. rw (carried_none _ bs c.if-levels-eq0.true)
+returns-in-None-clause-counts c = search rules
 
-pub returns : goal.returns
+pub returns-in-Some-clause-counts : goal.returns-in-Some-clause-counts
 unfolding outcome_count
-returns c = λ bs. rw (carried_some _ bs c.if-levels-eq0.false)
+returns-in-Some-clause-counts c = search rules

@@ -1,32 +1,16 @@
--- `outcome_table::lawful` meets its contract. The invariant: every level passed is lawful with every other. Assumes nothing.
-use mathlib.Core.Path.{refl, sym}
-use mathlib.Core.Bool.{Bool}
-use Prim.Native.Nat.{ℕ}
-use native.Mathlib.Omega.{arith}
+-- `outcome_table::lawful` meets its contract. Assumes nothing.
+use Rattle.std.specs.Prelude.{Bool, ℕ, refl}
+use Rattle.std.proofs.Common.{rules, sym, ◌∙◌, arith}
+use Rattle.std.proofs.lemmas.Iterator.{YieldsList-from_range}
+use Rattle.std.proofs.lemmas.Iterator.Search.{all_from_yields_List}
 use Rattle.model.specs.Levels.{every_below, lawful_pair}
-use Rattle.laws.proofs.LevelLaws.{fails_below}
-use Rattle.outcome.specs.Carried.{table}
-use Rattle.outcome_table.proofs.Passing.{untrue, so_true, one_more, at_last}
-use Rattle.std.proofs.Common.{ap, not}
+use Rattle.outcome.specs.Carried.{table_of}
+use Rattle.outcome_table.proofs.Every.{below_is}
 use Rattle.outcome_table.proofs.lawful.Goals as goal
 
-pub loop-a-init : goal.loop-a-init
-loop-a-init c = (omega arith, refl)
-
-pub returns-then-not-lawful_row : goal.returns-then-not-lawful_row
-returns-then-not-lawful_row c =
-    let g = c.args in
-    let p : ℕ → Bool = λ x. every_below g.levels (lawful_pair (table g.levels g.outcomes.now) x) in
-    sym (fails_below g.levels p c.loop-a.a c.loop-a-test.true (untrue _ _ c.lawful_row.ensures (ap not c.if-not-lawful_row.true)))
-
-pub loop-a-preserved : goal.loop-a-preserved
-loop-a-preserved c =
-    let g = c.args in
-    let p : ℕ → Bool = λ x. every_below g.levels (lawful_pair (table g.levels g.outcomes.now) x) in
-    (omega arith, one_more p c.loop-a.a c.loop-a.invariant.1 (so_true _ _ c.lawful_row.ensures (ap not c.if-not-lawful_row.false)))
-
-pub returns : goal.returns
-returns c =
-    let g = c.args in
-    let p : ℕ → Bool = λ x. every_below g.levels (lawful_pair (table g.levels g.outcomes.now) x) in
-    sym (at_last p c.loop-a.a g.levels c.loop-a.invariant.0 c.loop-a-test.false c.loop-a.invariant.1)
+pub returns-then-closed : goal.returns-then-closed
+returns-then-closed c =
+    let n = c.args.table.levels in
+    let p : ℕ → Bool = λ a. every_below n (lawful_pair (table_of c.args.table) a) in
+    rw (sym c.closed.ensures ∙ c.if-closed.true)
+    (all_from_yields_List p _ _ _ c.all.ensures.ran (YieldsList-from_range 0 n n refl (omega arith)) (λ x b q k. search rules) ∙ below_is n p)

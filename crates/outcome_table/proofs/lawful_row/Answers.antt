@@ -1,32 +1,15 @@
--- `outcome_table::lawful_row` meets its contract. The invariant: the level is lawful with every one passed. Assumes nothing.
-use mathlib.Core.Path.{refl, sym}
-use mathlib.Core.Bool.{Bool}
-use Prim.Native.Nat.{ℕ}
-use native.Mathlib.Omega.{arith}
+-- `outcome_table::lawful_row` meets its contract. Assumes nothing.
+use Rattle.std.specs.Prelude.{Bool, ℕ, refl}
+use Rattle.std.proofs.Common.{rules, ◌∙◌, arith}
+use Rattle.std.proofs.lemmas.Iterator.{YieldsList-from_range}
+use Rattle.std.proofs.lemmas.Iterator.Search.{all_from_yields_List}
 use Rattle.model.specs.Levels.{lawful_pair}
-use Rattle.laws.proofs.LevelLaws.{fails_below}
-use Rattle.outcome.specs.Carried.{table}
-use Rattle.outcome_table.proofs.Passing.{untrue, so_true, one_more, at_last}
-use Rattle.std.proofs.Common.{ap, not}
+use Rattle.outcome.specs.Carried.{table_of}
+use Rattle.outcome_table.proofs.Every.{below_is}
 use Rattle.outcome_table.proofs.lawful_row.Goals as goal
-
-pub loop-b-init : goal.loop-b-init
-loop-b-init c = (omega arith, refl)
-
-pub returns-then-not-lawful_pair : goal.returns-then-not-lawful_pair
-returns-then-not-lawful_pair c =
-    let g = c.args in
-    let p : ℕ → Bool = lawful_pair (table g.levels g.outcomes.now) g.a in
-    sym (fails_below g.levels p c.loop-b.b c.loop-b-test.true (untrue _ _ c.lawful_pair.ensures (ap not c.if-not-lawful_pair.true)))
-
-pub loop-b-preserved : goal.loop-b-preserved
-loop-b-preserved c =
-    let g = c.args in
-    let p : ℕ → Bool = lawful_pair (table g.levels g.outcomes.now) g.a in
-    (omega arith, one_more p c.loop-b.b c.loop-b.invariant.1 (so_true _ _ c.lawful_pair.ensures (ap not c.if-not-lawful_pair.false)))
 
 pub returns : goal.returns
 returns c =
-    let g = c.args in
-    let p : ℕ → Bool = lawful_pair (table g.levels g.outcomes.now) g.a in
-    sym (at_last p c.loop-b.b g.levels c.loop-b.invariant.0 c.loop-b-test.false c.loop-b.invariant.1)
+    let n = c.args.table.levels in
+    let p : ℕ → Bool = lawful_pair (table_of c.args.table) c.args.a in
+    all_from_yields_List p _ _ _ c.all.ensures.ran (YieldsList-from_range 0 n n refl (omega arith)) (λ x b q k. search rules) ∙ below_is n p

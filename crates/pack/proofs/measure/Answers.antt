@@ -13,10 +13,6 @@ use Rattle.pack.proofs.measure.Goals as goal
 pub loop-at-init : goal.loop-at-init
 loop-at-init c = (omega arith, omega arith, omega (arith, c.requires.0, c.requires.1))
 
-pub overflow_add-size : goal.overflow_add-size
-overflow_add-size c =
-    omega (arith, c.loop-at.invariant.1, c.loop-at.invariant.2, c.plain_size-size.ensures.few)
-
 pub loop-at-preserved-then-is_plain : goal.loop-at-preserved-then-is_plain
 loop-at-preserved-then-is_plain c =
     let words = c.args.words.now in

@@ -22,8 +22,5 @@ put_node-next-requires c = (c.loop-at-test.true, c.requires.0, room_node c.loop-
 pub loop-at-preserved : goal.loop-at-preserved
 loop-at-preserved c = goes_on c.loop-at.invariant c.requires.1 c.loop-at-test.true c.put_node-next.ensures c.own_of.ensures.own
 
-pub shape_of-out : goal.shape_of-out
-shape_of-out c = c.loop-at.invariant.put.long
-
 pub returns : goal.returns
 returns c = ends c.loop-at.invariant (omega (arith, c.loop-at-test.false))

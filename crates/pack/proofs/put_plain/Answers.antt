@@ -2,23 +2,12 @@
 use mathlib.Core.Path.{◌∙◌, ap}
 use Prim.Native.Nat.{◌+◌, ◌*◌, ◌/◌, ◌%◌, ◌^◌}
 use native.Mathlib.Omega.{arith}
-use lib.Pow.{pow_pos}
 use Rattle.bits.specs.Splice.{low}
 use Rattle.bits.specs.Widths.{plain_width}
 use Rattle.bits.specs.SpliceLaws.{same_spliced}
 use Rattle.pack.specs.Room.{room_last}
-use Rattle.pack.proofs.Plain.{power32, plain_sum, plain_value}
+use Rattle.pack.proofs.Plain.{plain_value}
 use Rattle.pack.proofs.put_plain.Goals as goal
-
-pub nonzero_rem-word : goal.nonzero_rem-word
-nonzero_rem-word c =
-    let w = c.plain_bits-width.result in
-    omega (arith, power32 w c.plain_bits-width.ensures.few, pow_pos w)
-
-pub overflow_add-kind : goal.overflow_add-kind
-overflow_add-kind c =
-    let w = c.plain_bits-width.result in
-    omega (arith, plain_sum c.args.word w c.plain_bits-width.ensures.few (omega arith))
 
 pub put_bits-requires : goal.put_bits-requires
 put_bits-requires c =

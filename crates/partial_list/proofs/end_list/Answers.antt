@@ -1,12 +1,12 @@
--- `partial_policy::end_list` meets its contract: by whether an arm is pending. Assumes nothing.
+-- `partial_list::end_list` meets its contract: by whether an arm is pending. Assumes nothing.
 use native.Mathlib.Omega.{arith}
 use borrow.Author.Tests.{not-true, not-false}
 use Rattle.partial_list.proofs.Ending.{end_resolved, end_pending}
 use Rattle.partial_list.proofs.end_list.Goals as goal
 
 pub returns-then-not-sofar : goal.returns-then-not-sofar
-returns-then-not-sofar c = end_resolved _ _ _ c.requires.0 (not-true _ c.if-not-sofar.true) c.resolved.ensures
+returns-then-not-sofar c = end_resolved _ _ _ c.requires.0 (not-true _ c.if-not-sofar.true)
 
 pub returns : goal.returns
 returns c =
-    end_pending c.with_first_deny-whole.ensures c.lead-first.ensures c.put_list-size.ensures (omega arith) (omega arith) (not-false _ c.if-not-sofar.false) c.pending.ensures
+    end_pending c.with_first_deny-whole.ensures c.lead-first.ensures c.put_list-size.ensures (omega arith) (omega arith) (not-false _ c.if-not-sofar.false)

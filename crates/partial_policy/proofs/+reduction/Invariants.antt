@@ -1,29 +1,24 @@
--- The cycle of calls of `partial_policy::reduce_policy` meets its contracts: a policy by its head; the arms of a list by a loop, whose invariant is that
--- what answers for the arms that are left answers for all. The measure is the depth, and within a level the choice of the list rule, then the
--- rule, then the arm, then the policy.
--- Assumes nothing.
+-- The invariants of the list rules' loops: what answers for the arms that are left answers for all. The measure of the cycle of calls is the depth, and within
+-- a level the choice of the list rule, then the rule, then the arm, then the policy. Assumes nothing.
 use Prim.Native.Nat.{◌+◌, ◌*◌}
 use lib.ListN.{length}
 use Rattle.model.specs.Facts.{table_of}
 use Rattle.model.specs.Partial.{permits_first, sheet_order}
 use Rattle.outcome.specs.Carried.{carried}
-use Rattle.condition.specs.Listing.{lent}
+use Rattle.consulted.specs.Listing.{held}
 use Rattle.partial_policy.specs.Reducing.{ReducesBy, list_head}
 use Rattle.partial_policy.proofs.Arms.{ArmsLeft, Going}
 use Rattle.partial_policy.proofs.InOrder.{HeldLeft}
 use Rattle.partial_policy.proofs.+reduction.Given as goal
-
-abbrev pub decreases-reduce_all : goal.decreases-reduce_all
-decreases-reduce_all l = l.depth * 4 + 3
-
-abbrev pub decreases-reduce_any : goal.decreases-reduce_any
-decreases-reduce_any l = l.depth * 4 + 3
 
 abbrev pub decreases-reduce_arm : goal.decreases-reduce_arm
 decreases-reduce_arm l = l.depth * 4 + 1
 
 abbrev pub decreases-reduce_in_order : goal.decreases-reduce_in_order
 decreases-reduce_in_order l = l.depth * 4 + 2
+
+abbrev pub decreases-reduce_list : goal.decreases-reduce_list
+decreases-reduce_list l = l.depth * 4 + 3
 
 abbrev pub decreases-reduce_or_else : goal.decreases-reduce_or_else
 decreases-reduce_or_else l = l.depth * 4 + 1
@@ -37,43 +32,17 @@ decreases-reduce_policy l = l.depth * 4
 abbrev pub invariant-reduce_permits_first-loop-left : goal.invariant-reduce_permits_first-loop-left
 invariant-reduce_permits_first-loop-left l =
     Going
-    (ArmsLeft l.every (carried l.outcome_levels l.outcomes) (table_of l.facts) l.words l.sofar l.buf l.front l.out l.next l.depth l.left (lent l.listed l.entries l.seen))
-    (λ r t buf' out'. ReducesBy (carried l.outcome_levels l.outcomes) permits_first (list_head l.every l.arms) (table_of l.facts) l.words l.at l.depth (lent l.count l.initial.entries l.initial.seen) r t buf' (length l.initial.front) out')
-    (lent l.count l.initial.entries l.initial.seen)
-    (lent l.listed l.entries l.seen)
+    (ArmsLeft l.every (carried l.outcomes) (table_of l.facts) l.words l.sofar l.buf l.front l.out l.next l.depth l.left (held l.consulted))
+    (λ r t buf' out'. ReducesBy (carried l.outcomes) permits_first (list_head l.every l.arms) (table_of l.facts) l.words l.at l.depth (held l.initial.consulted) r t buf' (length l.initial.front) out')
     l.sofar
     l.arms
     l.left
-    l.initial.buf
-    l.buf
-    l.initial.named
-    l.named
-    l.initial.front
-    l.front
-    l.initial.out
-    l.out
-
-abbrev pub decreases-reduce_permits_first-loop-left : goal.decreases-reduce_permits_first-loop-left
-decreases-reduce_permits_first-loop-left l = l.left
 
 abbrev pub invariant-reduce_in_order-loop-left : goal.invariant-reduce_in_order-loop-left
 invariant-reduce_in_order-loop-left l =
     Going
-    (HeldLeft l.every (carried l.outcome_levels l.outcomes) (table_of l.facts) l.words l.sofar l.buf (length l.initial.front) l.out l.next l.depth l.left (lent l.listed l.entries l.seen))
-    (λ r t buf' out'. ReducesBy (carried l.outcome_levels l.outcomes) sheet_order (list_head l.every l.arms) (table_of l.facts) l.words l.at l.depth (lent l.count l.initial.entries l.initial.seen) r t buf' (length l.initial.front) out')
-    (lent l.count l.initial.entries l.initial.seen)
-    (lent l.listed l.entries l.seen)
+    (HeldLeft l.every (carried l.outcomes) (table_of l.facts) l.words l.sofar l.buf (length l.initial.front) l.out l.next l.depth l.left (held l.consulted))
+    (λ r t buf' out'. ReducesBy (carried l.outcomes) sheet_order (list_head l.every l.arms) (table_of l.facts) l.words l.at l.depth (held l.initial.consulted) r t buf' (length l.initial.front) out')
     l.sofar
     l.arms
     l.left
-    l.initial.buf
-    l.buf
-    l.initial.named
-    l.named
-    l.initial.front
-    l.front
-    l.initial.out
-    l.out
-
-abbrev pub decreases-reduce_in_order-loop-left : goal.decreases-reduce_in_order-loop-left
-decreases-reduce_in_order-loop-left l = l.left

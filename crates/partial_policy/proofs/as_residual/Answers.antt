@@ -2,9 +2,8 @@
 use Rattle.partial_policy.proofs.Parts.{residual_open, residual_node}
 use Rattle.partial_policy.proofs.as_residual.Goals as goal
 
-pub returns-then-part : goal.returns-then-part
-returns-then-part c = residual_open _ _ c.requires.1 c.if-part.true
+pub returns-in-Pending : goal.returns-in-Pending
+returns-in-Pending c = rw c.in-Pending.is (residual_open _ _ (rw c.in-Pending.is at c.requires.0))
 
-pub returns : goal.returns
-returns c =
-    residual_node _ c.if-part.false c.policy_from_decision.ensures
+pub returns-in-Resolved : goal.returns-in-Resolved
+returns-in-Resolved c = rw c.in-Resolved.is (residual_node _ c.policy_from_decision.ensures)

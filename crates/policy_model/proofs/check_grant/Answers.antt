@@ -3,6 +3,7 @@ use mathlib.Core.Path.{sym, ◌∙◌}
 use Prim.Native.Nat.{◌+◌, ◌<◌}
 use native.Mathlib.Omega.{arith}
 use lib.ListN.{get_or}
+use Rattle.policy_model.proofs.Checking.{passed_on}
 use Rattle.policy_model.proofs.Nodes.{grant_short, grant_marks, grant_refused, grant_goes_on}
 use Rattle.policy_model.proofs.check_grant.Goals as goal
 
@@ -19,20 +20,19 @@ returns-then-not-marks_fit c =
     grant_marks s.words.now s.at s.depth s.obligations hidden outcome c.if-words-second.false fits
     (sym c.marks_fit.ensures ∙ c.if-not-marks_fit.true)
 
-pub returns-in-Next : goal.returns-in-Next
-returns-in-Next c =
+pub returns-in_err-next : goal.returns-in_err-next
+returns-in_err-next c =
+    let s = c.args in
+    let fits : get_or s.words.now (s.at + 1) 0 < 4294967296 = omega (arith, c.type_inv.words (s.at + 1)) in
+    λ hidden outcome.
+    passed_on _ _ c.from_residual.ensures.1
+    ∙ grant_refused s.words.now s.at s.depth s.obligations hidden outcome c.if-words-second.false fits _
+    (sym c.marks_fit.ensures ∙ c.if-not-marks_fit.false) c.in_err-next.ensures
+
+pub returns : goal.returns
+returns c =
     let s = c.args in
     let fits : get_or s.words.now (s.at + 1) 0 < 4294967296 = omega (arith, c.type_inv.words (s.at + 1)) in
     λ hidden outcome.
     grant_goes_on s.words.now s.at s.depth s.obligations hidden outcome c.if-words-second.false fits _ _
-    (sym c.marks_fit.ensures ∙ c.if-not-marks_fit.false)
-    (sym c.in-Next.is ∙ c.check_obligations.ensures) c.check_grant_condition.ensures
-
-pub returns-in-Refused : goal.returns-in-Refused
-returns-in-Refused c =
-    let s = c.args in
-    let fits : get_or s.words.now (s.at + 1) 0 < 4294967296 = omega (arith, c.type_inv.words (s.at + 1)) in
-    λ hidden outcome.
-    grant_refused s.words.now s.at s.depth s.obligations hidden outcome c.if-words-second.false fits _
-    (sym c.marks_fit.ensures ∙ c.if-not-marks_fit.false)
-    (sym c.in-Refused.is ∙ c.check_obligations.ensures)
+    (sym c.marks_fit.ensures ∙ c.if-not-marks_fit.false) c.in_ok-next.ensures c.check_grant_condition.ensures

@@ -1,7 +1,8 @@
 -- `policy_model::check_obligations` meets its contract. The loop's invariant: what is asked of the words that are left is what is asked of all.
 -- The measure is what is left of the words. Assumes nothing.
-use mathlib.Core.Path.{refl, sym, ◌∙◌}
+use mathlib.Core.Path.{refl, ◌∙◌}
 use native.Mathlib.Omega.{arith}
+use Rattle.policy_model.proofs.Checking.{passed_on}
 use Rattle.policy_model.proofs.Quads.{walk_word, walk_refused, walk_short, walk_done, walk_list}
 use Rattle.policy_model.proofs.check_obligations.Goals as goal
 
@@ -15,13 +16,12 @@ pub loop-left-smaller : goal.loop-left-smaller
 loop-left-smaller c = omega arith
 
 pub loop-left-preserved : goal.loop-left-preserved
-loop-left-preserved c =
-    walk_word _ _ _ _ c.if-words-next.false c.loop-left-test.true (sym c.in-Left.is ∙ c.with_word.ensures)
-    ∙ c.loop-left.invariant
+loop-left-preserved c = walk_word _ _ _ _ c.if-words-next.false c.loop-left-test.true c.in_ok-left.ensures ∙ c.loop-left.invariant
 
-pub returns-in-Refused : goal.returns-in-Refused
-returns-in-Refused c =
-    walk_refused _ _ _ _ c.if-words-next.false c.loop-left-test.true (sym c.in-Refused.is ∙ c.with_word.ensures)
+pub returns-in_err-left : goal.returns-in_err-left
+returns-in_err-left c =
+    passed_on _ _ c.from_residual.ensures.1
+    ∙ walk_refused _ _ _ _ c.if-words-next.false c.loop-left-test.true c.in_err-left.ensures
     ∙ c.loop-left.invariant
     ∙ walk_list _ _ _
 

@@ -1,11 +1,13 @@
 -- `policy_model::check_record` meets its contract: the length, the lead, the entries, and the tree to the last word. Assumes nothing.
-use mathlib.Core.Path.{sym, ap, ◌∙◌}
-use Prim.Native.Nat.{◌<◌}
+use mathlib.Core.Path.{◌≡◌, sym, ap, ◌∙◌}
+use Prim.Native.Nat.{◌/◌, ◌<◌}
 use native.Mathlib.Omega.{arith}
 use lib.ListN.{get_or}
-use Rattle.policy_model.specs.Answers.{record_lead}
+use Rattle.policy_model.specs.Answers.{kind_by}
+use Rattle.policy_model.proofs.Checking.{lead_passed_on}
 use Rattle.policy_model.proofs.Whole.{no_record, long_record, other_record, record_entries, record_tree}
 use Rattle.policy_model.proofs.check_record.Goals as goal
+use Rattle.policy_model.proofs.check_record.Goals.{After-check_entries, in-14, in-15}
 
 pub returns-then-words-eq0 : goal.returns-then-words-eq0
 returns-then-words-eq0 c = no_record _ c.args.words.now c.if-words-eq0.true
@@ -13,20 +15,30 @@ returns-then-words-eq0 c = no_record _ c.args.words.now c.if-words-eq0.true
 pub returns-then-words-gt-RECORD_WORDS : goal.returns-then-words-gt-RECORD_WORDS
 returns-then-words-gt-RECORD_WORDS c = long_record _ c.args.words.now c.if-words-eq0.false c.if-words-gt-RECORD_WORDS.true
 
-pub returns-then-kind-lt-KIND_RESOLVED : goal.returns-then-kind-lt-KIND_RESOLVED
-returns-then-kind-lt-KIND_RESOLVED c = other_record _ c.args.words.now c.if-words-eq0.false c.if-words-gt-RECORD_WORDS.false c.if-kind-lt-KIND_RESOLVED.true
-
-pub returns-in-Next : goal.returns-in-Next
-returns-in-Next c =
+pub returns-in_default : goal.returns-in_default
+returns-in_default c =
     let ws = c.args.words.now in
     let fits : get_or ws 0 0 < 4294967296 = omega (arith, c.type_inv.words 0) in
-    ap record_lead c.record_of.ensures
-    ∙ record_tree _ ws c.if-words-eq0.false c.if-words-gt-RECORD_WORDS.false c.if-kind-lt-KIND_RESOLVED.false fits _ _
-    (sym c.in-Next.is ∙ c.check_entries.ensures) c.check_body.ensures
+    other_record _ ws c.if-words-eq0.false c.if-words-gt-RECORD_WORDS.false (omega arith)
 
-pub returns-in-Refused : goal.returns-in-Refused
-returns-in-Refused c =
-    let ws = c.args.words.now in
-    let fits : get_or ws 0 0 < 4294967296 = omega (arith, c.type_inv.words 0) in
-    record_entries _ ws c.if-words-eq0.false c.if-words-gt-RECORD_WORDS.false c.if-kind-lt-KIND_RESOLVED.false fits _
-    (sym c.in-Refused.is ∙ c.check_entries.ensures)
+-- The status is that of the lead's kind.
+known : (c : After-check_entries) → get_or c.args.words.now 0 0 / 268435456 ≡ kind_by c.match-words-div268435456.status
+known c =
+    elim c.match-words-div268435456.branch [ in-14 w ↦ w.in-14.is ∙ ap kind_by (sym w.status-is) | in-15 w ↦ w.in-15.is ∙ ap kind_by (sym w.status-is) ]
+
+pub returns-in_err-tree : goal.returns-in_err-tree
+returns-in_err-tree c =
+    lead_passed_on _ _ c.from_residual.ensures.1
+    ∙ record_entries _ c.args.words.now c.if-words-eq0.false c.if-words-gt-RECORD_WORDS.false _ (known (goal.at.returns-in_err-tree c).After-check_entries) _
+    c.in_err-tree.ensures
+
+pub returns-in_err-check_body : goal.returns-in_err-check_body
+returns-in_err-check_body c =
+    lead_passed_on _ _ c.from_residual-in_err-check_body.ensures.1
+    ∙ record_tree _ c.args.words.now c.if-words-eq0.false c.if-words-gt-RECORD_WORDS.false _ (known (goal.at.returns-in_err-check_body c).After-check_entries) _ _
+    c.in_ok-tree.ensures c.in_err-check_body.ensures
+
+pub returns : goal.returns
+returns c =
+    record_tree _ c.args.words.now c.if-words-eq0.false c.if-words-gt-RECORD_WORDS.false _ (known (goal.at.returns c).After-check_entries) _ _
+    c.in_ok-tree.ensures c.in_ok-check_body.ensures

@@ -8,6 +8,7 @@ use Rattle.policy_model.specs.declared.PolicyHead.{PolicyHead}
 use Rattle.policy_model.specs.declared.PolicyHead.TheVariants.{Permit, Deny, Grant, All, Any, OrElse, PermitWithTrace, DenyWithTrace, BadKind, BadField}
 use Rattle.policy_model.specs.Answers.{checked}
 use Rattle.policy_model.specs.Heads.{within_most, policy_node}
+use Rattle.policy_model.proofs.Checking.{step_refused}
 use Rattle.policy_model.proofs.Policies.{node_by, Asked, no_policy, too_deep, by_head, not_within, after_all, after_any, after_or_else, after_permit_lem, after_deny_lem, whole_node}
 use Rattle.policy_model.proofs.policy_step.Goals as goal
 use Rattle.policy_model.proofs.policy_step.Goals.{Else-not-within}
@@ -44,10 +45,15 @@ pub returns-in-Deny : goal.returns-in-Deny
 unfolding checked policy_node
 returns-in-Deny c = (by_the_head (goal.at.returns-in-Deny c).Else-not-within Deny c.in-Deny.is, search rules, search rules)
 
-pub returns-in-Grant : goal.returns-in-Grant
+pub returns-in_err-after-in-Grant : goal.returns-in_err-after-in-Grant
 unfolding policy_node
-returns-in-Grant c =
-    whole_node _ _ _ _ _ _ _ c.if-words-at.false (c.check_grant.ensures _ _ ∙ by_the_head (goal.at.returns-in-Grant c).Else-not-within (Grant _ _ _) c.in-Grant.is) c.step_of.ensures
+returns-in_err-after-in-Grant c =
+    step_refused _ _ _ _ _ _ _ c.from_residual.ensures.1 (c.in_err-after-in-Grant.ensures _ _ ∙ by_the_head (goal.at.returns-in_err-after-in-Grant c).Else-not-within (Grant _ _ _) c.in-Grant.is)
+
+pub returns-in_ok-after-in-Grant : goal.returns-in_ok-after-in-Grant
+unfolding policy_node
+returns-in_ok-after-in-Grant c =
+    whole_node _ _ _ _ _ _ c.if-words-at.false (c.in_ok-after-in-Grant.ensures _ _ ∙ by_the_head (goal.at.returns-in_ok-after-in-Grant c).Else-not-within (Grant _ _ _) c.in-Grant.is)
 
 pub returns-in-All : goal.returns-in-All
 returns-in-All c = (after_all _ _ _ _ _ ∙ by_the_head (goal.at.returns-in-All c).Else-not-within (All _) c.in-All.is, search rules, search rules)
@@ -58,13 +64,21 @@ returns-in-Any c = (after_any _ _ _ _ _ ∙ by_the_head (goal.at.returns-in-Any 
 pub returns-in-OrElse : goal.returns-in-OrElse
 returns-in-OrElse c = (after_or_else _ _ _ _ ∙ by_the_head (goal.at.returns-in-OrElse c).Else-not-within OrElse c.in-OrElse.is, search rules, search rules)
 
-pub returns-in-PermitWithTrace : goal.returns-in-PermitWithTrace
-returns-in-PermitWithTrace c =
-    whole_node _ _ _ _ _ _ _ c.if-words-at.false (c.check_permit_with_trace.ensures _ ∙ after_permit_lem _ _ _ _ _ _ ∙ by_the_head (goal.at.returns-in-PermitWithTrace c).Else-not-within (PermitWithTrace _ _) c.in-PermitWithTrace.is) c.step_of-in-PermitWithTrace.ensures
+pub returns-in_err-after-in-PermitWithTrace : goal.returns-in_err-after-in-PermitWithTrace
+returns-in_err-after-in-PermitWithTrace c =
+    step_refused _ _ _ _ _ _ _ c.from_residual-in_err-after-in-PermitWithTrace.ensures.1 (c.in_err-after-in-PermitWithTrace.ensures _ ∙ after_permit_lem _ _ _ _ _ _ ∙ by_the_head (goal.at.returns-in_err-after-in-PermitWithTrace c).Else-not-within (PermitWithTrace _ _) c.in-PermitWithTrace.is)
 
-pub returns-in-DenyWithTrace : goal.returns-in-DenyWithTrace
-returns-in-DenyWithTrace c =
-    whole_node _ _ _ _ _ _ _ c.if-words-at.false (c.check_deny_with_trace.ensures _ _ _ ∙ after_deny_lem _ _ _ _ _ _ _ ∙ by_the_head (goal.at.returns-in-DenyWithTrace c).Else-not-within (DenyWithTrace _ _ _) c.in-DenyWithTrace.is) c.step_of-in-DenyWithTrace.ensures
+pub returns-in_ok-after-in-PermitWithTrace : goal.returns-in_ok-after-in-PermitWithTrace
+returns-in_ok-after-in-PermitWithTrace c =
+    whole_node _ _ _ _ _ _ c.if-words-at.false (c.in_ok-after-in-PermitWithTrace.ensures _ ∙ after_permit_lem _ _ _ _ _ _ ∙ by_the_head (goal.at.returns-in_ok-after-in-PermitWithTrace c).Else-not-within (PermitWithTrace _ _) c.in-PermitWithTrace.is)
+
+pub returns-in_err-after-in-DenyWithTrace : goal.returns-in_err-after-in-DenyWithTrace
+returns-in_err-after-in-DenyWithTrace c =
+    step_refused _ _ _ _ _ _ _ c.from_residual-in_err-after-in-DenyWithTrace.ensures.1 (c.in_err-after-in-DenyWithTrace.ensures _ _ _ ∙ after_deny_lem _ _ _ _ _ _ _ ∙ by_the_head (goal.at.returns-in_err-after-in-DenyWithTrace c).Else-not-within (DenyWithTrace _ _ _) c.in-DenyWithTrace.is)
+
+pub returns-in_ok-after-in-DenyWithTrace : goal.returns-in_ok-after-in-DenyWithTrace
+returns-in_ok-after-in-DenyWithTrace c =
+    whole_node _ _ _ _ _ _ c.if-words-at.false (c.in_ok-after-in-DenyWithTrace.ensures _ _ _ ∙ after_deny_lem _ _ _ _ _ _ _ ∙ by_the_head (goal.at.returns-in_ok-after-in-DenyWithTrace c).Else-not-within (DenyWithTrace _ _ _) c.in-DenyWithTrace.is)
 
 pub returns-in-BadKind : goal.returns-in-BadKind
 unfolding checked policy_node

@@ -35,7 +35,7 @@ pub loop-left-preserved : goal.loop-left-preserved
 loop-left-preserved c =
     let words = c.args.words.now in
     let none = sym c.obligation_at.ensures ∙ c.if-obligation_at.false in (
-      λ t s. open_on words _ c.if-words-next.false none _ _ _ _ c.loop-left-test.true c.arms_at-arms.ensures c.next_policy-next.ensures (c.loop-left.invariant.0 t s),
+      λ t s. rw c.from.ensures (open_on words _ c.if-words-next.false none _ _ _ _ c.loop-left-test.true c.arms_at-arms.ensures c.next_policy-next.ensures (c.loop-left.invariant.0 t s)),
       omega (arith, loop-left-smaller c, c.loop-left.invariant.1, c.if-words-next.false),
     )
 

@@ -3,12 +3,11 @@ use Rattle.model.specs.Required.{obliges}
 use Rattle.questions.proofs.Records.{some_tree, says, says_refused}
 use Rattle.questions.proofs.carries_obligation.Goals as goal
 
+pub returns-in_err-tree : goal.returns-in_err-tree
+returns-in_err-tree c = says_refused _ obliges _ _ c.from_residual.ensures.1 c.in_err-tree.ensures
+
 pub carries-requires : goal.carries-requires
-carries-requires c = some_tree _ _ _ _ c.tree_of.ensures c.in-At.is
+carries-requires c = some_tree _ _ _ c.in_ok-tree.ensures
 
-pub returns-in-At : goal.returns-in-At
-returns-in-At c =
-    says _ obliges _ _ _ _ c.tree_of.ensures c.in-At.is c.carries.ensures
-
-pub returns-in-Refused : goal.returns-in-Refused
-returns-in-Refused c = says_refused _ obliges _ _ c.tree_of.ensures c.in-Refused.is
+pub returns : goal.returns
+returns c = says _ obliges _ _ _ c.in_ok-tree.ensures c.carries.ensures

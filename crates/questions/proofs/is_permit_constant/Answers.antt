@@ -1,14 +1,11 @@
 -- `questions::is_permit_constant` meets its contract: by the kind of the tree's top node. Assumes nothing.
-use Rattle.model.specs.Required.{permit_on_top}
-use Rattle.questions.proofs.Records.{some_tree, says, says_refused, permit_says}
+use mathlib.Core.Path.{◌∙◌, ap}
+use Rattle.model.specs.Record.{tree}
+use Rattle.model.specs.Required.{asked_of}
+use Rattle.model.specs.Products.{read_record}
+use Rattle.questions.specs.Answers.{told_of}
+use Rattle.questions.proofs.Records.{top_permit}
 use Rattle.questions.proofs.is_permit_constant.Goals as goal
 
-pub top_kind-kind-requires : goal.top_kind-kind-requires
-top_kind-kind-requires c = some_tree _ _ _ _ c.tree_of.ensures c.in-At.is
-
-pub returns-in-At : goal.returns-in-At
-returns-in-At c =
-    says _ permit_on_top _ _ _ _ c.tree_of.ensures c.in-At.is (permit_says _ _ _ _ c.top_kind-kind.ensures c.either.ensures)
-
-pub returns-in-Refused : goal.returns-in-Refused
-returns-in-Refused c = says_refused _ permit_on_top _ _ c.tree_of.ensures c.in-Refused.is
+pub returns : goal.returns
+returns c = c.top_is.ensures ∙ ap (λ ask. told_of (asked_of (read_record c.args.words.now) ask)) (λ i r. top_permit (tree r) i)

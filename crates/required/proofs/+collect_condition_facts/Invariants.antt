@@ -6,8 +6,5 @@ use Rattle.required.proofs.+collect_condition_facts.Given as goal
 abbrev pub decreases-collect_condition_facts : goal.decreases-collect_condition_facts
 decreases-collect_condition_facts l = l.depth
 
-abbrev pub invariant-loop-left : goal.invariant-loop-left
-invariant-loop-left l = (l.at ≤ l.next) × OnwardC (l.depth - 1) l.words l.initial.next l.initial.left l.initial.grown l.next l.left l.grown
-
-abbrev pub decreases-loop-left : goal.decreases-loop-left
-decreases-loop-left l = l.left
+abbrev pub invariant-loop : goal.invariant-loop
+invariant-loop l = (l.at ≤ l.next) × OnwardC (l.depth - 1) l.words l.initial.next l.end l.initial.grown l.next (l.end - l.counter) l.grown

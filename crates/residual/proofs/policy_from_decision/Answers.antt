@@ -3,10 +3,9 @@
 use mathlib.Core.Path.{sym, ◌∙◌}
 use native.Mathlib.Omega.{arith}
 use Rattle.policy_model.specs.PlainLaws.{plain_inside}
-use Rattle.clause.proofs.AnswerLaws.{few_facts, is_countable, not_countable}
+use Rattle.clause.proofs.AnswerLaws.{is_countable, not_countable}
 use Rattle.residual.proofs.Laying.{node_long, node_no_room, node_written}
 use Rattle.residual.proofs.Short.{node_bare, node_on_fact}
-use borrow.Author.Rules.{rules}
 use Rattle.std.proofs.Common.{ap, not}
 use Rattle.residual.proofs.policy_from_decision.Goals as goal
 
@@ -26,19 +25,9 @@ pub returns-then-not-countable : goal.returns-then-not-countable
 returns-then-not-countable c =
     node_long (omega (arith, c.obligations-2-1.given)) c.obligations-held.ensures c.clause_facts-count.ensures _ (not_countable _ c.countable.ensures (ap not c.if-not-countable.true))
 
-pub decision_words-size-requires : goal.decision_words-size-requires
-decision_words-size-requires c = (
-  omega (arith, c.obligations-held.ensures.few),
-  omega (arith, few_facts c.args.decision.permit c.obligations-held.result c.clause_facts-count.result (is_countable _ c.countable.ensures (ap not c.if-not-countable.false))),
-)
-
 pub returns-then-out-size : goal.returns-then-out-size
 returns-then-out-size c =
     node_no_room (omega (arith, c.obligations-2-1.given)) c.obligations-held.ensures c.clause_facts-count.ensures (is_countable _ c.countable.ensures (ap not c.if-not-countable.false)) _ _ c.decision_words-size.ensures c.if-out-size.true
-
-pub write_decision-requires : goal.write_decision-requires
-write_decision-requires c =
-    (is_countable _ c.countable.ensures (ap not c.if-not-countable.false), omega (arith, c.obligations-held.ensures.few, c.obligations-2-1.given), search rules, omega (arith, c.decision_words-size.ensures, c.if-out-size.false))
 
 pub returns : goal.returns
 returns c =

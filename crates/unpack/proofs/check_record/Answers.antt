@@ -4,6 +4,7 @@ use Prim.Native.Nat.{◌+◌, ◌*◌}
 use native.Mathlib.Omega.{arith}
 use borrow.Author.Tests.{ltb-true, ltb-false}
 use lib.ListN.{length}
+use Rattle.refusal.specs.Numbers.{by_number}
 use Rattle.model.specs.Bits.{run_of}
 use Rattle.unpack.specs.StepLaws.{kind_first}
 use Rattle.unpack.proofs.Fields.{bits_known}
@@ -46,14 +47,12 @@ returns-then-ended-3 c =
     let count = c.bits_at-count.ensures.is in
     record_short run bits (omega (arith, kind, first, c.if-kind-lt-KIND_RESOLVED.false)) (let l = ltb-true (length run) _ (sym c.ended-3.ensures ∙ c.if-ended-3.true) in omega (arith, l, count))
 
-pub check_resolved-requires : goal.check_resolved-requires
-check_resolved-requires c =
+pub invariant_of-place : goal.invariant_of-place
+invariant_of-place c =
     let bytes = c.args.bytes.now in
     let run = run_of bytes in
-    let bits = bits_known bytes (λ i. omega (arith, c.type_inv.bytes i)) in
-    let count = c.bits_at-count.ensures.is in
     let there = ltb-false (length run) _ (sym c.ended-3.ensures ∙ c.if-ended-3.false) in
-    (c.requires, omega (arith, there), omega (arith, c.entry_words-words.ensures))
+    record { octets = λ i. omega (arith, c.type_inv.bytes i); short = c.requires; inside = omega (arith, there); fewer = omega (arith, c.entry_words.ensures) }
 
 pub returns-then-kind-eq-KIND_RESOLVED : goal.returns-then-kind-eq-KIND_RESOLVED
 returns-then-kind-eq-KIND_RESOLVED c =
@@ -64,16 +63,7 @@ returns-then-kind-eq-KIND_RESOLVED c =
     let first = kind_first run bits in
     let count = c.bits_at-count.ensures.is in
     let there = ltb-false (length run) _ (sym c.ended-3.ensures ∙ c.if-ended-3.false) in
-    says_resolved run bits (32 + 12 * c.bits_at-count.result) (1 + c.entry_words-words.result) (omega (arith, count)) (omega (arith, count, c.entry_words-words.ensures)) (omega (arith, there, count)) c.check_resolved.result (omega (arith, kind, first, c.if-kind-eq-KIND_RESOLVED.true)) c.check_resolved.ensures
-
-pub check_policy-requires : goal.check_policy-requires
-check_policy-requires c =
-    let bytes = c.args.bytes.now in
-    let run = run_of bytes in
-    let bits = bits_known bytes (λ i. omega (arith, c.type_inv.bytes i)) in
-    let count = c.bits_at-count.ensures.is in
-    let there = ltb-false (length run) _ (sym c.ended-3.ensures ∙ c.if-ended-3.false) in
-    (c.requires, omega (arith, there), omega (arith, c.entry_words-words.ensures), omega arith)
+    says_resolved run bits (32 + 12 * c.bits_at-count.result) (1 + c.entry_words.result) (omega (arith, count)) (omega (arith, count, c.entry_words.ensures)) (omega (arith, there, count)) (by_number c.check_resolved.result) (omega (arith, kind, first, c.if-kind-eq-KIND_RESOLVED.true)) c.check_resolved.ensures
 
 pub returns : goal.returns
 returns c =
@@ -84,4 +74,4 @@ returns c =
     let first = kind_first run bits in
     let count = c.bits_at-count.ensures.is in
     let there = ltb-false (length run) _ (sym c.ended-3.ensures ∙ c.if-ended-3.false) in
-    says_pending run bits (32 + 12 * c.bits_at-count.result) (1 + c.entry_words-words.result) (omega (arith, count)) (omega (arith, count, c.entry_words-words.ensures)) (omega (arith, there, count)) c.check_policy.result (omega (arith, kind, first, c.if-kind-lt-KIND_RESOLVED.false)) (λ k. c.if-kind-eq-KIND_RESOLVED.false (omega (arith, kind, first, k))) c.check_policy.ensures
+    says_pending run bits (32 + 12 * c.bits_at-count.result) (1 + c.entry_words.result) (omega (arith, count)) (omega (arith, count, c.entry_words.ensures)) (omega (arith, there, count)) (by_number c.check.result) (omega (arith, kind, first, c.if-kind-lt-KIND_RESOLVED.false)) (λ k. c.if-kind-eq-KIND_RESOLVED.false (omega (arith, kind, first, k))) c.check.ensures

@@ -7,13 +7,13 @@ use Rattle.unpack.proofs.Steps.{plain_ended, plain_there}
 use Rattle.unpack.proofs.plain_step.Goals as goal
 
 pub overflow_add-after-2 : goal.overflow_add-after-2
-overflow_add-after-2 c = omega (arith, c.plain_bits.ensures.few, c.requires.0, c.requires.1, length_run c.args.bytes.now)
+overflow_add-after-2 c = omega (arith, c.plain_bits.ensures.few, c.args.place.short, c.args.place.inside, length_run c.args.place.bytes.now)
 
 pub returns-then-ended : goal.returns-then-ended
 returns-then-ended c = plain_ended _ _ _ _ _ c.plain_bits.ensures.is _ c.ended.ensures c.if-ended.true
 
 pub overflow_add-result : goal.overflow_add-result
-overflow_add-result c = omega (arith, c.requires.0, c.requires.1, c.requires.2, length_run c.args.bytes.now)
+overflow_add-result c = omega (arith, c.args.place.short, c.args.place.inside, c.args.place.fewer, length_run c.args.place.bytes.now)
 
 pub returns : goal.returns
 returns c = plain_there _ _ _ _ _ c.plain_bits.ensures.is _ _ c.ended.ensures c.if-ended.false (c.arms_of.ensures ∙ ap arms_of c.plain_word.ensures)

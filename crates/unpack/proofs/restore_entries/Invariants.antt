@@ -1,6 +1,5 @@
 -- `unpack::restore_entries` meets its contract: one word more in each turn. Assumes nothing.
 use mathlib.Core.Path.{◌≡◌}
-use Prim.Native.Nat.{◌-◌, ◌≤◌}
 use lib.ListN.{drop}
 use Rattle.model.specs.Bits.{run_of}
 use Rattle.model.specs.Fields.{words_for}
@@ -9,7 +8,4 @@ use Rattle.unpack.specs.Nodes.{entry_words}
 use Rattle.unpack.proofs.restore_entries.Given as goal
 
 abbrev pub invariant-loop-j : goal.invariant-loop-j
-invariant-loop-j l = (l.j ≤ l.words) × (l.words ≡ words_for 2 l.count) × Sofar (entry_words l.width l.count (drop l.at (run_of l.bytes))) l.initial.out l.out l.j
-
-abbrev pub decreases-loop-j : goal.decreases-loop-j
-decreases-loop-j l = l.words - l.j
+invariant-loop-j l = (l.words ≡ words_for 2 l.count) × Sofar (entry_words l.width l.count (drop l.at (run_of l.bytes))) l.initial.out l.out l.j

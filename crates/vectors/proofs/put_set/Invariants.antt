@@ -1,8 +1,8 @@
--- `vectors::put_set` meets its contract. The loop's invariant: halves of the set's numbers stand before what stood there. The measure is what is left. Assumes nothing.
+-- `vectors::put_set` meets its contract. The loop's invariant: halves of the set's numbers stand before what stood there. Assumes nothing.
 use mathlib.Core.Path.{◌≡◌}
 use mathlib.Core.List.{List, ◌++◌}
-use Prim.Native.Nat.{ℕ, ◌-◌, ◌/◌, ◌%◌, ◌≤◌}
-use lib.ListN.{length, drop, get_or}
+use Prim.Native.Nat.{ℕ, ◌/◌, ◌%◌}
+use lib.ListN.{drop, get_or}
 use Rattle.laws.specs.FieldAt.{firsts}
 use Rattle.vectors.specs.Words.{half_of}
 use Rattle.vectors.proofs.put_set.Given as goal
@@ -11,7 +11,4 @@ abbrev Half : List ℕ → ℕ → ℕ
 Half set k = half_of (get_or set (k / 2) 0) (k % 2)
 
 abbrev pub invariant-loop-i : goal.invariant-loop-i
-invariant-loop-i l = (l.i ≤ 32) × (length l.initial.out ≡ 32) × (length l.out ≡ length l.initial.out) × (l.out ≡ firsts (Half l.set) l.i ++ drop l.i l.initial.out)
-
-abbrev pub decreases-loop-i : goal.decreases-loop-i
-decreases-loop-i l = 32 - l.i
+invariant-loop-i l = l.out ≡ firsts (Half l.set) l.i ++ drop l.i l.initial.out

@@ -1,46 +1,49 @@
--- `vectors::tally_of` meets its contract. The loop's invariant: what is left gives what all give. The measure is how many may be left. Assumes nothing.
-use mathlib.Core.Path.{refl, sym, ◌∙◌}
+-- `vectors::tally_of` meets its contract. The loop's invariant: what is left gives what all give. Assumes nothing.
+use borrow.Author.Rules.{rules}
+use mathlib.Core.Path.{◌≡◌, refl, sym, ◌∙◌, ap}
+use Prim.Native.Nat.{◌+◌, ◌-◌}
 use native.Mathlib.Omega.{arith}
+use lib.ListN.{length}
+use Rattle.vectors.specs.Tallies.{tally_from}
 use Rattle.vectors.proofs.Reading.{whole_of}
 use Rattle.vectors.proofs.Tallying.{sofar_done, sofar_fits, sofar_end, sofar_next}
-use borrow.Author.Rules.{rules}
 use Rattle.vectors.proofs.tally_of.Goals as goal
 
-pub loop-left-init : goal.loop-left-init
-loop-left-init c = (refl, refl, refl, record { within = search rules; places = search rules; replayed = search rules; differ = search rules; rest = refl })
+pub loop-before-init : goal.loop-before-init
+loop-before-init c =
+    let cases = c.args.cases.now in
+    let all : length cases - 0 ≡ length cases = omega arith in
+    record {
+      within = search rules;
+      places = search rules;
+      replayed = search rules;
+      differ = search rules;
+      rest = ap (λ n. tally_from n c.args.call cases 1 (record { replayed = 0; differ = 0; first = 0 })) all;
+    }
 
 pub returns-then-size-eq0 : goal.returns-then-size-eq0
-returns-then-size-eq0 c = sofar_end _ _ _ _ _ _ c.loop-left.invariant.3 (omega arith) (sym c.size_of-size.ensures ∙ c.if-size-eq0.true)
+returns-then-size-eq0 c = sofar_end _ _ _ _ _ _ c.loop-before.invariant (omega arith) (sym c.size_of-size.ensures ∙ c.if-size-eq0.true)
 
 pub step-tally-requires : goal.step-tally-requires
 step-tally-requires c =
-    let at = c.loop-left in
-    let pre = c.requires in
-    let sofar = at.invariant.3 in (
+    let sofar = c.loop-before.invariant in
+    let pre = c.requires in (
       whole_of _ (λ e. c.if-size-eq0.false (c.size_of-size.ensures ∙ e)),
       omega (arith, sofar.within, sofar.places, sofar.replayed),
       sofar.differ,
-      omega (arith, at.invariant.0, pre),
-      omega (arith, at.invariant.1, pre),
-      omega (arith, at.invariant.2, pre),
+      omega arith,
+      omega arith,
+      omega arith,
     )
 
 pub overflow_add-at : goal.overflow_add-at
-overflow_add-at c =
-    omega (arith, sofar_fits _ _ _ _ _ _ c.loop-left.invariant.3 _ c.size_of-size.ensures c.if-size-eq0.false)
+overflow_add-at c = omega (arith, sofar_fits _ _ _ _ _ _ c.loop-before.invariant _ c.size_of-size.ensures c.if-size-eq0.false)
 
-pub overflow_add-place : goal.overflow_add-place
-overflow_add-place c =
-    omega (arith, sofar_fits _ _ _ _ _ _ c.loop-left.invariant.3 _ c.size_of-size.ensures c.if-size-eq0.false)
-
-pub loop-left-preserved : goal.loop-left-preserved
-loop-left-preserved c =
-    let at = c.loop-left in (
-      c.words-1.given ∙ at.invariant.0,
-      c.expected-1.given ∙ at.invariant.1,
-      c.out-1.given ∙ at.invariant.2,
-      sofar_next _ _ _ _ _ _ at.invariant.3 _ _ (omega (arith, c.loop-left-test)) c.size_of-size.ensures c.if-size-eq0.false c.step-tally.ensures,
-    )
+pub loop-before-preserved : goal.loop-before-preserved
+loop-before-preserved c =
+    let at = c.loop-before in
+    let one_less : length c.args.cases.now - (at.before + 1) ≡ length c.args.cases.now - at.before - 1 = omega arith in
+    rw one_less (sofar_next _ _ _ _ _ _ at.invariant _ _ (omega (arith, c.loop-before-test)) c.size_of-size.ensures c.if-size-eq0.false c.step-tally.ensures)
 
 pub returns : goal.returns
-returns c = sofar_done _ _ _ _ _ _ c.loop-left.invariant.3 (omega arith)
+returns c = sofar_done _ _ _ _ _ _ c.loop-before.invariant (omega arith)

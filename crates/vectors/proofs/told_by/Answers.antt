@@ -1,4 +1,5 @@
 -- `vectors::told_by` meets its contract: by the call. Assumes nothing.
+use borrow.Author.Rules.{rules}
 use mathlib.Core.Path.{ap}
 use native.Mathlib.Omega.{arith}
 use Rattle.questions.proofs.AnswerLaws.{permit_asked, deny_asked, obligation_asked}
@@ -22,19 +23,19 @@ pub returns-in-2 : goal.returns-in-2
 unfolding told_by
 returns-in-2 c =
     let args = c.args in
-    told_by_number args.call 2 args.words.now args.out.now c.in-2.is (told_reply c.is_permit_constant.result (permit_asked args.words.now c.is_permit_constant.ensures) c.said.ensures.0 c.said.ensures.1)
+    told_by_number args.call 2 args.words.now args.out.now c.in-2.is (told_reply c.is_permit_constant.result c.map.result (permit_asked args.words.now c.is_permit_constant.ensures) c.map.ensures.cases (λ x y p. search rules) c.replied.ensures.0 c.replied.ensures.1)
 
 pub returns-in-3 : goal.returns-in-3
 unfolding told_by
 returns-in-3 c =
     let args = c.args in
-    told_by_number args.call 3 args.words.now args.out.now c.in-3.is (told_reply c.is_deny_constant.result (deny_asked args.words.now c.is_deny_constant.ensures) c.said-in-3.ensures.0 c.said-in-3.ensures.1)
+    told_by_number args.call 3 args.words.now args.out.now c.in-3.is (told_reply c.is_deny_constant.result c.map-in-3.result (deny_asked args.words.now c.is_deny_constant.ensures) c.map-in-3.ensures.cases (λ x y p. search rules) c.replied-in-3.ensures.0 c.replied-in-3.ensures.1)
 
 pub returns-in-4 : goal.returns-in-4
 unfolding told_by
 returns-in-4 c =
     let args = c.args in
-    told_by_number args.call 4 args.words.now args.out.now c.in-4.is (told_reply c.carries_obligation.result (obligation_asked args.words.now c.carries_obligation.ensures) c.said-in-4.ensures.0 c.said-in-4.ensures.1)
+    told_by_number args.call 4 args.words.now args.out.now c.in-4.is (told_reply c.carries_obligation.result c.map-in-4.result (obligation_asked args.words.now c.carries_obligation.ensures) c.map-in-4.ensures.cases (λ x y p. search rules) c.replied-in-4.ensures.0 c.replied-in-4.ensures.1)
 
 pub returns-in_default : goal.returns-in_default
 returns-in_default c =

@@ -3,4 +3,4 @@ use Rattle.vierskof.proofs.Writing.{writes}
 use Rattle.vierskof.proofs.vierskof_apply_windows.Goals as goal
 
 pub returns : goal.returns
-returns c = writes c.apply_windows.ensures c.written.ensures
+returns c = writes c.apply_windows.ensures c.returned.ensures

@@ -3,4 +3,4 @@ use Rattle.vierskof.proofs.Writing.{writes}
 use Rattle.vierskof.proofs.vierskof_complete_residual_by_levels.Goals as goal
 
 pub returns : goal.returns
-returns c = writes c.complete_residual_by_levels.ensures c.written.ensures
+returns c = writes c.complete_residual_by_levels.ensures c.returned.ensures

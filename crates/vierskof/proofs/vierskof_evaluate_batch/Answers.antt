@@ -3,4 +3,4 @@ use Rattle.vierskof.proofs.Writing.{batches}
 use Rattle.vierskof.proofs.vierskof_evaluate_batch.Goals as goal
 
 pub returns : goal.returns
-returns c = batches c.evaluate_batch.ensures c.batched.ensures
+returns c = batches c.evaluate_batch.ensures c.returned.ensures

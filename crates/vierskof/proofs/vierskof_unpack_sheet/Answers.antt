@@ -3,4 +3,4 @@ use Rattle.vierskof.proofs.Writing.{writes}
 use Rattle.vierskof.proofs.vierskof_unpack_sheet.Goals as goal
 
 pub returns : goal.returns
-returns c = writes c.unpack_sheet.ensures c.written.ensures
+returns c = writes c.unpack_sheet.ensures c.returned.ensures

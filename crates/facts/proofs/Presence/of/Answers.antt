@@ -1,5 +1,6 @@
 -- `facts::Presence::of` meets its contract: silent past the end, else by the three readings of a field. Assumes nothing.
 use mathlib.Core.Path.{refl, sym}
+use native.Mathlib.Omega.{arith}
 use Rattle.facts.specs.AnswerLaws.{other_field}
 use Rattle.facts.proofs.Fields.{table_in_lem, table_past}
 use Rattle.facts.proofs.Presence.of.Goals as goal
@@ -17,4 +18,4 @@ returns-in-1 c =
 
 pub returns-in_default : goal.returns-in_default
 returns-in_default c =
-    rw (table_in_lem c.args.facts.now c.args.fact c.if-facts-fact.false, sym c.field.ensures) (other_field c.field.result c.in_default.in_default-own.rest.0.1 c.in_default.in_default-own.rest.1)
+    rw (table_in_lem c.args.facts.now c.args.fact c.if-facts-fact.false, sym c.field.ensures) (other_field c.field.result (omega arith) (omega arith))

@@ -1,8 +1,0 @@
--- `unpack::step_of` meets its contract: by what the check found. Assumes nothing.
-use Rattle.unpack.proofs.step_of.Goals as goal
-
-pub returns-in-Next : goal.returns-in-Next
-returns-in-Next c = rw c.in-Next.is
-
-pub returns-in-Refused : goal.returns-in-Refused
-returns-in-Refused c = rw c.in-Refused.is

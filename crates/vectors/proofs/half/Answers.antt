@@ -1,9 +1,0 @@
--- `vectors::half` meets its contract: by the place. Assumes nothing.
-use borrow.Author.Tests.{eq-eqb, ne_eqb}
-use Rattle.vectors.proofs.half.Goals as goal
-
-pub returns-then-place-eq0 : goal.returns-then-place-eq0
-returns-then-place-eq0 c = rw (eq-eqb _ _ c.if-place-eq0.true)
-
-pub returns-else-place-eq0 : goal.returns-else-place-eq0
-returns-else-place-eq0 c = rw (ne_eqb _ _ c.if-place-eq0.false)

@@ -1,5 +1,5 @@
 -- What the calls answer and leave in the output: document 01's number and word count for each case.
-use Rattle.std.specs.Prelude.{◌≡◌, Bool, cond, List, ◌++◌, map, ℕ, ◌*◌, ◌≤◌, leb, length, take, drop, Result, Ok, Err}
+use Rattle.std.specs.Prelude.{◌≡◌, Bool, cond, List, ◌++◌, map, ℕ, ◌*◌, ◌≤◌, leb, length, drop, Result, Ok, Err}
 use Rattle.model.specs.Facts.{Table}
 use Rattle.model.specs.Fields.{pack}
 use Rattle.model.specs.Policy.{Policy}

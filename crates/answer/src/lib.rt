@@ -8,44 +8,43 @@ ghost use Rattle.clause.specs.Room.{RoomToName};
 ghost use Rattle.model.specs.Writing.{sheet_bits};
 ghost use Rattle.answer.specs.Answers.{Answered, Put, Numbered, copied};
 
+use condition::Walk;
 use decision::Decision;
-use policy_model::{COUNTS, KIND};
+use policy_model::{COUNTS, KIND, Status};
 use refusal::Refusal;
 
 // How many words were written, or why none were.
 pub type Answer = Result<usize, Refusal>;
 
 // Writes the Resolved record of a decision and the consulted entries, if there is room for it. Its length is known before a word changes.
+#[tactic(auto, using(crate::proofs::Putting::size_small, clause::proofs::AnswerLaws::few_facts, clause::proofs::AnswerLaws::held_taken, clause::proofs::AnswerLaws::named_taken, crate::proofs::Putting::put_long))]
 pub fn put_record(
-    words: &[u32],
+    walk: &Walk<'_>,
     decision: Decision,
-    facts: &[u8],
     entries: &[u16],
     buf: &[u8],
     named: &mut [u16],
     out: &mut [u32],
 ) -> Answer
-    requires { Few decision × RoomToUnite 1 buf.now × (length entries.now ≤ fact_count) × RoomToName words.now named.old }
-    ensures { Put words.now (table_of facts.now) buf.now decision entries.now out.old out.new result }
+    requires { Few decision × RoomToUnite 1 buf.now × (length entries.now ≤ fact_count) × RoomToName walk.now.words.now named.old }
+    ensures { Put walk.now.words.now (table_of walk.now.facts.now) buf.now decision entries.now out.old out.new result }
 {
     let mut obligations = [0u8; decision::LIST_ROOM];
-    let held = decision::obligations(words, decision, buf, &mut obligations);
-    let count = clause::clause_facts(words, decision.clause, facts, named);
+    let held = decision::obligations(walk.words, decision, buf, &mut obligations);
+    let count = clause::clause_facts(walk, decision.clause, named);
     if !clause::countable(decision.permit, held, count) {
         return Err(Refusal::Room);
     }
     let size = clause::decision_words(decision.permit, held, count);
-    if out.len() < 1 + (entries.len() + 1) / 2 + size {
+    if out.len() < 1 + policy_model::entry_words(entries.len() as u32) + size {
         return Err(Refusal::Room);
     }
-    let front = record::write_front(true, entries, entries.len(), out);
+    let front = record::write_front(Status::Resolved, entries, out);
     let rest = clause::write_decision(
-        words,
+        walk.words,
         decision,
-        &obligations,
-        held,
-        named,
-        count,
+        &obligations[..held],
+        &named[..count],
         &mut out[front..],
     );
     Ok(front + rest)

@@ -1,5 +1,5 @@
 -- Laws that several proofs cite.
-mod Handed
+pub mod Handed
 mod Bytes
 mod Running
 mod Requests

@@ -1,9 +1,9 @@
 -- A request: its table, and the sheet that decides it. Assumes nothing.
-use mathlib.Core.Path.{◌≡◌, refl, sym, ◌∙◌, ap, subst}
-use mathlib.Core.Bool.{Bool, true, false, cond, ◌&&◌, and-false, and-eq-true_iff}
-use mathlib.Core.Option.{Option, none, some}
+use mathlib.Core.Path.{◌≡◌, refl, sym, ap, subst}
+use mathlib.Core.Bool.{Bool, true, cond, and-eq-true_iff}
+use mathlib.Core.Option.{Option, some}
 use mathlib.Core.List.{List, [], ◌∷◌, ◌++◌}
-use Prim.Native.Nat.{ℕ, ◌+◌, ◌-◌, ◌/◌, ◌%◌, ◌^◌, ◌≤◌, ◌<◌}
+use Prim.Native.Nat.{ℕ, ◌-◌, ◌%◌, ◌^◌, ◌≤◌, ◌<◌}
 use native.Mathlib.Omega.{arith}
 use borrow.Author.Tests.{le-leb, lt-leb}
 use lib.Dec.{leb}
@@ -13,13 +13,11 @@ use Rattle.model.specs.Facts.{table_of, table_bytes, known_facts, table_fault, f
 use Rattle.model.specs.Outcome.{Outcomes}
 use Rattle.model.specs.Reading.{sheet_words, sheet_length, read_sheet}
 use Rattle.model.specs.Calls as calls
-use Rattle.model.specs.Register as register
-use Rattle.model.specs.Register.{in_force}
 use Rattle.model.specs.Record.{evaluated}
 use Rattle.model.specs.Visits.{visits}
 use Rattle.model.specs.Batch as model
 use Rattle.model.specs.Batch.{Handed, length_bits, table_words, request_words, bytes_of, table_in, request_of, reply_of, unless_over, visited, decide_by, of_entry, reply}
-use Rattle.std.specs.Prelude.{Option as Maybe, None, Result, Ok, Err}
+use Rattle.std.specs.Prelude.{Option as Maybe, Result, Err}
 use Rattle.refusal.specs.declared.Refusal.{Refusal}
 use Rattle.refusal.specs.declared.Refusal.TheVariants as refusal
 use Rattle.batch.specs.declared.Decided.{Decided}

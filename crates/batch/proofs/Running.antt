@@ -106,9 +106,6 @@ pub record Sofar (all to_come_lem : List model.Reply) (places₀ out₀ places o
 abbrev pub ToCome : Outcomes → List Entry → List Handed → List ℕ → List ℕ → ℕ → ℕ → ℕ → List model.Reply
 ToCome L es hs requests out left used i = replies L es hs left (length (drop used out)) (rest (drop (i * request_words) requests))
 
-pub none_yet_lem : (all : List model.Reply) (places out : List ℕ) → Sofar all all places out places out 0 0
-none_yet_lem all places out = record { numbers = refl; records = refl; words = omega arith }
-
 -- What holds at the loop's test.
 pub record Standing (L : Outcomes) (es : List Entry) (sheets requests : List ℕ) (allowance : ℕ) (places₀ out₀ places out : List ℕ) (left used i : ℕ) : Type 0 where
   pub inside : used ≤ length out

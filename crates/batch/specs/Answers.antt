@@ -1,10 +1,10 @@
 -- What the parts of a batch answer, and what they leave in the output and in the places for the replies. Request 10.
-use Rattle.std.specs.Prelude.{◌≡◌, Bool, true, false, List, ◌++◌, ℕ, ◌+◌, ◌*◌, ◌^◌, ◌<◌, length, drop, Option, Some, None, Result, Ok, Err}
+use Rattle.std.specs.Prelude.{◌≡◌, Bool, true, false, cond, List, [], ◌∷◌, ◌++◌, ℕ, zero, suc, ◌+◌, ◌*◌, ◌/◌, ◌%◌, ◌^◌, ◌<◌, leb, length, take, drop, Option, Some, None, Result, Ok, Err}
 use Rattle.std.specs.Borrow.{Bor}
 use Rattle.std.proofs.Math.Option.{Option as Maybe, none, some}
 use Rattle.model.specs.Writing.{sheet_bits}
 use Rattle.model.specs.Batch as model
-use Rattle.model.specs.Batch.{Handed, handed_over, sheet_of, record_of, records_of, output_after, replies_after}
+use Rattle.model.specs.Batch.{Handed, sheet_of, record_of, records_of, output_after, replies_after}
 use Rattle.refusal.specs.declared.Refusal.{Refusal}
 use Rattle.refusal.specs.Numbers.{by_number}
 use Rattle.batch.specs.declared.Decided.{Decided}
@@ -18,6 +18,18 @@ abbrev pub is_whole : Maybe (List Handed) → Bool
 is_whole none = false
 is_whole (some hs) = true
 
+-- The sheets up to where one ends early; of a list that is whole, all of them. The first number only bounds the recursion.
+abbrev pub whole_by : ℕ → List ℕ → List Handed
+whole_by zero ws = []
+whole_by (suc n) [] = []
+whole_by (suc n) (w ∷ ws) =
+    cond (leb (w % 2 ^ sheet_bits) (length ws))
+    (handed (w / 2 ^ sheet_bits) (take (w % 2 ^ sheet_bits) ws) ∷ whole_by n (drop (w % 2 ^ sheet_bits) ws))
+    []
+
+abbrev pub whole_sheets : List ℕ → List Handed
+whole_sheets ws = whole_by (length ws) ws
+
 -- The sheet of these words; its number is one that a record can carry.
 abbrev pub found_of : ℕ → Option (Bor (List ℕ)) → Maybe Handed
 found_of number (Some words) = some (handed number words.now)
@@ -29,7 +41,7 @@ Carries number None = Unit {0}
 
 pub record Finds (sheets : List ℕ) (number : ℕ) (r : Option (Bor (List ℕ))) : Type 0 where
   pub carries : Carries number r
-  pub finds : (hs : List Handed) → handed_over sheets ≡ some hs → found_of number r ≡ sheet_of number hs
+  pub finds : found_of number r ≡ sheet_of number (whole_sheets sheets)
 
 -- ---- replies
 -- A reply with its refusal as a number.

@@ -2,7 +2,7 @@
 // follow one another in one output. Request 10.
 #![tactic(auto)]
 
-ghost use Rattle.std.specs.Prelude.{◌≡◌, true, List, ◌*◌, ◌^◌, ◌≤◌, ◌<◌, take, drop, length as list_length, Ok};
+ghost use Rattle.std.specs.Prelude.{◌≡◌, true, List, ◌*◌, ◌^◌, ◌≤◌, ◌<◌, take, length as list_length, Ok};
 ghost use Rattle.std.proofs.Math.Option.{none, some};
 ghost use Rattle.model.specs.Writing.{sheet_bits};
 ghost use Rattle.model.specs.Reading.{record_words};
@@ -24,8 +24,6 @@ const REQUEST_WORDS: usize = 66;
 const MOST_REQUESTS: usize = 64;
 
 const LENGTHS: u32 = policy_model::THREE_QUARTERS;
-
-const TABLE_BYTES: usize = 256;
 
 // A sheet that is handed over: number (16), word count (16); then its words.
 const SHEET_COUNTS: u32 = policy_model::HALF;
@@ -60,7 +58,7 @@ fn is_batch(requests: &[u32], allowance: u32) -> bool
         && allowance < ALLOWANCES
 }
 
-// Whether every sheet of the list has its words.
+// Whether every sheet of the list has its words. No `for`: what is left of the list says where the next sheet begins.
 fn is_whole(sheets: &[u32]) -> bool
     ensures { result ≡ is_whole (handed_over sheets.now) }
 {
@@ -74,7 +72,7 @@ fn is_whole(sheets: &[u32]) -> bool
     true
 }
 
-// The first sheet of the number.
+// The first sheet of the number. No `for` here either.
 fn find_sheet(sheets: &[u32], number: u32) -> Option<&[u32]>
     ensures { Finds sheets.now number result }
 {
@@ -90,7 +88,7 @@ fn find_sheet(sheets: &[u32], number: u32) -> Option<&[u32]>
 }
 
 // The table of a request from its words on: those that hold its `length` bytes.
-fn load_table(words: &[u32], length: usize, bytes: &mut [u8; 256])
+fn load_table(words: &[u32], length: usize, bytes: &mut [u8; facts::TABLE_BYTES])
     requires { (length ≤ 256) × (table_words ≤ list_length words.now) × (list_length bytes.old ≡ 256) }
     ensures { (take length bytes.new ≡ table_in length (take table_words words.now)) × (list_length bytes.new ≡ 256) }
 {
@@ -111,7 +109,8 @@ fn decide_by(
     requires { number < 2 ^ sheet_bits }
     ensures { Replies (decide_by (outcomes_of (carried outcomes.entry)) (some (handed number sheet.now)) facts.now left (list_length out.old)) out.old out.new result }
 {
-    calls::judge_sheet(sheet, number, facts, TableKind::Known, outcomes)?;
+    let most = outcome::most(outcomes);
+    calls::judge_sheet(sheet, number, facts, TableKind::Known, most)?;
     let Some(nodes) = visits::visits(sheet, facts, left) else {
         return Err(Refusal::Allowance);
     };
@@ -133,13 +132,13 @@ fn decide_request(
     ensures { Replies (decide_by (outcomes_of (carried outcomes.entry)) (some (handed number sheet.now)) (request_of request.now).facts left (list_length out.old)) out.old out.new result }
 {
     let length = (request[0] % LENGTHS) as usize;
-    if length > TABLE_BYTES {
+    if length > facts::TABLE_BYTES {
         if sheet.is_empty() || sheet.len() > policy_model::SHEET_WORDS {
             return Err(Refusal::Length);
         }
         return Err(Refusal::TableLength);
     }
-    let mut bytes = [0u8; 256];
+    let mut bytes = [0u8; facts::TABLE_BYTES];
     load_table(&request[2..], length, &mut bytes);
     decide_by(outcomes, sheet, number, &bytes[..length], left, out)
 }
@@ -168,6 +167,7 @@ fn number_of(reply: Reply) -> u64
 
 impl Desk<'_> {
     // The reply to a request: none where no sheet is in force or that one wasn't handed over.
+    #[tactic(auto, using(crate::proofs::Handed::found))]
     fn reply_to(&self, request: &[u32], left: u32, out: &mut [u32]) -> Reply
         requires { (list_length self.now.entries.now ≤ register_words) × (request_words ≤ list_length request.now) }
         ensures { (hs : List Handed) → handed_over self.now.sheets.now ≡ some hs → Replies (reply (outcomes_of (carried self.now.outcomes)) (entries_of self.now.entries.now) hs left (list_length out.old) (request_of request.now)) out.old out.new result }
@@ -224,7 +224,7 @@ impl Desk<'_> {
     }
 }
 
-// Runs a batch, and returns the words written in all.
+// Runs a batch, and returns the words written in all. Two functions, one for each exported call.
 pub fn evaluate_batch<'a>(
     entries: &'a [u32],
     sheets: &'a [u32],

@@ -1,9 +1,13 @@
 -- The widths of fields that depend on what the node says. Request 11.
-use Rattle.std.specs.Prelude.{cond, [], ◌∷◌, ℕ, ◌+◌, ◌^◌, eqb, ltb, get_or}
+use Rattle.std.specs.Prelude.{Bool, cond, ◌||◌, [], ◌∷◌, ℕ, ◌+◌, ◌^◌, eqb, leb, ltb, get_or}
 use Rattle.model.specs.Fields.{bits}
 use Rattle.model.specs.Facts.{fact_bits}
 use Rattle.model.specs.Outcome.{outcome_bits}
 use Rattle.model.specs.Writing.{count_bits, mark_bits}
+
+-- A Grant, a PermitWithTrace and a DenyWithTrace have lists.
+unfoldable pub has_lists : ℕ → Bool
+has_lists kind = eqb kind 8 || leb 12 kind
 
 -- What follows the kind of a node without lists: the fact of a Has, the count of a list, the outcome of a Permit.
 unfoldable pub plain_width : ℕ → ℕ

@@ -4,7 +4,7 @@
 ghost use Rattle.std.specs.Prelude.{◌≡◌, ◌+◌, ◌*◌, ◌^◌, ◌≤◌, ◌<◌, length, drop, get_or};
 ghost use Rattle.model.specs.Fields.{joined};
 ghost use Rattle.model.specs.Bits.{run_of};
-ghost use Rattle.bits.specs.Widths.{plain_width, mark_width, denied_width};
+ghost use Rattle.bits.specs.Widths.{has_lists, plain_width, mark_width, denied_width};
 ghost use Rattle.bits.specs.WindowLaws.{window, Bytes4};
 ghost use Rattle.bits.specs.Splice.{low, Stored, Spliced};
 
@@ -25,7 +25,16 @@ pub const OUTCOME_BITS: u32 = 16;
 
 pub const MARK_BITS: u32 = 16;
 
+// Whether a kind's nodes have lists.
+#[tactic(auto, unfolding(crate::specs::Widths::has_lists))]
+pub fn has_lists(kind: u32) -> bool
+    ensures { result ≡ has_lists kind }
+{
+    kind == policy_model::KIND_GRANT || kind >= policy_model::KIND_PERMIT_WITH_TRACE
+}
+
 // The bits of a node without lists after its kind: a fact, a count, an outcome, or none. A kind is a number: it is a field of document 01's form.
+#[tactic(auto, unfolding(crate::specs::Widths::plain_width))]
 pub fn plain_bits(kind: u32) -> u32
     ensures is { result ≡ plain_width kind }
     ensures few { result ≤ 16 }
@@ -42,6 +51,7 @@ pub fn plain_bits(kind: u32) -> u32
 }
 
 // The bits of a label or reason: an absent one has its present bit only.
+#[tactic(auto, unfolding(crate::specs::Widths::mark_width))]
 pub fn mark_bits(half: u32) -> u32
     ensures { result ≡ mark_width half }
 {
@@ -53,6 +63,7 @@ pub fn mark_bits(half: u32) -> u32
 }
 
 // The bits of a DenyWithTrace's outcome after its present bit.
+#[tactic(auto, unfolding(crate::specs::Widths::denied_width))]
 pub fn denied_bits(word: u32) -> u32
     ensures { result ≡ denied_width word }
 {
@@ -97,14 +108,14 @@ pub fn bits_at(bytes: &[u8], at: usize, width: u32) -> u32
     ((u64::from(window_at(bytes, at / 8)) >> (32 - skipped - width)) % (1 << width)) as u32
 }
 
-// Stores the first `count` of a number's four bytes, apart from the common case: the copy is a call, which that one would save its registers for.
-#[cold]
-#[inline(never)]
+// Stores the first `count` of a number's four bytes. By shifts, since a copy of so few bytes is a call that costs more than the loop.
 fn put_few(window: u32, count: usize, out: &mut [u8])
     requires { (count ≤ 4) × (count ≤ length out.old) }
     ensures { Stored count window out.old out.new }
 {
-    out[..count].copy_from_slice(&window.to_be_bytes()[..count]);
+    for i in 0..count {
+        out[i] = ((window >> (24 - 8 * i)) % 256) as u8;
+    }
 }
 
 // The same, but all four where there is room, as there nearly always is: the end of a loop of 1 to 4 turns is mispredicted.

@@ -19,10 +19,8 @@ const FIRST_YEAR: u32 = 1900;
 
 const LAST_YEAR: u32 = 2199;
 
-// How many days a month has, by its number, in a common year; and how many stand before it.
+// How many days a month has, by its number, in a common year.
 const DAYS: [u32; 13] = [0, 31, 28, 31, 30, 31, 30, 31, 31, 30, 31, 30, 31];
-
-const DAYS_BEFORE: [u32; 13] = [0, 0, 31, 59, 90, 120, 151, 181, 212, 243, 273, 304, 334];
 
 fn is_leap(year: u32) -> bool
     ensures { result ≡ leap year }
@@ -34,13 +32,13 @@ fn is_leap(year: u32) -> bool
 fn month_days(year: u32, month: u32) -> u32
     ensures { result ≡ month_days year month }
 {
-    if month > 12 {
-        return 0;
-    }
     if month == 2 && is_leap(year) {
         return 29;
     }
-    DAYS[month as usize]
+    match DAYS.get(month as usize) {
+        Some(days) => *days,
+        None => 0,
+    }
 }
 
 // The days of the years before a year, by how many years those are. Of 1900 to 2199 each fourth year is a leap year but 1900 and 2100.
@@ -87,12 +85,11 @@ impl Date {
         requires { date_exists (date_of self) ≡ true }
         ensures { result ≡ day_number (date_of self) }
     {
-        let month = self.month as usize;
-        let number = years_days(self.year - FIRST_YEAR) + DAYS_BEFORE[month] + (self.day - 1);
-        if month > 2 && is_leap(self.year) {
-            return number + 1;
+        let mut days = years_days(self.year - FIRST_YEAR) + (self.day - 1);
+        for month in 1..self.month {
+            days += month_days(self.year, month);
         }
-        number
+        days
     }
 
     // That of 29 February falls on 1 March in common years.

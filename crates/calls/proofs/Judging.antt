@@ -1,11 +1,10 @@
--- What is judged, cause by cause, and a call by what was judged. Assumes nothing.
+-- What is judged, and a call by what was judged. Assumes nothing.
 use mathlib.Core.Path.{◌≡◌, refl, sym, ◌∙◌, ap, subst}
-use mathlib.Core.Bool.{Bool, true, false, ◌&&◌, and-false, and-eq-true_iff}
+use mathlib.Core.Bool.{Bool, true, false, ◌&&◌, and-eq-true_iff}
 use mathlib.Core.Option.{Option, none, some}
 use mathlib.Core.List.{List}
-use Prim.Native.Nat.{ℕ, ◌≤◌, ◌<◌}
-use native.Mathlib.Omega.{arith}
-use borrow.Author.Tests.{le-leb, lt-leb, leb-true}
+use Prim.Native.Nat.{ℕ, ◌≤◌}
+use borrow.Author.Tests.{leb-true}
 use lib.Dec.{leb}
 use Rattle.model.specs.Reading.{Parsed, refuse, got}
 use Rattle.model.specs.Calls as model
@@ -14,36 +13,15 @@ use Rattle.refusal.specs.declared.Refusal.{Refusal}
 use Rattle.answer.specs.Answers.{Answer, Answered}
 use Rattle.calls.specs.Judged.{judged, of_number}
 
--- ---- the causes, of 1 to `most` words
-module _ {A : Type 0} (n most : ℕ) (fault : Option ℕ) (q : Parsed A) where
-  abbrev Judged : Parsed A
-  Judged = judged (leb 1 n && leb n most) fault q
-
-  pub no_words : n ≡ 0 → Judged ≡ refuse 1
-  no_words h = ap (λ b. judged (b && leb n most) fault q) (lt-leb 1 n (omega arith))
-
-  pub too_many_words : most < n → Judged ≡ refuse 1
-  too_many_words h = ap (λ b. judged (leb 1 n && b) fault q) (lt-leb n most h) ∙ ap (λ b. judged b fault q) (and-false (leb 1 n))
-
-  module _ (some_words : n ≡ 0 → ⊥) (few : n ≤ most) where
-    past_length : Judged ≡ judged true fault q
-    past_length = ap (λ b. judged b fault q) ((and-eq-true_iff (leb 1 n) (leb n most)).1 (le-leb 1 n (omega arith), le-leb n most few))
-
-    pub bad_table : (m : ℕ) → some m ≡ fault → Judged ≡ refuse m
-    bad_table m e = past_length ∙ ap (λ o. judged true o q) (sym e)
-
-    pub good_table : none ≡ fault → Judged ≡ q
-    good_table e = past_length ∙ ap (λ o. judged true o q) (sym e)
-
 -- ---- words of the right number, and others
 pub right_number : {A : Type 0} (b : Bool) (q : Parsed A) → b ≡ true → q ≡ of_number b q
 right_number b (refuse n) e = refl
 right_number b (got x vs) e = rw e
 
 number_got : {A : Type 0} (b : Bool) (q : Parsed A) (x : A) (vs : List ℕ) → of_number b q ≡ got x vs → (b ≡ true) × (q ≡ got x vs)
-number_got b (refuse n) x vs e = let z : ◌≡◌ {A = ℕ} 0 1 = cc in absurd (omega arith)
+number_got b (refuse n) x vs e = cc
 number_got true (got y us) x vs e = (refl, e)
-number_got false (got y us) x vs e = let z : ◌≡◌ {A = ℕ} 0 1 = cc in absurd (omega arith)
+number_got false (got y us) x vs e = cc
 
 -- ---- what was judged fine
 module _ {A : Type 0} (long : Bool) (fault : Option ℕ) (right : Bool) (q : Parsed A) where
@@ -52,8 +30,8 @@ module _ {A : Type 0} (long : Bool) (fault : Option ℕ) (right : Bool) (q : Par
     where
       by : (b : Bool) (o : Option ℕ) → judged b o (of_number right q) ≡ got x vs → (b ≡ true) × (right ≡ true) × (q ≡ got x vs)
       by true none e = let read = number_got right q x vs e in (refl, read.0, read.1)
-      by true (some m) e = let z : ◌≡◌ {A = ℕ} 0 1 = cc in absurd (omega arith)
-      by false o e = let z : ◌≡◌ {A = ℕ} 0 1 = cc in absurd (omega arith)
+      by true (some m) e = cc
+      by false o e = cc
 
   -- A call answers what was judged.
   pub by_judged : (k : A → model.Answer) (p : Parsed A) → judged long fault (of_number right q) ≡ p → {before after : List ℕ} {r : Answer} → Answered (model.on_read p k) before after r →

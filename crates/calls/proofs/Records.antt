@@ -80,7 +80,7 @@ tree_made {ws = ws} {at = at} m t l vs q c p =
 refused_by : (n : ℕ) (q : Parsed (Record Outcome)) → refuse n ≡ lead_of q → q ≡ refuse n
 unfolding lead_of
 refused_by n (refuse m) e = ap refuse (let h : m ≡ n = cc in h)
-refused_by n (got x ws) e = let z : ◌≡◌ {A = ℕ} 0 1 = cc in let b : ⊥ = omega arith in absurd b
+refused_by n (got x ws) e = cc
 
 module _ (g : Option OutcomeTable) (kind : TableKind) (number : ℕ) (ws facts : List ℕ) where
   -- What is known of a record that was judged fine.
@@ -139,7 +139,7 @@ module _ (g : Option OutcomeTable) (kind : TableKind) (number : ℕ) (ws facts :
           read_record ws ≡ got (record { body = body; log = l }) vs → 14 ≡ lead_kind body → Answered (Made (record { body = body; log = l })) out after r
       body_copied {after} {r} h (resolved d) l vs long right q k =
           subst (λ x. Answered x out after r) (sym (ap (λ x. model.under number (write (length out) x)) (back d l) ∙ came_back number ws (length out) d l vs long right q)) h
-      body_copied h (pending t) l vs long right q k = let z : ⊥ = omega arith in absurd z
+      body_copied h (pending t) l vs long right q k = absurd (omega arith)
 
       pub record_copied : outcome_count g ≤ 65536 → {after : List ℕ} {r : Answer} (lead count at : ℕ) → lead ≡ 14 → got (record { kind = lead; consulted = count; tree = at }) [] ≡ lead_of (judged_record g kind number ws facts) →
           ((x : Record Outcome) (vs : List ℕ) → read_record ws ≡ got x vs → count ≡ length x.log → false ≡ against x.log) → Answered (copied ws (length out)) out after r → Answered Call out after r
@@ -149,7 +149,7 @@ module _ (g : Option OutcomeTable) (kind : TableKind) (number : ℕ) (ws facts :
       body_made : {written : List ℕ} {a : Answer} {count at : ℕ} → Makes made ws count at out written a → (body : ReducedPolicy Outcome) (l : Consulted) (vs : List ℕ) →
           read_record ws ≡ got (record { body = body; log = l }) vs → 15 ≡ lead_kind body → count ≡ length l → at ≡ 1 + pairs l →
           Answered (write (length out) (from body l)) out written a
-      body_made m (resolved d) l vs q k c p = let z : ⊥ = omega arith in absurd z
+      body_made m (resolved d) l vs q k c p = absurd (omega arith)
       body_made {written} {a} m (pending t) l vs q k c p = subst (λ x. Answered (write (length out) x) out written a) (sym (forth t l)) (tree_made m t l vs q c p)
 
       pub record_made : outcome_count g ≤ 65536 → {written after : List ℕ} {a r : Answer} (lead count at : ℕ) → lead ≡ 15 → got (record { kind = lead; consulted = count; tree = at }) [] ≡ lead_of (judged_record g kind number ws facts) →

@@ -31,18 +31,13 @@ use Rattle.calls.proofs.Judging.{judged_got, by_judged, few_words_lem}
 
 refused_by : (n : ℕ) (q : Parsed (Policy Outcome)) → some n ≡ refusal q → q ≡ refuse n
 refused_by n (refuse m) e = ap refuse (let h : m ≡ n = cc in h)
-refused_by n (got t ws) e = let z : ◌≡◌ {A = ℕ} 0 1 = cc in let b : ⊥ = omega arith in absurd b
+refused_by n (got t ws) e = cc
 
 module _ (g : Option OutcomeTable) (kind : TableKind) (number : ℕ) (sheet facts : List ℕ) where
   pub sheet_few : none ≡ refusal (judged_sheet g kind number sheet facts) → length sheet ≤ record_words
   sheet_few e =
       was_read (judged_sheet g kind number sheet facts) e (λ t vs e.
       omega (arith, few_words_lem (length sheet) sheet_words (judged_got (sheet_length sheet) (table_fault kind facts) (is_sheet_number number) (read_sheet_by g sheet) t vs e).0))
-
-  pub sheet_number_lem : none ≡ refusal (judged_sheet g kind number sheet facts) → number < 2 ^ sheet_bits
-  sheet_number_lem e =
-      was_read (judged_sheet g kind number sheet facts) e (λ t vs e.
-      ltb-true number (2 ^ sheet_bits) (judged_got (sheet_length sheet) (table_fault kind facts) (is_sheet_number number) (read_sheet_by g sheet) t vs e).1)
 
   -- The call makes a record of the tree, with nothing consulted before, and puts the number into it.
   module _ (made : Policy Outcome → Consulted → Record Outcome) (out : List ℕ) where

@@ -1,12 +1,14 @@
 // The calls that write a record, after gatekeep's evaluate and partial: words and bytes in, a record of words out, or a refusal that leaves the output as it was.
+// Each is a function for sets of products, of a reduction one for each order, and one by an outcome table, since the C interface exports one for each.
 #![tactic(auto)]
 
-ghost use Rattle.std.specs.Prelude.{◌≡◌, ◌≤◌, length, OnOk};
-ghost use Rattle.std.proofs.Math.Option.{none, some};
+ghost use Rattle.std.specs.Prelude.{◌≡◌, ◌≤◌, length};
+ghost use Rattle.std.proofs.Math.Option.{Option, none, some};
 ghost use Rattle.refusal.specs.Numbers.{refused};
 ghost use Rattle.outcome.specs.Carried.{table, carried};
 ghost use Rattle.model.specs.Facts.{table_of};
 ghost use Rattle.model.specs.Levels.{outcome_count};
+ghost use Rattle.model.specs.Levels as model;
 ghost use Rattle.model.specs.Partial.{permits_first, sheet_order};
 ghost use Rattle.model.specs.Reading.{record_words};
 ghost use Rattle.model.specs.Calls.{has_number, is_sheet_number};
@@ -20,21 +22,19 @@ ghost use Rattle.partial_policy.specs.Reducing.{order_of};
 ghost use Rattle.calls.specs.Judged.{read_sheet_by, read_record_by, of_number, judged_sheet, judged_record};
 
 use answer::Answer;
+use condition::Walk;
+use evaluate::Evaluation;
 use facts::TableKind;
 use outcome::OutcomeTable;
+use partial_policy::{Order, Reduction};
 use policy_model::{RecordHead, Status};
 use refusal::Refusal;
 
-// Checks a sheet: its words, and its number, which a record has to be able to carry.
-fn check_sheet(
-    sheet: &[u32],
-    number: u32,
-    outcomes: Option<OutcomeTable<'_>>,
-) -> Result<(), Refusal>
-    ensures read { refused result ≡ refusal (of_number (is_sheet_number number) (read_sheet_by (carried outcomes.entry) sheet.now)) }
-    ensures few { OnOk result (outcome_count (carried outcomes.entry) ≤ 65536) }
+// Checks a sheet: its words, with `most` outcomes, and its number, which a record has to be able to carry.
+fn check_sheet(sheet: &[u32], number: u32, most: u32) -> Result<(), Refusal>
+    ensures { (g : Option model.OutcomeTable) → most ≡ outcome_count g → refused result ≡ refusal (of_number (is_sheet_number number) (read_sheet_by g sheet.now)) }
 {
-    policy_model::check_sheet(sheet, outcome::most(outcomes))?;
+    policy_model::check_sheet(sheet, most)?;
     if number < policy_model::SHEET_NUMBERS {
         Ok(())
     } else {
@@ -43,15 +43,10 @@ fn check_sheet(
 }
 
 // Checks a record: its words, and its number, which is the one expected.
-fn check_record(
-    words: &[u32],
-    number: u32,
-    outcomes: Option<OutcomeTable<'_>>,
-) -> Result<RecordHead, Refusal>
-    ensures read { record_lead result ≡ lead_of (of_number (has_number words.now number) (read_record_by (carried outcomes.entry) words.now)) }
-    ensures few { OnOk result (outcome_count (carried outcomes.entry) ≤ 65536) }
+fn check_record(words: &[u32], number: u32, most: u32) -> Result<RecordHead, Refusal>
+    ensures { (g : Option model.OutcomeTable) → most ≡ outcome_count g → record_lead result ≡ lead_of (of_number (has_number words.now number) (read_record_by g words.now)) }
 {
-    let head = policy_model::check_record(words, outcome::most(outcomes))?;
+    let head = policy_model::check_record(words, most)?;
     if policy_model::sheet_number(words) == number {
         Ok(head)
     } else {
@@ -65,34 +60,33 @@ pub fn judge_sheet(
     number: u32,
     facts: &[u8],
     kind: TableKind,
-    outcomes: Option<OutcomeTable<'_>>,
+    most: u32,
 ) -> Result<(), Refusal>
-    ensures few { OnOk result (outcome_count (carried outcomes.entry) ≤ 65536) }
-    ensures judged { refused result ≡ refusal (judged_sheet (carried outcomes.entry) (kind_of kind) number sheet.now facts.now) }
+    ensures { (g : Option model.OutcomeTable) → most ≡ outcome_count g → refused result ≡ refusal (judged_sheet g (kind_of kind) number sheet.now facts.now) }
 {
     if sheet.len() == 0 || sheet.len() > policy_model::SHEET_WORDS {
         return Err(Refusal::Length);
     }
     facts::check_table(facts, kind)?;
-    check_sheet(sheet, number, outcomes)
+    check_sheet(sheet, number, most)
 }
 
-// Judges a record and its table, and says what the record is.
+// Judges a record and its table, and says what the record is. Beside `judge_sheet`: another range of lengths, another check and another answer.
+#[tactic(auto, unfolding(policy_model::specs::Answers::lead_of))]
 fn judge_record(
     words: &[u32],
     number: u32,
     facts: &[u8],
     kind: TableKind,
-    outcomes: Option<OutcomeTable<'_>>,
+    most: u32,
 ) -> Result<RecordHead, Refusal>
-    ensures few { OnOk result (outcome_count (carried outcomes.entry) ≤ 65536) }
-    ensures judged { record_lead result ≡ lead_of (judged_record (carried outcomes.entry) (kind_of kind) number words.now facts.now) }
+    ensures { (g : Option model.OutcomeTable) → most ≡ outcome_count g → record_lead result ≡ lead_of (judged_record g (kind_of kind) number words.now facts.now) }
 {
     if words.len() == 0 || words.len() > policy_model::RECORD_WORDS {
         return Err(Refusal::Length);
     }
     facts::check_table(facts, kind)?;
-    check_record(words, number, outcomes)
+    check_record(words, number, most)
 }
 
 // Decides a sheet that was judged: a tree at 0 with nothing consulted before it.
@@ -105,7 +99,14 @@ pub fn decide(
     requires { length sheet.now ≤ record_words }
     ensures { Makes (completed_after (carried outcomes.entry) (table_of facts.now)) sheet.now 0 0 out.old out.new result }
 {
-    completion::complete(sheet, 0, 0, facts, outcomes, out)
+    let evaluation = Evaluation {
+        walk: Walk {
+            words: sheet,
+            facts,
+        },
+        outcomes,
+    };
+    completion::complete(&evaluation, 0, 0, out)
 }
 
 // Judges a sheet with a known table, and decides it, by the outcomes of a table or by sets of products.
@@ -118,7 +119,8 @@ fn evaluate_by(
 ) -> Answer
     ensures { Answered (evaluate_by (carried outcomes.entry) number sheet.now facts.now (length out.old)) out.old out.new result }
 {
-    judge_sheet(sheet, number, facts, TableKind::Known, outcomes)?;
+    let most = outcome::most(outcomes);
+    judge_sheet(sheet, number, facts, TableKind::Known, most)?;
     let decided = decide(sheet, facts, outcomes, out);
     answer::under_number(decided, number, out)
 }
@@ -150,14 +152,23 @@ fn partial_evaluate_by(
     outcomes: Option<OutcomeTable<'_>>,
     sheet: &[u32],
     number: u32,
-    in_order: bool,
+    order: Order,
     facts: &[u8],
     out: &mut [u32],
 ) -> Answer
-    ensures { Answered (partial_evaluate_by (carried outcomes.entry) (order_of in_order) number sheet.now facts.now (length out.old)) out.old out.new result }
+    ensures { Answered (partial_evaluate_by (carried outcomes.entry) (order_of order) number sheet.now facts.now (length out.old)) out.old out.new result }
 {
-    judge_sheet(sheet, number, facts, TableKind::Partial, outcomes)?;
-    let reduced = partial::reduce(sheet, 0, 0, in_order, facts, outcomes, out);
+    let most = outcome::most(outcomes);
+    judge_sheet(sheet, number, facts, TableKind::Partial, most)?;
+    let evaluation = Evaluation {
+        walk: Walk {
+            words: sheet,
+            facts,
+        },
+        outcomes,
+    };
+    let reduction = Reduction { evaluation, order };
+    let reduced = partial::reduce(&reduction, 0, 0, out);
     answer::under_number(reduced, number, out)
 }
 
@@ -165,7 +176,7 @@ fn partial_evaluate_by(
 pub fn partial_evaluate(sheet: &[u32], number: u32, facts: &[u8], out: &mut [u32]) -> Answer
     ensures { Answered (partial_evaluate_by none permits_first number sheet.now facts.now (length out.old)) out.old out.new result }
 {
-    partial_evaluate_by(None, sheet, number, false, facts, out)
+    partial_evaluate_by(None, sheet, number, Order::PermitsFirst, facts, out)
 }
 
 // Reduces a sheet, and leaves arms in sheet order.
@@ -177,7 +188,7 @@ pub fn partial_evaluate_in_order(
 ) -> Answer
     ensures { Answered (partial_evaluate_by none sheet_order number sheet.now facts.now (length out.old)) out.old out.new result }
 {
-    partial_evaluate_by(None, sheet, number, true, facts, out)
+    partial_evaluate_by(None, sheet, number, Order::SheetOrder, facts, out)
 }
 
 // Reduces a sheet by an outcome table, with permits first or in sheet order.
@@ -186,14 +197,14 @@ pub fn partial_evaluate_by_levels(
     outcomes: &[u8],
     sheet: &[u32],
     number: u32,
-    in_order: bool,
+    order: Order,
     facts: &[u8],
     out: &mut [u32],
 ) -> Answer
-    ensures { Answered (partial_evaluate (some (table levels outcomes.now)) (order_of in_order) number sheet.now facts.now (length out.old)) out.old out.new result }
+    ensures { Answered (partial_evaluate (some (table levels outcomes.now)) (order_of order) number sheet.now facts.now (length out.old)) out.old out.new result }
 {
     let table = outcome_table::accepted(levels, outcomes)?;
-    partial_evaluate_by(Some(table), sheet, number, in_order, facts, out)
+    partial_evaluate_by(Some(table), sheet, number, order, facts, out)
 }
 
 // Judges a record with a table of further facts, which may not contradict it, and narrows it. A Resolved one comes back as it stands.
@@ -201,13 +212,14 @@ fn narrow_residual_by(
     outcomes: Option<OutcomeTable<'_>>,
     words: &[u32],
     number: u32,
-    in_order: bool,
+    order: Order,
     facts: &[u8],
     out: &mut [u32],
 ) -> Answer
-    ensures { Answered (narrow_residual_by (carried outcomes.entry) (order_of in_order) number words.now facts.now (length out.old)) out.old out.new result }
+    ensures { Answered (narrow_residual_by (carried outcomes.entry) (order_of order) number words.now facts.now (length out.old)) out.old out.new result }
 {
-    let head = judge_record(words, number, facts, TableKind::Partial, outcomes)?;
+    let most = outcome::most(outcomes);
+    let head = judge_record(words, number, facts, TableKind::Partial, most)?;
     let consulted = head.consulted as usize;
     if contradiction::contradicted(words, consulted, facts) {
         return Err(Refusal::Contradiction);
@@ -215,9 +227,12 @@ fn narrow_residual_by(
     match head.status {
         Status::Resolved => answer::copy_record(words, out),
         Status::Pending => {
-            let narrowed = partial::reduce(
-                words, consulted, head.tree, in_order, facts, outcomes, out,
-            );
+            let evaluation = Evaluation {
+                walk: Walk { words, facts },
+                outcomes,
+            };
+            let reduction = Reduction { evaluation, order };
+            let narrowed = partial::reduce(&reduction, consulted, head.tree, out);
             answer::under_number(narrowed, number, out)
         }
     }
@@ -227,14 +242,14 @@ fn narrow_residual_by(
 pub fn narrow_residual(words: &[u32], number: u32, facts: &[u8], out: &mut [u32]) -> Answer
     ensures { Answered (narrow_residual_by none permits_first number words.now facts.now (length out.old)) out.old out.new result }
 {
-    narrow_residual_by(None, words, number, false, facts, out)
+    narrow_residual_by(None, words, number, Order::PermitsFirst, facts, out)
 }
 
 // Narrows a record, and leaves arms in sheet order.
 pub fn narrow_residual_in_order(words: &[u32], number: u32, facts: &[u8], out: &mut [u32]) -> Answer
     ensures { Answered (narrow_residual_by none sheet_order number words.now facts.now (length out.old)) out.old out.new result }
 {
-    narrow_residual_by(None, words, number, true, facts, out)
+    narrow_residual_by(None, words, number, Order::SheetOrder, facts, out)
 }
 
 // Narrows a record by an outcome table, with permits first or in sheet order.
@@ -243,14 +258,14 @@ pub fn narrow_residual_by_levels(
     outcomes: &[u8],
     words: &[u32],
     number: u32,
-    in_order: bool,
+    order: Order,
     facts: &[u8],
     out: &mut [u32],
 ) -> Answer
-    ensures { Answered (narrow_residual (some (table levels outcomes.now)) (order_of in_order) number words.now facts.now (length out.old)) out.old out.new result }
+    ensures { Answered (narrow_residual (some (table levels outcomes.now)) (order_of order) number words.now facts.now (length out.old)) out.old out.new result }
 {
     let table = outcome_table::accepted(levels, outcomes)?;
-    narrow_residual_by(Some(table), words, number, in_order, facts, out)
+    narrow_residual_by(Some(table), words, number, order, facts, out)
 }
 
 // Judges a record with a known table, and completes it. A Resolved one comes back as it stands.
@@ -263,12 +278,17 @@ fn complete_residual_by(
 ) -> Answer
     ensures { Answered (complete_residual_by (carried outcomes.entry) number words.now facts.now (length out.old)) out.old out.new result }
 {
-    let head = judge_record(words, number, facts, TableKind::Known, outcomes)?;
+    let most = outcome::most(outcomes);
+    let head = judge_record(words, number, facts, TableKind::Known, most)?;
     match head.status {
         Status::Resolved => answer::copy_record(words, out),
         Status::Pending => {
             let consulted = head.consulted as usize;
-            let completed = completion::complete(words, consulted, head.tree, facts, outcomes, out);
+            let evaluation = Evaluation {
+                walk: Walk { words, facts },
+                outcomes,
+            };
+            let completed = completion::complete(&evaluation, consulted, head.tree, out);
             answer::under_number(completed, number, out)
         }
     }

@@ -1,5 +1,5 @@
 -- For callers: what is gathered for a decision, how many words its node takes, and whether its lists can be counted.
-use Rattle.std.specs.Prelude.{◌≡◌, Bool, cond, not, ◌&&◌, List, ℕ, ◌+◌, ◌≤◌, length}
+use Rattle.std.specs.Prelude.{◌≡◌, Bool, cond, ◌&&◌, List, ℕ, ◌+◌, ◌≤◌, length, take}
 use Rattle.std.proofs.Math.Path.{refl, ap, ap₂}
 use Rattle.std.proofs.Common.{sym, ◌∙◌, arith, leb-true, length-take-le}
 use Rattle.std.proofs.Math.Bool.{true, false}
@@ -20,24 +20,24 @@ use Rattle.decision.specs.Room.{list_room}
 use Rattle.clause.specs.Clauses.{decision_size, countable}
 use Rattle.clause.specs.Answers.{ClauseFacts, Gathered}
 
--- From `decision::obligations` and `clause_facts`.
-pub gathered : {words : List ℕ} {T : Table} {buf os fs : List ℕ} {d : Decision} {held count : ℕ} →
-    Sound words buf d → Held words d buf os held → list_room ≤ length os → ClauseFacts words T d.clause fs count → Gathered words T buf d os held fs count
-gathered s h room f =
-    record {
-      clause = s.clause;
-      held_there = omega (arith, h.few);
-      obligations = λ _. h.front s.held;
-      named_there = f.within;
-      facts = f.front s.clause;
-    }
+-- As many obligations and facts as `decision::obligations` and `clause_facts` say.
+pub held_taken : {words : List ℕ} {buf os : List ℕ} {d : Decision} {held : ℕ} → Held words d buf os held → list_room ≤ length os → length (take held os) ≡ held
+held_taken {os = os} {held = held} h wide = length-take-le held os (omega (arith, h.few))
 
-module _ {words : List ℕ} {T : Table} {buf : List ℕ} {d : Decision} {os : List ℕ} {held : ℕ} {fs : List ℕ} {count : ℕ} (g : Gathered words T buf d os held fs count) where
+pub named_taken : {words : List ℕ} {T : Table} {at : ℕ} {fs : List ℕ} {count : ℕ} → ClauseFacts words T at fs count → length (take count fs) ≡ count
+named_taken {fs = fs} {count = count} f = length-take-le count fs f.within
+
+-- From `decision::obligations` and `clause_facts`.
+module _ {words : List ℕ} {T : Table} {buf os fs : List ℕ} {d : Decision} {held count : ℕ}
+    (s : Sound words buf d) (h : Held words d buf os held) (wide : list_room ≤ length os) (f : ClauseFacts words T d.clause fs count) where
+  pub gathered : Gathered words T buf d (take held os) (take count fs)
+  gathered = record { clause = s.clause; obligations = λ _. h.front s.held; facts = f.front s.clause }
+
   facts_number : length (clause_at words T d.clause).facts ≡ count
-  facts_number = ap length (sym g.facts) ∙ length-take-le count fs g.named_there
+  facts_number = sym (f.number s.clause)
 
   obligations_number : d.permit ≡ true → length (obligations_in words buf d) ≡ held
-  obligations_number e = ap length (sym (g.obligations e)) ∙ length-take-le held os g.held_there
+  obligations_number e = ap length (sym (h.front s.held)) ∙ held_taken h wide
 
   size_by : (b : Bool) → d.permit ≡ b → words_d (cond b (permits (permit_of words T buf d)) (denies (clause_at words T d.clause))) ≡ decision_size b held count
   unfolding permit_of
@@ -59,15 +59,6 @@ module _ {words : List ℕ} {T : Table} {buf : List ℕ} {d : Decision} {os : Li
   unfolding decision_of
   decision_short = short_by d.permit refl
 
--- Of the answer of `countable`, which callers negate.
-pub is_countable : (a : Bool) {b : Bool} → a ≡ b → not a ≡ false → b ≡ true
-is_countable true e k = sym e
-is_countable false e k = sym e ∙ sym k
-
-pub not_countable : (a : Bool) {b : Bool} → a ≡ b → not a ≡ true → b ≡ false
-not_countable true e k = sym e ∙ sym k
-not_countable false e k = sym e
-
 -- What is countable is few.
 and_parts : (a b : Bool) → (a && b) ≡ true → (a ≡ true) × (b ≡ true)
 and_parts true b e = (refl, e)
@@ -76,10 +67,6 @@ and_parts false b e = (e, cc)
 pub few_facts : (b : Bool) (n m : ℕ) → countable b n m ≡ true → m ≤ most_listed
 few_facts true n m e = leb-true m most_listed (and_parts (leb m most_listed) (leb n most_held) e).0
 few_facts false n m e = leb-true m most_listed e
-
-pub few_obligations_lem : (b : Bool) (n m : ℕ) → b ≡ true → countable b n m ≡ true → n ≤ most_held
-few_obligations_lem true n m p e = leb-true n most_held (and_parts (leb m most_listed) (leb n most_held) e).1
-few_obligations_lem false n m p e = leb-true n most_held cc
 
 -- A bound for sums that must not wrap.
 pub node_small : (b : Bool) (n m : ℕ) → n ≤ list_room → m ≤ most_listed → decision_size b n m ≤ 2100

@@ -6,12 +6,9 @@ use mathlib.Core.List.{List, [], ◌∷◌, ◌++◌, map-id}
 use Prim.Native.Nat.{ℕ, suc, ◌+◌, ◌/◌, ◌%◌, ◌≤◌, ◌<◌}
 use native.Mathlib.Omega.{arith}
 use borrow.Author.Tests.{ltb-true}
-use denote.Enum.Declared.{tag_of}
-use types.Run.{OneOf, miss}
 use lib.Dec.{ltb}
 use lib.ListN.{length, take, drop, get_or}
 use lib.Seq.{length-take-le, drop_at, drop-drop, get_or-drop}
-use Rattle.std.specs.Bool.{then_some}
 use Rattle.std.specs.Prelude as prelude
 use Rattle.model.specs.Fields.{words_for, pack}
 use Rattle.model.specs.Facts.{Table}
@@ -25,7 +22,8 @@ use Rattle.model.specs.Products.{Outcome, read_policy}
 use Rattle.laws.proofs.FieldLaws.{Holds, fine, nothing, if_holds, weaker, then_holds, same_list_lem}
 use Rattle.laws.proofs.Lengths.{length_pack}
 use Rattle.laws.proofs.ReadForm.{same_obligation}
-use Rattle.policy_model.specs.contracts.PolicyHead.{the_type}
+use Rattle.policy_model.specs.declared.DenyShape.{DenyShape}
+use Rattle.policy_model.specs.declared.DenyShape.TheVariants.{Forbidden}
 use Rattle.policy_model.specs.declared.PolicyHead.{PolicyHead}
 use Rattle.policy_model.specs.declared.PolicyHead.TheVariants.{Permit, Deny, Grant, All, Any, OrElse, PermitWithTrace, DenyWithTrace, BadKind, BadField}
 use Rattle.policy_model.specs.Heads.{policy_head, bit_of, denied_by, grant_node, permit_trace_node, deny_trace_node, policy_node}
@@ -37,10 +35,10 @@ use Rattle.decision.proofs.Nodes.{node_there, no_clause}
 use Rattle.decisive.specs.declared.Named.{Named}
 use Rattle.decisive.specs.Naming.{eval_of, Decisive}
 use Rattle.decisive.specs.NamingLaws.{told}
-use Rattle.record.specs.Nodes.{mark_in, denied_of}
+use Rattle.record.specs.Nodes.{mark_in, denial_of}
 use Rattle.record.specs.NodeLaws.{mark_in_read}
-use Rattle.clause.specs.declared.Clause.{Clause}
-use Rattle.clause.specs.Clauses.{denial_of, clause_by}
+use Rattle.record.specs.declared.Clause.{Clause}
+use Rattle.clause.specs.Clauses.{clause_by}
 use Rattle.clause.specs.Answers.{FactsListed, ClauseFacts, ClauseIs}
 
 -- ---- what was read
@@ -65,10 +63,10 @@ after_obligations n ws =
     (same_list_lem (λ o. o) obligation same_obligation obligation_bits 3 n ws refl)
 
 -- A grant, a stored permit and a stored deny, by the words after the first one.
-pub record GrantThere (pc : List ℕ → Parsed Condition) (hidden : Bool) (o n : ℕ) (ws : List ℕ) (t : Policy Outcome) (us : List ℕ) : Type 0 where
+pub record GrantThere (pc : List ℕ → Parsed Condition) (shape : DenyShape) (o n : ℕ) (ws : List ℕ) (t : Policy Outcome) (us : List ℕ) : Type 0 where
   pub condition : Condition
   pub obligations : List ℕ
-  pub is : t ≡ grant (record { outcome = o; obligations = obligations; label = mark_in (get_or ws 0 0 / 65536); reason = mark_in (get_or ws 0 0 % 65536); shape = shape_of (bit_of hidden) }) condition
+  pub is : t ≡ grant (record { outcome = o; obligations = obligations; label = mark_in (get_or ws 0 0 / 65536); reason = mark_in (get_or ws 0 0 % 65536); shape = shape_of (bit_of shape) }) condition
   pub read : pc (drop (suc (words_for 4 n)) ws) ≡ got condition us
 
 pub record PermitThere (o n : ℕ) (ws : List ℕ) (d : Decided Outcome) (us : List ℕ) : Type 0 where
@@ -78,16 +76,16 @@ pub record PermitThere (o n : ℕ) (ws : List ℕ) (d : Decided Outcome) (us : L
   pub few : get_or ws 0 0 % 65536 ≤ most_listed
   pub read : read_list listed entry_bits (get_or ws 0 0 % 65536) (drop (suc (words_for 4 n)) ws) ≡ got facts us
 
-pub record DenyThere (hidden denied : Bool) (o : ℕ) (ws : List ℕ) (d : Decided Outcome) (us : List ℕ) : Type 0 where
+pub record DenyThere (shape : DenyShape) (denied : prelude.Option ℕ) (ws : List ℕ) (d : Decided Outcome) (us : List ℕ) : Type 0 where
   pub facts : List ℕ
-  pub is : d ≡ denies (clause_by (get_or ws 0 0 / 65536) (get_or ws 0 0 % 65536) hidden (denied_by denied o) facts)
+  pub is : d ≡ denies (clause_by (get_or ws 0 0 / 65536) (get_or ws 0 0 % 65536) shape (denied_by denied) facts)
   pub few : get_or ws 1 0 ≤ most_listed
   pub read : read_list listed entry_bits (get_or ws 1 0) (drop 2 ws) ≡ got facts us
 
-grant_there : (pc : List ℕ → Parsed Condition) (hidden : Bool) (n o : ℕ) (ws : List ℕ) → Holds (GrantThere pc hidden o n ws) (grant_node pc hidden n o ws)
+grant_there : (pc : List ℕ → Parsed Condition) (shape : DenyShape) (n o : ℕ) (ws : List ℕ) → Holds (GrantThere pc shape o n ws) (grant_node pc shape n o ws)
 unfolding grant_node
-grant_there pc hidden n o [] = nothing
-grant_there pc hidden n o (w ∷ ws) =
+grant_there pc shape n o [] = nothing
+grant_there pc shape n o (w ∷ ws) =
     then_holds (mark (w / 65536)) _ (mark_in_read (w / 65536)) (λ l _ el.
     then_holds (mark (w % 65536)) _ (mark_in_read (w % 65536)) (λ m _ em.
     then_holds (read_list obligation obligation_bits n ws) _ (after_obligations n ws) (λ os vs ev.
@@ -95,7 +93,7 @@ grant_there pc hidden n o (w ∷ ws) =
     fine (record {
       condition = c;
       obligations = os;
-      is = ap₂ (λ x y. grant (record { outcome = o; obligations = os; label = x; reason = y; shape = shape_of (bit_of hidden) }) c) (sym el) (sym em);
+      is = ap₂ (λ x y. grant (record { outcome = o; obligations = os; label = x; reason = y; shape = shape_of (bit_of shape) }) c) (sym el) (sym em);
       read = ap pc ev ∙ ec;
     })))))
 
@@ -115,38 +113,40 @@ permit_there n o (w ∷ ws) =
       read = ap (read_list listed entry_bits (w % 65536)) ev ∙ ef;
     })))))
 
-deny_there : (hidden denied : Bool) (o : ℕ) (ws : List ℕ) → Holds (DenyThere hidden denied o ws) (deny_trace_node hidden denied o ws)
+deny_there : (shape : DenyShape) (denied : prelude.Option ℕ) (ws : List ℕ) → Holds (DenyThere shape denied ws) (deny_trace_node shape denied ws)
 unfolding deny_trace_node
-deny_there hidden denied o [] = nothing
-deny_there hidden denied o (w ∷ []) =
+deny_there shape denied [] = nothing
+deny_there shape denied (w ∷ []) =
     then_holds (mark (w / 65536)) _ (whatever (mark (w / 65536))) (λ l _ _. then_holds (mark (w % 65536)) _ (whatever (mark (w % 65536))) (λ m _ _. nothing))
-deny_there hidden denied o (w ∷ n ∷ ws) =
+deny_there shape denied (w ∷ n ∷ ws) =
     then_holds (mark (w / 65536)) _ (mark_in_read (w / 65536)) (λ l _ el.
     then_holds (mark (w % 65536)) _ (mark_in_read (w % 65536)) (λ m _ em.
     if_holds (ltb n 4096) 8 _ (λ few.
     then_holds (read_list listed entry_bits n ws) _ (as_read (read_list listed entry_bits n ws)) (λ fs us ef.
     fine (record {
       facts = fs;
-      is = ap₂ (λ x y. denies (record { denied = denied_by denied o; facts = fs; label = x; reason = y; shape = shape_of (bit_of hidden) })) (sym el) (sym em);
+      is = ap₂ (λ x y. denies (record { denied = denied_by denied; facts = fs; label = x; reason = y; shape = shape_of (bit_of shape) })) (sym el) (sym em);
       few = omega (arith, ltb-true n 4096 few);
       read = ef;
     })))))
 
--- The other nodes name nothing: the tags of their heads.
-abbrev nameless : List ℕ
-nameless = 0 ∷ 1 ∷ 3 ∷ 4 ∷ 5 ∷ 8 ∷ 9 ∷ []
+-- The other nodes name nothing.
+pub record Nameless (h : PolicyHead) : Type 0 where
+  pub no_grant : (shape : DenyShape) (n o : ℕ) → h ≡ Grant shape n o → ⊥
+  pub no_permit : (n o : ℕ) → h ≡ PermitWithTrace n o → ⊥
+  pub no_deny : (shape : DenyShape) (denied : prelude.Option ℕ) → h ≡ DenyWithTrace shape denied → ⊥
 
-none_there : (pc : List ℕ → Parsed Condition) (p : List ℕ → Parsed (Policy Outcome)) (T : Table) (h : PolicyHead) (ws : List ℕ) → OneOf nameless (tag_of the_type h) →
+none_there : (pc : List ℕ → Parsed Condition) (p : List ℕ → Parsed (Policy Outcome)) (T : Table) (h : PolicyHead) (ws : List ℕ) → Nameless h →
     Holds (λ t _. generic_deny ≡ clause_of T t) (policy_node pc p h ws)
 unfolding policy_node
 none_there pc p T (Permit o) ws k = fine refl
 none_there pc p T Deny ws k = fine refl
-none_there pc p T (Grant hidden n o) ws k = absurd (miss nameless 2 tt k)
+none_there pc p T (Grant shape n o) ws k = absurd (k.no_grant shape n o refl)
 none_there pc p T (All n) ws k = then_holds (many pnil pcons p n ws) _ (whatever (many pnil pcons p n ws)) (λ ts vs _. fine refl)
 none_there pc p T (Any n) ws k = then_holds (many pnil pcons p n ws) _ (whatever (many pnil pcons p n ws)) (λ ts vs _. fine refl)
 none_there pc p T OrElse ws k = then_holds (p ws) _ (whatever (p ws)) (λ a vs _. then_holds (p vs) _ (whatever (p vs)) (λ b us _. fine refl))
-none_there pc p T (PermitWithTrace n o) ws k = absurd (miss nameless 6 tt k)
-none_there pc p T (DenyWithTrace hidden denied o) ws k = absurd (miss nameless 7 tt k)
+none_there pc p T (PermitWithTrace n o) ws k = absurd (k.no_permit n o refl)
+none_there pc p T (DenyWithTrace shape denied) ws k = absurd (k.no_deny shape denied refl)
 none_there pc p T BadKind ws k = nothing
 none_there pc p T BadField ws k = nothing
 
@@ -188,24 +188,24 @@ module _ (words : List ℕ) (T : Table) (at : ℕ) (out : List ℕ) where
   facts_past h = counted words T at out 0 (omega arith) (λ _. ap (λ (d : Denial Outcome). d.facts) (sym (no_clause words T at h)))
 
   module _ (h : PolicyHead) (here : at < length words) (head : h ≡ policy_head (get_or words at 0) true) where
-    pub facts_none : OneOf nameless (tag_of the_type h) → ClauseFacts words T at out 0
+    pub facts_none : Nameless h → ClauseFacts words T at out 0
     facts_none k =
         counted words T at out 0 (omega arith)
         (clause_has words at T h (λ d. [] ≡ d.facts) here head
         (weaker (policy_node condition_below policy_below h (drop (at + 1) words)) (λ t vs e. ap (λ (d : Denial Outcome). d.facts) e) (none_there condition_below policy_below T h (drop (at + 1) words) k)))
 
-  pub facts_grant : (hidden : Bool) (n o start : ℕ) (r : Named) → at < length words → Grant hidden n o ≡ policy_head (get_or words at 0) true → start ≡ at + before_condition_at words at →
+  pub facts_grant : (shape : DenyShape) (n o start : ℕ) (r : Named) → at < length words → Grant shape n o ≡ policy_head (get_or words at 0) true → start ≡ at + before_condition_at words at →
       Decisive T start (read_condition 31 (drop start words)) out r → ClauseFacts words T at out r.count
   unfolding policy_node
-  facts_grant hidden n o start r here head s d =
-      let words_of : words_for 4 n ≡ words_for 4 (obligations_at words at) = ap (words_for 4) (grant_says true (get_or words at 0) hidden n o head).0 in
+  facts_grant shape n o start r here head s d =
+      let words_of : words_for 4 n ≡ words_for 4 (obligations_at words at) = ap (words_for 4) (grant_says true (get_or words at 0) shape n o head).0 in
       counted words T at out r.count d.within
-      (clause_has words at T (Grant hidden n o) (λ q. take r.count out ≡ q.facts) here head
-      (weaker (grant_node condition_below hidden n o (drop (at + 1) words))
+      (clause_has words at T (Grant shape n o) (λ q. take r.count out ≡ q.facts) here head
+      (weaker (grant_node condition_below shape n o (drop (at + 1) words))
       (λ t us g.
       let place : read_condition 31 (drop start words) ≡ got g.condition us = ap (read_condition 31) (sym (later words at (words_for 4 n) start (omega arith))) ∙ g.read in
       sym (ap (λ x. (clause_of T x).facts) g.is ∙ ap named (told g.condition us place d).value_is ∙ named_of r.satisfied (take r.count out)))
-      (grant_there condition_below hidden n o (drop (at + 1) words))))
+      (grant_there condition_below shape n o (drop (at + 1) words))))
 
   -- A stored decision's list was read where the code reads it.
   list_is : (start count r : ℕ) (fs us : List ℕ) → FactsListed words start count out r → count ≤ most_listed → read_list listed entry_bits count (drop start words) ≡ got fs us → take r out ≡ fs
@@ -225,14 +225,14 @@ module _ (words : List ℕ) (T : Table) (at : ℕ) (out : List ℕ) where
       let few : count ≤ most_listed = omega (arith, g.few) in
       fine (list_is start count r g.facts us l few place ∙ sym (ap (λ x. (clause_of_d x).facts) g.is)))))
 
-  pub facts_deny : (hidden denied : Bool) (o start count r : ℕ) → at < length words → DenyWithTrace hidden denied o ≡ policy_head (get_or words at 0) true → start ≡ at + 3 → count ≡ get_or words (at + 2) 0 →
+  pub facts_deny : (shape : DenyShape) (denied : prelude.Option ℕ) (start count r : ℕ) → at < length words → DenyWithTrace shape denied ≡ policy_head (get_or words at 0) true → start ≡ at + 3 → count ≡ get_or words (at + 2) 0 →
       FactsListed words start count out r → ClauseFacts words T at out r
   unfolding policy_node
-  facts_deny hidden denied o start count r here head s e l =
+  facts_deny shape denied start count r here head s e l =
       let third : get_or (drop (at + 1) words) 1 0 ≡ count = word_later words at 1 (at + 2) (omega arith) ∙ sym e in
       counted words T at out r l.within
-      (clause_has words at T (DenyWithTrace hidden denied o) (λ q. take r out ≡ q.facts) here head
-      (then_holds (deny_trace_node hidden denied o (drop (at + 1) words)) _ (deny_there hidden denied o (drop (at + 1) words))
+      (clause_has words at T (DenyWithTrace shape denied) (λ q. take r out ≡ q.facts) here head
+      (then_holds (deny_trace_node shape denied (drop (at + 1) words)) _ (deny_there shape denied (drop (at + 1) words))
       (λ d us g.
       let place : read_list listed entry_bits count (drop start words) ≡ got g.facts us =
       ap₂ (read_list listed entry_bits) (sym third) (sym (later words at 1 start (omega arith))) ∙ g.read in
@@ -245,15 +245,15 @@ module _ (words : List ℕ) (at : ℕ) (r : Clause) where
   with_facts_lem : (d : Denial Outcome) (fs : List ℕ) → d ≡ denial_of r fs → d ≡ denial_of r d.facts
   with_facts_lem d fs e = e ∙ ap (denial_of r) (sym (ap (λ (q : Denial Outcome). q.facts) e))
 
-  clause_none : ((fs : List ℕ) → denial_of r fs ≡ clause_by 0 0 false none fs) → (d : Denial Outcome) → generic_deny ≡ d → d ≡ denial_of r d.facts
+  clause_none : ((fs : List ℕ) → denial_of r fs ≡ clause_by 0 0 Forbidden none fs) → (d : Denial Outcome) → generic_deny ≡ d → d ≡ denial_of r d.facts
   clause_none c d e = with_facts_lem d [] (sym e ∙ sym (c []))
 
-  pub clause_past : length words ≤ at → ((fs : List ℕ) → denial_of r fs ≡ clause_by 0 0 false none fs) → ClauseIs words at r
+  pub clause_past : length words ≤ at → ((fs : List ℕ) → denial_of r fs ≡ clause_by 0 0 Forbidden none fs) → ClauseIs words at r
   clause_past h c = record { is = λ T _. clause_none c (clause_at words T at) (sym (no_clause words T at h)) }
 
   module _ (here : at < length words) where
-    pub clause_other : (h : PolicyHead) → h ≡ policy_head (get_or words at 0) true → OneOf nameless (tag_of the_type h) →
-        ((fs : List ℕ) → denial_of r fs ≡ clause_by 0 0 false none fs) → ClauseIs words at r
+    pub clause_other : (h : PolicyHead) → h ≡ policy_head (get_or words at 0) true → Nameless h →
+        ((fs : List ℕ) → denial_of r fs ≡ clause_by 0 0 Forbidden none fs) → ClauseIs words at r
     clause_other h head k c =
         record {
           is = λ T.
@@ -261,23 +261,23 @@ module _ (words : List ℕ) (at : ℕ) (r : Clause) where
               (weaker (policy_node condition_below policy_below h (drop (at + 1) words)) (λ t vs e. clause_none c (clause_of T t) e) (none_there condition_below policy_below T h (drop (at + 1) words) k));
         }
 
-    pub clause_grant : (hidden : Bool) (n o marks : ℕ) → Grant hidden n o ≡ policy_head (get_or words at 0) true → marks ≡ get_or words (at + 1) 0 →
-        ((fs : List ℕ) → denial_of r fs ≡ clause_by (marks / 65536) (marks % 65536) hidden (some o) fs) → ClauseIs words at r
+    pub clause_grant : (shape : DenyShape) (n o marks : ℕ) → Grant shape n o ≡ policy_head (get_or words at 0) true → marks ≡ get_or words (at + 1) 0 →
+        ((fs : List ℕ) → denial_of r fs ≡ clause_by (marks / 65536) (marks % 65536) shape (some o) fs) → ClauseIs words at r
     unfolding policy_node
-    clause_grant hidden n o marks head e c =
+    clause_grant shape n o marks head e c =
         let second : get_or (drop (at + 1) words) 0 0 ≡ marks = word_later words at 0 (at + 1) (omega arith) ∙ sym e in
         record {
           is = λ T.
-              clause_has words at T (Grant hidden n o) (λ d. d ≡ denial_of r d.facts) here head
-              (weaker (grant_node condition_below hidden n o (drop (at + 1) words))
+              clause_has words at T (Grant shape n o) (λ d. d ≡ denial_of r d.facts) here head
+              (weaker (grant_node condition_below shape n o (drop (at + 1) words))
               (λ t us g.
               let fs = named (eval_condition T g.condition) in
-              with_facts_lem (clause_of T t) fs (ap (clause_of T) g.is ∙ ap (λ w. clause_by (w / 65536) (w % 65536) hidden (some o) fs) second ∙ sym (c fs)))
-              (grant_there condition_below hidden n o (drop (at + 1) words)));
+              with_facts_lem (clause_of T t) fs (ap (clause_of T) g.is ∙ ap (λ w. clause_by (w / 65536) (w % 65536) shape (some o) fs) second ∙ sym (c fs)))
+              (grant_there condition_below shape n o (drop (at + 1) words)));
         }
 
     pub clause_permit : (n o marks : ℕ) → PermitWithTrace n o ≡ policy_head (get_or words at 0) true → marks ≡ get_or words (at + 1) 0 →
-        ((fs : List ℕ) → denial_of r fs ≡ clause_by (marks / 65536) 0 false none fs) → ClauseIs words at r
+        ((fs : List ℕ) → denial_of r fs ≡ clause_by (marks / 65536) 0 Forbidden none fs) → ClauseIs words at r
     unfolding policy_node
     clause_permit n o marks head e c =
         let second : get_or (drop (at + 1) words) 0 0 ≡ marks = word_later words at 0 (at + 1) (omega arith) ∙ sym e in
@@ -285,23 +285,17 @@ module _ (words : List ℕ) (at : ℕ) (r : Clause) where
           is = λ T.
               clause_has words at T (PermitWithTrace n o) (λ d. d ≡ denial_of r d.facts) here head
               (then_holds (permit_trace_node n o (drop (at + 1) words)) _ (permit_there n o (drop (at + 1) words))
-              (λ d us g. fine (with_facts_lem (clause_of_d d) g.facts (ap clause_of_d g.is ∙ ap (λ w. clause_by (w / 65536) 0 false none g.facts) second ∙ sym (c g.facts)))));
+              (λ d us g. fine (with_facts_lem (clause_of_d d) g.facts (ap clause_of_d g.is ∙ ap (λ w. clause_by (w / 65536) 0 Forbidden none g.facts) second ∙ sym (c g.facts)))));
         }
 
-    -- The denied outcome, from the flag and the field that its head has of it.
-    stated : (denied : Bool) (o : ℕ) → denied_of (then_some denied o) ≡ denied_by denied o
-    stated true o = refl
-    stated false o = refl
-
-    pub clause_deny : (hidden denied : Bool) (o marks : ℕ) (x : prelude.Option ℕ) → DenyWithTrace hidden denied o ≡ policy_head (get_or words at 0) true → marks ≡ get_or words (at + 1) 0 →
-        x ≡ then_some denied o → ((fs : List ℕ) → denial_of r fs ≡ clause_by (marks / 65536) (marks % 65536) hidden (denied_of x) fs) → ClauseIs words at r
+    pub clause_deny : (shape : DenyShape) (denied : prelude.Option ℕ) (marks : ℕ) → DenyWithTrace shape denied ≡ policy_head (get_or words at 0) true → marks ≡ get_or words (at + 1) 0 →
+        ((fs : List ℕ) → denial_of r fs ≡ clause_by (marks / 65536) (marks % 65536) shape (denied_by denied) fs) → ClauseIs words at r
     unfolding policy_node
-    clause_deny hidden denied o marks x head e f c =
+    clause_deny shape denied marks head e c =
         let second : get_or (drop (at + 1) words) 0 0 ≡ marks = word_later words at 0 (at + 1) (omega arith) ∙ sym e in
         record {
           is = λ T.
-              clause_has words at T (DenyWithTrace hidden denied o) (λ d. d ≡ denial_of r d.facts) here head
-              (then_holds (deny_trace_node hidden denied o (drop (at + 1) words)) _ (deny_there hidden denied o (drop (at + 1) words))
-              (λ d us g. fine (with_facts_lem (clause_of_d d) g.facts (ap clause_of_d g.is ∙ ap (λ w. clause_by (w / 65536) (w % 65536) hidden (denied_by denied o) g.facts) second
-              ∙ ap (λ q. clause_by (marks / 65536) (marks % 65536) hidden q g.facts) (sym (ap denied_of f ∙ stated denied o)) ∙ sym (c g.facts)))));
+              clause_has words at T (DenyWithTrace shape denied) (λ d. d ≡ denial_of r d.facts) here head
+              (then_holds (deny_trace_node shape denied (drop (at + 1) words)) _ (deny_there shape denied (drop (at + 1) words))
+              (λ d us g. fine (with_facts_lem (clause_of_d d) g.facts (ap clause_of_d g.is ∙ ap (λ w. clause_by (w / 65536) (w % 65536) shape (denied_by denied) g.facts) second ∙ sym (c g.facts)))));
         }

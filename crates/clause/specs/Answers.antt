@@ -10,9 +10,9 @@ use Rattle.decision.specs.declared.Decision.{Decision}
 use Rattle.decision.specs.Nodes.{clause_at}
 use Rattle.decision.specs.Meaning.{obligations_in, decision_of, Names}
 use Rattle.packing.specs.Written.{Written}
-use Rattle.record.specs.Nodes.{decision_words}
-use Rattle.clause.specs.declared.Clause.{Clause}
-use Rattle.clause.specs.Clauses.{denial_of, decision_size}
+use Rattle.record.specs.declared.Clause.{Clause}
+use Rattle.record.specs.Nodes.{denial_of, decision_words}
+use Rattle.clause.specs.Clauses.{decision_size}
 
 -- A list of `count` facts that reads at `at`, no longer than a node's may be, stands at the front.
 pub record FactsListed (words : List ℕ) (at count : ℕ) (out : List ℕ) (r : ℕ) : Type 0 where
@@ -29,15 +29,13 @@ pub record ClauseFacts (words : List ℕ) (T : Table) (at : ℕ) (out : List ℕ
 pub record ClauseIs (words : List ℕ) (at : ℕ) (r : Clause) : Type 0 where
   pub is : (T : Table) → Names words at → clause_at words T at ≡ denial_of r (clause_at words T at).facts
 
--- What is given to write a decision: the first `held` of os are its obligations, where it permits, and the first `count` of fs its clause's facts.
-pub record Gathered (words : List ℕ) (T : Table) (buf : List ℕ) (d : Decision) (os : List ℕ) (held : ℕ) (fs : List ℕ) (count : ℕ) : Type 0 where
+-- What is given to write a decision: os are its obligations, where it permits, and fs its clause's facts.
+pub record Gathered (words : List ℕ) (T : Table) (buf : List ℕ) (d : Decision) (os fs : List ℕ) : Type 0 where
   pub clause : Names words d.clause
-  pub held_there : held ≤ length os
-  pub obligations : d.permit ≡ true → take held os ≡ obligations_in words buf d
-  pub named_there : count ≤ length fs
-  pub facts : take count fs ≡ (clause_at words T d.clause).facts
+  pub obligations : d.permit ≡ true → os ≡ obligations_in words buf d
+  pub facts : fs ≡ (clause_at words T d.clause).facts
 
 -- The words of the decision that d stands for.
-pub record DecisionWritten (words : List ℕ) (d : Decision) (os : List ℕ) (held : ℕ) (fs : List ℕ) (count : ℕ) (before after : List ℕ) (r : ℕ) : Type 0 where
-  pub number : r ≡ decision_size d.permit held count
-  pub written : (T : Table) (buf : List ℕ) (D : Decided Outcome) → decision_of words T buf d ≡ D → Gathered words T buf d os held fs count → Written (decision_words D) before after r
+pub record DecisionWritten (words : List ℕ) (d : Decision) (os fs before after : List ℕ) (r : ℕ) : Type 0 where
+  pub number : r ≡ decision_size d.permit (length os) (length fs)
+  pub written : (T : Table) (buf : List ℕ) (D : Decided Outcome) → decision_of words T buf d ≡ D → Gathered words T buf d os fs → Written (decision_words D) before after r

@@ -6,17 +6,13 @@ use Rattle.model.specs.Decision.{Denial}
 use Rattle.model.specs.Writing.{most_listed, most_held}
 use Rattle.model.specs.Reading.{shape_of}
 use Rattle.model.specs.Products.{Outcome}
+use Rattle.policy_model.specs.declared.DenyShape.{DenyShape}
 use Rattle.policy_model.specs.Heads.{bit_of}
-use Rattle.record.specs.Nodes.{mark_of, mark_in, denied_of}
-use Rattle.clause.specs.declared.Clause.{Clause}
+use Rattle.record.specs.Nodes.{mark_in}
 
--- The clause with these facts.
-abbrev pub denial_of : Clause → List ℕ → Denial Outcome
-denial_of c fs = record { denied = denied_of c.denied; facts = fs; label = mark_of c.label; reason = mark_of c.reason; shape = shape_of (bit_of c.hidden) }
-
--- The same by the fields of its node: label and reason as 16 bits each, the shape, and the denied outcome, if present.
-abbrev pub clause_by : ℕ → ℕ → Bool → Option ℕ → List ℕ → Denial Outcome
-clause_by label reason hidden denied fs = record { denied = denied; facts = fs; label = mark_in label; reason = mark_in reason; shape = shape_of (bit_of hidden) }
+-- A clause by the fields of its node: label and reason as 16 bits each, the shape, and the denied outcome, if present.
+abbrev pub clause_by : ℕ → ℕ → DenyShape → Option ℕ → List ℕ → Denial Outcome
+clause_by label reason shape denied fs = record { denied = denied; facts = fs; label = mark_in label; reason = mark_in reason; shape = shape_of (bit_of shape) }
 
 -- A permit's node with n obligations and m facts, and a deny's with m facts.
 abbrev pub decision_size : Bool → ℕ → ℕ → ℕ

@@ -5,28 +5,20 @@
 ghost use Rattle.std.specs.Prelude.{◌≡◌, true, List, ℕ, ◌+◌, ◌*◌, ◌^◌, ◌≤◌, ◌<◌, min, length};
 ghost use Rattle.model.specs.Facts.{table_of};
 ghost use Rattle.model.specs.Writing.{most_listed};
-ghost use Rattle.record.specs.Nodes.{denied_of};
+ghost use Rattle.policy_model.specs.Heads.{denied_by};
+ghost use Rattle.record.specs.Nodes.{denial_of};
 ghost use Rattle.clause.specs.Room.{RoomToName};
-ghost use Rattle.clause.specs.Clauses.{clause_by, denial_of, decision_size};
+ghost use Rattle.clause.specs.Clauses.{clause_by, decision_size};
 ghost use Rattle.clause.specs.Clauses.{countable as countable_of};
 ghost use Rattle.clause.specs.Answers.{FactsListed, ClauseFacts, ClauseIs, DecisionWritten};
 
+use condition::Walk;
 use decision::Decision;
-use policy_model::PolicyHead;
-
-// What a node gives a decision but for facts: label, reason, shape and the outcome that was denied.
-#[derive(Drop)]
-struct Clause {
-    pub label: Option<u16>,
-    pub reason: Option<u16>,
-    pub hidden: bool,
-    pub denied: Option<u16>,
-}
-
-// A node's count of obligations has seven bits.
-const MOST_HELD: usize = policy_model::OBLIGATION_COUNTS as usize - 1;
+use policy_model::{DenyShape, PolicyHead};
+use record::Clause;
 
 // Writes the list of `count` facts at `at` to the front of `out`, and returns how many there are: none where no node lists so many, or the words end.
+#[tactic(auto, using(crate::proofs::Lists::list_cut))]
 fn load_facts(words: &[u32], at: usize, count: usize, out: &mut [u16]) -> usize
     requires { min (2 * length words.now) most_listed ≤ length out.old }
     ensures { FactsListed words.now at count out.new result }
@@ -34,10 +26,7 @@ fn load_facts(words: &[u32], at: usize, count: usize, out: &mut [u16]) -> usize
     if count > policy_model::MOST_LISTED {
         return 0;
     }
-    if words.len() < at {
-        return 0;
-    }
-    if words.len() - at < policy_model::entry_words(count as u32) {
+    if words.len().saturating_sub(at) < policy_model::entry_words(count as u32) {
         return 0;
     }
     for i in 0..count {
@@ -48,17 +37,19 @@ fn load_facts(words: &[u32], at: usize, count: usize, out: &mut [u16]) -> usize
 
 // Writes the facts of the clause of the node at `at` to the front of `out`, and returns how many there are: of a Grant those that decide its condition,
 // of a stored decision those of its list. Other nodes, and a position past the end, have none.
-pub fn clause_facts(words: &[u32], at: usize, facts: &[u8], out: &mut [u16]) -> usize
-    requires { RoomToName words.now out.old }
-    ensures { ClauseFacts words.now (table_of facts.now) at out.new result }
+#[tactic(auto, using(crate::proofs::Nodes::facts_past))]
+pub fn clause_facts(walk: &Walk<'_>, at: usize, out: &mut [u16]) -> usize
+    requires { RoomToName walk.now.words.now out.old }
+    ensures { ClauseFacts walk.now.words.now (table_of walk.now.facts.now) at out.new result }
 {
+    let words = walk.words;
     if words.len() <= at {
         return 0;
     }
     match policy_model::policy_head(words[at], true) {
         PolicyHead::Grant { .. } => {
             let start = at + grant::before_condition_in(words, at) as usize;
-            let named = decisive::decisive_arm(words, start, grant::CONDITION_LEVELS, facts, out);
+            let named = decisive::decisive_arm(walk, start, grant::CONDITION_LEVELS, out);
             named.count
         }
         PolicyHead::PermitWithTrace { obligations, .. } => {
@@ -77,41 +68,34 @@ pub fn clause_facts(words: &[u32], at: usize, facts: &[u8], out: &mut [u16]) -> 
 }
 
 // A clause from a label and a reason of 16 bits each, the shape, and the denied outcome, if present.
-fn clause_of(label: u32, reason: u32, hidden: bool, denied: Option<u16>) -> Clause
-    ensures { (fs : List ℕ) → denial_of result fs ≡ clause_by label reason hidden (denied_of denied) fs }
+fn clause_of(label: u32, reason: u32, shape: DenyShape, denied: Option<u16>) -> Clause
+    ensures { (fs : List ℕ) → denial_of result fs ≡ clause_by label reason shape (denied_by denied) fs }
 {
     Clause {
         label: record::mark(label),
         reason: record::mark(reason),
-        hidden,
+        shape,
         denied,
     }
 }
 
 // The clause of the node at `at`: of a Grant, or of a stored decision, where a permit has no more than a label. Other nodes, and a position past the
 // end, name nothing.
+#[tactic(auto, using(crate::proofs::Nodes::clause_past, crate::proofs::Nodes::clause_other))]
 fn clause_at(words: &[u32], at: usize) -> Clause
     ensures { ClauseIs words.now at result }
 {
     if words.len() <= at {
-        return clause_of(0, 0, false, None);
+        return clause_of(0, 0, DenyShape::Forbidden, None);
     }
     let marks = policy_model::word_at(words, at + 1);
     let label = marks / policy_model::HALF;
     let reason = marks % policy_model::HALF;
     match policy_model::policy_head(words[at], true) {
-        PolicyHead::Grant {
-            hidden,
-            outcome,
-            ..
-        } => clause_of(label, reason, hidden, Some(outcome)),
-        PolicyHead::PermitWithTrace { .. } => clause_of(label, 0, false, None),
-        PolicyHead::DenyWithTrace {
-            hidden,
-            denied,
-            outcome,
-        } => clause_of(label, reason, hidden, denied.then_some(outcome)),
-        _ => clause_of(0, 0, false, None),
+        PolicyHead::Grant { shape, outcome, .. } => clause_of(label, reason, shape, Some(outcome)),
+        PolicyHead::PermitWithTrace { .. } => clause_of(label, 0, DenyShape::Forbidden, None),
+        PolicyHead::DenyWithTrace { shape, denied } => clause_of(label, reason, shape, denied),
+        _ => clause_of(0, 0, DenyShape::Forbidden, None),
     }
 }
 
@@ -119,7 +103,7 @@ fn clause_at(words: &[u32], at: usize) -> Clause
 pub fn countable(permit: bool, held: usize, count: usize) -> bool
     ensures { result ≡ countable_of permit held count }
 {
-    count <= policy_model::MOST_LISTED && (!permit || held <= MOST_HELD)
+    count <= policy_model::MOST_LISTED && (!permit || held <= decision::MOST_HELD)
 }
 
 // How many words a decision's node takes, with so many obligations and so many facts.
@@ -134,36 +118,21 @@ pub fn decision_words(permit: bool, held: usize, count: usize) -> usize
     }
 }
 
-// Writes a decision's node. The first `held` of `obligations` are its obligations, as `decision::obligations` leaves them, and the first `count` of
-// `named` the facts of its clause, as `clause_facts` does.
+// Writes a decision's node, with its obligations, as `decision::obligations` gathers them, and the facts of its clause, as `clause_facts` does.
 pub fn write_decision(
     words: &[u32],
     decision: Decision,
     obligations: &[u8],
-    held: usize,
     named: &[u16],
-    count: usize,
     out: &mut [u32],
 ) -> usize
-    requires { (countable_of decision.permit held count ≡ true) × (held ≤ length obligations.now) × (count ≤ length named.now) × (decision_size decision.permit held count ≤ length out.old) }
-    ensures { DecisionWritten words.now decision obligations.now held named.now count out.old out.new result }
+    requires { (countable_of decision.permit (length obligations.now) (length named.now) ≡ true) × (decision_size decision.permit (length obligations.now) (length named.now) ≤ length out.old) }
+    ensures { DecisionWritten words.now decision obligations.now named.now out.old out.new result }
 {
     let clause = clause_at(words, decision.clause);
     if decision.permit {
-        return record::write_permit_with_trace(
-            decision.outcome,
-            clause.label,
-            &obligations[..held],
-            &named[..count],
-            out,
-        );
+        record::write_permit_with_trace(decision.outcome, clause.label, obligations, named, out)
+    } else {
+        record::write_deny_with_trace(clause, named, out)
     }
-    record::write_deny_with_trace(
-        clause.denied,
-        clause.hidden,
-        clause.label,
-        clause.reason,
-        &named[..count],
-        out,
-    )
 }

@@ -14,7 +14,7 @@ use Rattle.laws.specs.FieldAt.{field_at}
 use Rattle.laws.proofs.FieldAtLaws.{no_entry, EntryIn, entry_at, entries_there}
 use Rattle.laws.proofs.ReadForm.{Named}
 use Rattle.consulted.specs.Listing.{Lent, Consults, Recorded}
-use Rattle.consulted.proofs.Listing.{consults_none, consults_then, consults_as}
+use Rattle.consulted.proofs.Listing.{consults_then, consults_as}
 use Rattle.completion.specs.Answers.{LoadsConsulted}
 
 -- ---- one entry more
@@ -28,9 +28,6 @@ pub record Loading (words : List ℕ) (count : ℕ) (s t : Lent) (i : ℕ) : Typ
   pub log : (es : Consulted) (rest : List ℕ) → Named es → count ≡ length es → pack entry_bits (map entry_field es) ++ rest ≡ drop 1 words → Consults (λ l. once_from l (take i es)) s t
 
 module _ (words : List ℕ) (count : ℕ) (s : Lent) where
-  pub load_none : Loading words count s s 0
-  load_none = record { within = omega arith; log = λ es rest n e were. consults_none }
-
   entry_listed : (t u : Lent) (i b f : ℕ) (p : Presence) (es : Consulted) → i < length es → EntryIn b (get_or es i no_entry) → f ≡ b % 1024 → p ≡ seen_in (b / 16384) →
       Recorded f p t u → Consults (λ l. once_from l (take i es)) s t → Consults (λ l. once_from l (take (i + 1) es)) s u
   entry_listed t u i b f p es h here ef ep r k =

@@ -5,7 +5,6 @@
 ghost use Rattle.std.specs.Prelude.{◌≤◌, length};
 ghost use Rattle.outcome.specs.Carried.{carried};
 ghost use Rattle.model.specs.Facts.{fact_count, table_of};
-ghost use Rattle.model.specs.Reading.{record_words};
 ghost use Rattle.consulted.specs.Listing.{held};
 ghost use Rattle.answer.specs.Answers.{Makes};
 ghost use Rattle.completion.specs.Answers.{LoadsConsulted, InUse, completed_after};
@@ -13,7 +12,7 @@ ghost use Rattle.completion.specs.Room.{RoomToWalk};
 
 use answer::Answer;
 use consulted::Consulted;
-use outcome::OutcomeTable;
+use evaluate::Evaluation;
 use policy_model::{LEVELS, RECORD_WORDS, SHEET_WORDS};
 
 // Lists the `count` entries of a record, once each, the first one kept.
@@ -25,11 +24,12 @@ pub fn load_consulted(words: &[u32], count: usize, consulted: &mut Consulted<'_>
             return;
         }
         let field = packing::unpack_entry(words, 1, i) as u32;
-        consulted.record(field % policy_model::FACTS, facts::entry_presence(field));
+        consulted.consult(field % policy_model::FACTS, facts::entry_presence(field));
     }
 }
 
-// The entries in use. No walk leaves more than it was lent, nor more than there are facts, but of words that don't read none says so.
+// The entries in use. No walk leaves more than it was lent, nor more than there are facts, but of words that don't read none says so. An invariant of `Consulted`
+// would say it of all, and would ask of the callers of each walk what none asks now.
 pub fn in_use<'a>(consulted: &'a Consulted<'_>) -> &'a [u16]
     ensures few { length result.now ≤ fact_count }
     ensures listed { InUse (held consulted.now) result.now }
@@ -63,15 +63,13 @@ pub const UNITED_FEW: usize = decision::OBLIGATION_ROOM * (FEW + 1);
 // take united obligations, and `NAMED` facts the clause that decides. Every page of its stack is touched when it is called, so it keeps a frame of its own.
 #[inline(never)]
 fn complete_in<const DEPTH: usize, const LISTED: usize, const BYTES: usize, const NAMED: usize>(
-    words: &[u32],
+    evaluation: &Evaluation<'_>,
     count: usize,
     tree: usize,
-    facts: &[u8],
-    outcomes: Option<OutcomeTable<'_>>,
     out: &mut [u32],
 ) -> Answer
-    requires { RoomToWalk (length words.now) DEPTH LISTED BYTES NAMED }
-    ensures { Makes (completed_after (carried outcomes.entry) (table_of facts.now)) words.now count tree out.old out.new result }
+    requires { RoomToWalk (length evaluation.now.walk.words.now) DEPTH LISTED BYTES NAMED }
+    ensures { Makes (completed_after (carried evaluation.now.outcomes) (table_of evaluation.now.walk.facts.now)) evaluation.now.walk.words.now count tree out.old out.new result }
 {
     let mut entries = [0u16; LISTED];
     let mut seen = [0u64; SEEN];
@@ -82,20 +80,11 @@ fn complete_in<const DEPTH: usize, const LISTED: usize, const BYTES: usize, cons
         seen: &mut seen,
         length: 0,
     };
-    load_consulted(words, count, &mut consulted);
-    let eval = evaluate::eval_policy(
-        words,
-        tree,
-        DEPTH,
-        facts,
-        outcomes,
-        &mut consulted,
-        &mut buf,
-    );
+    load_consulted(evaluation.walk.words, count, &mut consulted);
+    let eval = evaluation.eval_policy(tree, DEPTH, &mut consulted, &mut buf);
     answer::put_record(
-        words,
+        &evaluation.walk,
         eval.decision,
-        facts,
         in_use(&consulted),
         &buf,
         &mut named,
@@ -103,30 +92,20 @@ fn complete_in<const DEPTH: usize, const LISTED: usize, const BYTES: usize, cons
     )
 }
 
-// The same with as much room as so many words take.
-pub fn complete(
-    words: &[u32],
-    count: usize,
-    tree: usize,
-    facts: &[u8],
-    outcomes: Option<OutcomeTable<'_>>,
-    out: &mut [u32],
-) -> Answer
-    requires { length words.now ≤ record_words }
-    ensures { Makes (completed_after (carried outcomes.entry) (table_of facts.now)) words.now count tree out.old out.new result }
+// The same with as much room as its words take.
+pub fn complete(evaluation: &Evaluation<'_>, count: usize, tree: usize, out: &mut [u32]) -> Answer
+    ensures { Makes (completed_after (carried evaluation.now.outcomes) (table_of evaluation.now.walk.facts.now)) evaluation.now.walk.words.now count tree out.old out.new result }
 {
-    match words.len() {
+    match evaluation.walk.words.len() {
         0..=FEW => complete_in::<FEW, FEW_FACTS, UNITED_FEW, FEW_FACTS>(
-            words, count, tree, facts, outcomes, out,
+            evaluation, count, tree, out,
         ),
         0..=SHORT => complete_in::<LEVELS, SHORT_FACTS, UNITED, SHORT_FACTS>(
-            words, count, tree, facts, outcomes, out,
+            evaluation, count, tree, out,
         ),
         0..=SHEET_WORDS => complete_in::<LEVELS, ENTRIES, UNITED, SHEET_WORDS>(
-            words, count, tree, facts, outcomes, out,
+            evaluation, count, tree, out,
         ),
-        _ => complete_in::<LEVELS, ENTRIES, UNITED, RECORD_WORDS>(
-            words, count, tree, facts, outcomes, out,
-        ),
+        _ => complete_in::<LEVELS, ENTRIES, UNITED, RECORD_WORDS>(evaluation, count, tree, out),
     }
 }

@@ -1,29 +1,25 @@
 -- Whether a condition is satisfied and what it consults, by its first word. Assumes nothing.
-use mathlib.Core.Path.{◌≡◌, refl, sym, ap, subst, ◌∙◌}
+use mathlib.Core.Path.{◌≡◌, refl, sym, subst, ◌∙◌}
 use mathlib.Core.Bool.{Bool, true, false, not, cond}
 use mathlib.Core.List.{List, [], ◌∷◌}
 use Prim.Native.Nat.{ℕ, zero, suc, ◌+◌, ◌/◌, ◌%◌, ◌≤◌, ◌<◌}
-use native.Mathlib.Numerals.{add-one}
 use native.Mathlib.Omega.{arith}
 use borrow.Author.Tests.{lt-ltb, ltb-true}
 use lib.Dec.{eqb, ltb}
-use lib.ListN.{length, drop, get_or, drop_of_length-le}
-use lib.Seq.{drop-cons, drop_at}
+use lib.ListN.{length, drop, get_or}
 use Rattle.model.specs.Facts.{Presence, absent, present, unknown, silent, Table, fact_count}
 use Rattle.model.specs.Condition.{Condition, always, never, all_c, any_c, cnil, satisfied, unsatisfied, eval_has, flip, eval_condition}
 use Rattle.model.specs.Condition as model
 use Rattle.model.specs.Consulted.{Consulted, read_c}
 use Rattle.model.specs.Reading.{refuse, got, kind_of, rest_of, read_condition}
-use Rattle.laws.proofs.FieldLaws.{Holds, fine, nothing, weaker}
+use Rattle.laws.proofs.FieldLaws.{Holds, fine, nothing}
 use Rattle.laws.specs.Size.{words_c}
-use Rattle.laws.proofs.Lengths.{length_encode_c}
-use Rattle.laws.proofs.Canon.{same_c}
-use Rattle.model.specs.Writing.{encode_c}
 use Rattle.facts.specs.Answers.{is_present}
 use Rattle.policy_model.specs.declared.ConditionHead.{ConditionHead}
 use Rattle.policy_model.specs.declared.ConditionHead.TheVariants.{Always, Never, Has, Not, All, Any, BadKind, BadField}
 use Rattle.policy_model.specs.Heads.{condition_heads, condition_head, condition_node}
 use Rattle.policy_model.specs.HeadLaws.{condition_node_lem, condition_deep}
+use Rattle.policy_model.proofs.Checking.{word_at, no_word}
 use Rattle.condition.specs.declared.ConditionEval.{ConditionEval}
 use Rattle.condition.specs.declared.Node.TheVariants.{Value}
 use Rattle.consulted.specs.Listing.{Lent, Recorded}
@@ -36,24 +32,17 @@ read_none : (depth : ℕ) → read_condition depth [] ≡ refuse 6
 read_none zero = refl
 read_none (suc depth) = refl
 
-word_at : (words : List ℕ) (at : ℕ) → at < length words → drop at words ≡ get_or words at 0 ∷ drop (at + 1) words
-word_at words at h = rw (add-one, drop-cons words at 0)
-
 module _ {Q : Condition → List ℕ → Type 0} where
   pub no_levels : (ws : List ℕ) → Holds Q (read_condition zero ws)
   no_levels [] = nothing
   no_levels (w ∷ ws) = rw (condition_deep w ws) nothing
 
   pub no_words : (words : List ℕ) (at depth : ℕ) → length words ≤ at → Holds Q (read_condition depth (drop at words))
-  no_words words at depth h = rw (drop_of_length-le words h, read_none depth) nothing
+  no_words words at depth h = rw (no_word words at h, read_none depth) nothing
 
   pub by_head : (words : List ℕ) (at d : ℕ) (h : ConditionHead) → at < length words → h ≡ condition_head (get_or words at 0) →
       Holds Q (condition_node (λ vs. read_condition d vs) h (drop (at + 1) words)) → Holds Q (read_condition (suc d) (drop at words))
   by_head words at d h lt e g = rw (word_at words at lt, condition_node_lem) (rw e at g)
-
--- What reading leaves is what stands after the condition.
-pub leaves : (depth : ℕ) (ws : List ℕ) → Holds (λ c vs. drop (words_c c) ws ≡ vs) (read_condition depth ws)
-leaves depth ws = weaker (read_condition depth ws) (λ c vs e. ap (drop (words_c c)) (sym e) ∙ drop_at (encode_c c) vs (words_c c) (length_encode_c c)) (same_c depth ws)
 
 -- ---- values
 pub has_value : (f : ℕ) (p : Presence) → is_present p ≡ is_satisfied (eval_has f p)
@@ -82,12 +71,12 @@ module _ (T : Table) (words : List ℕ) (at d : ℕ) (s : Lent) (r : ConditionEv
   unfolding condition_node
   eval_value Always v is e i = leaf Always always e refl refl (λ l. refl) (cc)
   eval_value Never v is e i = leaf Never never e refl refl (λ l. refl) (cc)
-  eval_value (Has f) v is e i = let z : ◌≡◌ {A = ℕ} 0 1 = cc in absurd (omega arith)
-  eval_value Not v is e i = let z : ◌≡◌ {A = ℕ} 0 1 = cc in absurd (omega arith)
+  eval_value (Has f) v is e i = absurd (cc)
+  eval_value Not v is e i = absurd (cc)
   eval_value (All zero) v is e i = leaf (All 0) (all_c cnil) e refl refl (λ l. refl) (cc)
-  eval_value (All (suc m)) v is e i = let z : ◌≡◌ {A = ℕ} 0 1 = cc in absurd (omega arith)
+  eval_value (All (suc m)) v is e i = absurd (cc)
   eval_value (Any zero) v is e i = leaf (Any 0) (any_c cnil) e refl refl (λ l. refl) (cc)
-  eval_value (Any (suc m)) v is e i = let z : ◌≡◌ {A = ℕ} 0 1 = cc in absurd (omega arith)
+  eval_value (Any (suc m)) v is e i = absurd (cc)
   eval_value BadKind v is e i = record { says = by_head words at d BadKind lt e nothing }
   eval_value BadField v is e i = record { says = by_head words at d BadField lt e nothing }
 
@@ -101,7 +90,7 @@ unfolding condition_node
 eval_has_lem T words at d s v t lt f e a = record { says = by_head words at d (Has f) lt e (fine (record { satisfied_is = a.satisfied_is; next_is = refl; log = a.log })) }
 
 -- A word that one division shows to be a Has.
-has_word : (w : ℕ) → w / 1024 ≡ 524288 → Has (w % 1024) ≡ condition_head w
+pub has_word : (w : ℕ) → w / 1024 ≡ 524288 → Has (w % 1024) ≡ condition_head w
 unfolding condition_head
 has_word w e =
     let k : w / 268435456 ≡ 2 = omega arith in
@@ -115,7 +104,7 @@ eval_has_word T words at zero s v t lt e a = record { says = no_levels (drop at 
 eval_has_word T words at (suc d) s v t lt e a = eval_has_lem T words at d s v t lt (get_or words at 0 % 1024) (has_word (get_or words at 0) e) a
 
 -- ---- the fact of a Has is below 1,024, and a list has below 4,096 arms
-abbrev Below : ConditionHead → Type 0
+abbrev pub Below : ConditionHead → Type 0
 Below Always = Unit {0}
 Below Never = Unit {0}
 Below (Has f) = f < fact_count

@@ -2,12 +2,10 @@
 use mathlib.Core.Path.{◌≡◌, refl, sym, ap, ◌∙◌}
 use mathlib.Core.Bool.{Bool, true, false, not, cond, beq}
 use mathlib.Core.List.{List, [], ◌∷◌}
-use Prim.Native.Nat.{ℕ, zero, suc, ◌+◌, ◌-◌, ◌%◌, ◌≤◌, ◌<◌}
+use Prim.Native.Nat.{ℕ, zero, suc, ◌+◌, ◌-◌, ◌≤◌, ◌<◌}
 use Rattle.std.specs.Prelude.{Option, None, Some}
 use native.Mathlib.Numerals.{add-one}
 use native.Mathlib.Omega.{arith}
-use borrow.Author.Tests.{leb-true, leb-false, le-leb, lt-leb}
-use lib.Dec.{leb}
 use lib.ListN.{length, drop, get_or, set}
 use lib.Seq.{drop-drop, get_or-set_same, get_or-set_other}
 use Rattle.model.specs.Facts.{Table}
@@ -21,15 +19,18 @@ use Rattle.policy_model.specs.declared.ConditionHead.{ConditionHead}
 use Rattle.policy_model.specs.declared.ConditionHead.TheVariants.{Always, Never, Has, Not, All, Any, BadKind, BadField}
 use Rattle.policy_model.specs.Heads.{condition_head, condition_node}
 use Rattle.policy_model.specs.Span.{SkippedConditions}
+use Rattle.policy_model.proofs.Conditions.{condition_leaves}
 use Rattle.condition.specs.declared.ConditionEval.{ConditionEval}
+use Rattle.condition.specs.declared.OpenNode.{OpenNode}
+use Rattle.condition.specs.declared.OpenNode.TheVariants.{Not as not_node, Arms}
 use Rattle.condition.specs.declared.Node.TheVariants.{Value, Open}
 use Rattle.condition.specs.declared.Node.TheVariants as node
 use Rattle.condition.specs.declared.AfterArm.TheVariants.{Closed, More}
 use Rattle.consulted.specs.Listing.{Lent, Consults}
 use Rattle.condition.specs.Evaluating.{is_satisfied, answer_of, EvaluatesC, EvaluatesHas}
-use Rattle.condition.specs.Walking.{node_of, OpenNode, not_node, arms_node, open_of, opens, list_value, list_read, value_on, read_on, Known, Unread, Settles}
+use Rattle.condition.specs.Walking.{node_of, opens, list_value, list_read, value_on, read_on, Known, Unread, Settles}
 use Rattle.consulted.proofs.Listing.{consults_none, consults_then, consults_as}
-use Rattle.condition.proofs.Evaluating.{no_levels, no_words, by_head, leaves, flip_value, eval_value, eval_has_lem, below_head}
+use Rattle.condition.proofs.Evaluating.{no_levels, no_words, by_head, flip_value, eval_value, eval_has_lem}
 
 -- ---- a list rule by its first arm and the others
 value_both : (x y : model.ConditionEval) → cond (beq (is_satisfied x) false) (is_satisfied x) (is_satisfied y) ≡ is_satisfied (both x y)
@@ -67,7 +68,7 @@ module _ (T : Table) (words : List ℕ) (r : ConditionEval) (t : Lent) where
   unfolding Known
   known_from a [] d v next f g e k = record { satisfied_is = k.satisfied_is; next_is = k.next_is; log = consults_as e (consults_then a k.log) }
   known_from a (not_node ∷ fs) d v next f g e k = known_from a fs (suc d) (not v) next f g e k
-  known_from a (arms_node stop n ∷ fs) d v next f g e k =
+  known_from a (Arms stop n ∷ fs) d v next f g e k =
       weaker (many cnil ccons (read_condition d) n (drop next words)) (λ cs rest i.
       known_from a fs (suc d) (value_on stop T v cs) (next + words_cs cs) (λ l. read_on stop T v cs (f l)) (λ l. read_on stop T v cs (g l)) (λ l. ap (read_on stop T v cs) (e l)) i) k
 
@@ -106,64 +107,51 @@ module _ (T : Table) (words : List ℕ) (s : Lent) (r : ConditionEval) (t : Lent
         known_from T words r t consults_none fs (suc d) (value (ccons c cs)) (at + words_cs (ccons c cs)) (λ l. read (ccons c cs) l)
         (λ l. read_on stop T (is_satisfied (eval_condition T c)) cs (read_c T c l)) (read_is c cs) (rw (value_is c cs, end) at k)
 
-    arms_from : (m at : ℕ) → Unread T words s r t d (arms_node stop m ∷ fs) at →
+    arms_from : (m at : ℕ) → Unread T words s r t d (Arms stop m ∷ fs) at →
         Holds (λ cs rest. Known T words s r t (suc d) fs (value cs) (at + words_cs cs) (λ l. read cs l)) (many cnil ccons (read_condition d) (suc m) (drop at words))
     unfolding Known Unread
     arms_from m at k =
         then_holds (read_condition d (drop at words)) (λ c vs. next (many cnil ccons (read_condition d) m vs) (λ cs us. got (ccons c cs) us))
-        (both_hold (read_condition d (drop at words)) k (leaves d (drop at words))) (λ c vs h.
+        (both_hold (read_condition d (drop at words)) k (condition_leaves d (drop at words))) (λ c vs h.
         let after : drop (at + words_c c) words ≡ vs = sym (drop-drop (words_c c) at words) ∙ h.1 in
         then_holds (many cnil ccons (read_condition d) m vs) (λ cs us. got (ccons c cs) us)
         (rw after at h.0) (λ cs us i. fine (first_of_lem at c cs i)))
 
   module _ (v : Bool) (at : ℕ) where
     -- An arm that decides: those after it are passed over.
-    decided : (n end : ℕ) → beq v stop ≡ true → SkippedConditions words at n end → Known T words s r t (suc d) fs v end (λ l. l) → Known T words s r t d (arms_node stop n ∷ fs) v at (λ l. l)
+    decided : (n end : ℕ) → beq v stop ≡ true → SkippedConditions words at n end → Known T words s r t (suc d) fs v end (λ l. l) → Known T words s r t d (Arms stop n ∷ fs) v at (λ l. l)
     unfolding Known
     decided n end e a k = weaker (many cnil ccons (read_condition d) n (drop at words)) (λ cs rest i. rw e (rw i at k)) (a.ends d)
 
     -- One that does not, and no arm after it; or more.
-    ended : Known T words s r t (suc d) fs v at (λ l. l) → Known T words s r t d (arms_node stop 0 ∷ fs) v at (λ l. l)
+    ended : Known T words s r t (suc d) fs v at (λ l. l) → Known T words s r t d (Arms stop 0 ∷ fs) v at (λ l. l)
     unfolding Known
     ended k =
         let end : at ≡ at + 0 = omega arith in
         fine (known_from T words r t consults_none fs (suc d) (value_on stop T v cnil) (at + 0) (λ l. read_on stop T v cnil l) (λ l. l) (none_read T v stop)
         (rw (none_value T v stop) (rw end at k)))
 
-    more : (m : ℕ) → beq v stop ≡ false → Unread T words s r t d (arms_node stop m ∷ fs) at → Known T words s r t d (arms_node stop (suc m) ∷ fs) v at (λ l. l)
+    more : (m : ℕ) → beq v stop ≡ false → Unread T words s r t d (Arms stop m ∷ fs) at → Known T words s r t d (Arms stop (suc m) ∷ fs) v at (λ l. l)
     unfolding Known
     more m e k = rw e (arms_from (list_value stop T) (list_read stop T) (λ c cs. first_value T c cs stop) (λ c cs. first_read T c cs stop) m at k)
 
--- ---- open nodes as numbers
-list_is : (n m : ℕ) (stop : Bool) → n < 8192 → leb 4096 n ≡ stop → n % 4096 ≡ m → open_of n ≡ arms_node stop m
-unfolding open_of
-list_is n m stop h e f = rw (lt-leb 8192 n h, e, f) refl
+-- ---- an open node whose arm has its value
+module _ (words : List ℕ) (v : Bool) (at : ℕ) where
+  pub settles_not : Settles words not_node v at (Closed (answer_of (not v) at))
+  unfolding Known
+  settles_not = record { onward = omega arith; goes = λ T s r t d fs k. k }
 
-one_less : (n : ℕ) (b : Bool) → (n % 4096 ≡ 0 → ⊥) → leb 4096 n ≡ b → leb 4096 (n - 1) ≡ b
-one_less n true f e = le-leb 4096 (n - 1) (omega (arith, leb-true 4096 n e))
-one_less n false f e = lt-leb 4096 (n - 1) (omega (arith, leb-false 4096 n e))
+  module _ (stop : Bool) (n : ℕ) where
+    pub settles_decided : (end : ℕ) → beq v stop ≡ true → SkippedConditions words at n end → Settles words (Arms stop n) v at (Closed (answer_of v end))
+    settles_decided end e a = record { onward = a.onward; goes = λ T s r t d fs k. decided T words s r t fs d stop v at n end e a k }
 
-module _ (words : List ℕ) (n : ℕ) (v : Bool) (at : ℕ) where
-  pub settles_not : 8192 ≤ n → Settles words n v at (Closed (not v) at)
-  unfolding open_of Known
-  settles_not h = record { onward = omega arith; goes = λ T s r t d fs k. rw (le-leb 8192 n h) k }
+    pub settles_ended : n ≡ 0 → Settles words (Arms stop n) v at (Closed (answer_of v at))
+    settles_ended z = record { onward = omega arith; goes = λ T s r t d fs k. rw z (ended T words s r t fs d stop v at k) }
 
-  module _ (h : n < 8192) where
-    pub settles_decided : (end : ℕ) → beq v (leb 4096 n) ≡ true → SkippedConditions words at (n % 4096) end → Settles words n v at (Closed v end)
-    settles_decided end e a = record {
-      onward = a.onward;
-      goes = λ T s r t d fs k. rw (list_is n (n % 4096) (leb 4096 n) h refl refl) (decided T words s r t fs d (leb 4096 n) v at (n % 4096) end e a k);
-    }
-
-    pub settles_ended : n % 4096 ≡ 0 → Settles words n v at (Closed v at)
-    settles_ended z = record { onward = omega arith; goes = λ T s r t d fs k. rw (list_is n 0 (leb 4096 n) h refl z) (ended T words s r t fs d (leb 4096 n) v at k) }
-
-    pub settles_more : beq v (leb 4096 n) ≡ false → (n % 4096 ≡ 0 → ⊥) → Settles words n v at (More (n - 1))
+    pub settles_more : beq v stop ≡ false → (n ≡ 0 → ⊥) → Settles words (Arms stop n) v at (More (Arms stop (n - 1)))
     settles_more e f = record {
       onward = omega arith;
-      goes = λ T s r t d fs k.
-          rw (list_is n (suc (n % 4096 - 1)) (leb 4096 n) h refl (omega arith))
-          (more T words s r t fs d (leb 4096 n) v at (n % 4096 - 1) e (rw (list_is (n - 1) (n % 4096 - 1) (leb 4096 n) (omega arith) (one_less n (leb 4096 n) f refl) (omega arith)) at k));
+      goes = λ T s r t d fs k. let one : n ≡ suc (n - 1) = omega arith in rw one (more T words s r t fs d stop v at (n - 1) e k);
     }
 
 -- ---- a condition that opens a node
@@ -180,7 +168,7 @@ module _ (T : Table) (words : List ℕ) (s : Lent) (r : ConditionEval) (t : Lent
       ((cs : Conditions) → words_c (rule cs) ≡ 1 + words_cs cs) →
       ((c : Condition) (cs : Conditions) → value_on stop T (is_satisfied (eval_condition T c)) cs ≡ is_satisfied (eval_condition T (rule (ccons c cs)))) →
       ((c : Condition) (cs : Conditions) (l : Consulted) → read_c T (rule (ccons c cs)) l ≡ read_on stop T (is_satisfied (eval_condition T c)) cs (read_c T c l)) →
-      Unread T words s r t d (arms_node stop m ∷ fs) (at + 1) → Unread T words s r t (suc d) fs at
+      Unread T words s r t d (Arms stop m ∷ fs) (at + 1) → Unread T words s r t (suc d) fs at
   unfolding Unread
   open_list h stop rule m e node size value_is read_is k =
       by_head words at d h lt e (rw node (then_holds (many cnil ccons (read_condition d) (suc m) (drop (at + 1) words)) (λ cs vs. got (rule cs) vs)
@@ -188,42 +176,38 @@ module _ (T : Table) (words : List ℕ) (s : Lent) (r : ConditionEval) (t : Lent
       let end : at + 1 + words_cs cs ≡ at + words_c (rule cs) = omega (arith, size cs) in
       fine (rw end at i))))
 
-  pub opened : (h : ConditionHead) (n : ℕ) → Open n ≡ node_of h → h ≡ condition_head (get_or words at 0) → Unread T words s r t d (open_of n ∷ fs) (at + 1) → Unread T words s r t (suc d) fs at
-  unfolding condition_node open_of
-  opened Always n is e k = let z : ◌≡◌ {A = ℕ} 0 1 = cc in absurd (omega arith)
-  opened Never n is e k = let z : ◌≡◌ {A = ℕ} 0 1 = cc in absurd (omega arith)
-  opened (Has f) n is e k = let z : ◌≡◌ {A = ℕ} 0 1 = cc in absurd (omega arith)
-  opened Not n is e k = let i : n ≡ 8192 = cc in open_not e (rw i at k)
-  opened (All zero) n is e k = let z : ◌≡◌ {A = ℕ} 0 1 = cc in absurd (omega arith)
+  pub opened : (h : ConditionHead) (n : OpenNode) → Open n ≡ node_of h → h ≡ condition_head (get_or words at 0) → Unread T words s r t d (n ∷ fs) (at + 1) → Unread T words s r t (suc d) fs at
+  unfolding condition_node
+  opened Always n is e k = absurd (cc)
+  opened Never n is e k = absurd (cc)
+  opened (Has f) n is e k = absurd (cc)
+  opened Not n is e k = let i : n ≡ not_node = cc in open_not e (rw i at k)
+  opened (All zero) n is e k = absurd (cc)
   opened (All (suc m)) n is e k =
-      let i : n ≡ m + 0 = cc in
-      let b : suc m < 4096 = below_head (All (suc m)) (get_or words at 0) e in
-      open_list (All (suc m)) false all_c m e refl (λ cs. refl) (λ c cs. first_value T c cs false) (λ c cs. first_read T c cs false)
-      (rw (list_is n m false (omega arith) (lt-leb 4096 n (omega arith)) (omega arith)) at k)
-  opened (Any zero) n is e k = let z : ◌≡◌ {A = ℕ} 0 1 = cc in absurd (omega arith)
+      let i : n ≡ Arms false m = cc in
+      open_list (All (suc m)) false all_c m e refl (λ cs. refl) (λ c cs. first_value T c cs false) (λ c cs. first_read T c cs false) (rw i at k)
+  opened (Any zero) n is e k = absurd (cc)
   opened (Any (suc m)) n is e k =
-      let i : n ≡ m + 4096 = cc in
-      let b : suc m < 4096 = below_head (Any (suc m)) (get_or words at 0) e in
-      open_list (Any (suc m)) true any_c m e refl (λ cs. refl) (λ c cs. first_value T c cs true) (λ c cs. first_read T c cs true)
-      (rw (list_is n m true (omega arith) (le-leb 4096 n (omega arith)) (omega arith)) at k)
-  opened BadKind n is e k = let z : ◌≡◌ {A = ℕ} 0 1 = cc in absurd (omega arith)
-  opened BadField n is e k = let z : ◌≡◌ {A = ℕ} 0 1 = cc in absurd (omega arith)
+      let i : n ≡ Arms true m = cc in
+      open_list (Any (suc m)) true any_c m e refl (λ cs. refl) (λ c cs. first_value T c cs true) (λ c cs. first_read T c cs true) (rw i at k)
+  opened BadKind n is e k = absurd (cc)
+  opened BadField n is e k = absurd (cc)
 
 -- ---- the open nodes in an array
-opens_below : (above : List ℕ) (i n level : ℕ) → level ≤ i → opens (set above i n) level ≡ opens above level
+opens_below : (above : List OpenNode) (i : ℕ) (n : OpenNode) (level : ℕ) → level ≤ i → opens (set above i n) level ≡ opens above level
 unfolding opens
 opens_below above i n zero h = refl
-opens_below above i n (suc level) h = rw (get_or-set_other above i level n 0 (λ e. omega arith), opens_below above i n level (omega arith)) refl
+opens_below above i n (suc level) h = rw (get_or-set_other above i level n not_node (λ e. omega arith), opens_below above i n level (omega arith)) refl
 
-opens_last : (above : List ℕ) (level : ℕ) → opens above (level + 1) ≡ open_of (get_or above level 0) ∷ opens above level
+opens_last : (above : List OpenNode) (level : ℕ) → opens above (level + 1) ≡ get_or above level not_node ∷ opens above level
 unfolding opens
 opens_last above level = rw add-one refl
 
-opens_put : (above : List ℕ) (n level : ℕ) → level < length above → opens (set above level n) (level + 1) ≡ open_of n ∷ opens above level
-opens_put above n level h = rw (opens_last (set above level n) level, get_or-set_same above level n 0 h, opens_below above level n level (omega arith)) refl
+opens_put : (above : List OpenNode) (n : OpenNode) (level : ℕ) → level < length above → opens (set above level n) (level + 1) ≡ n ∷ opens above level
+opens_put above n level h = rw (opens_last (set above level n) level, get_or-set_same above level n not_node h, opens_below above level n level (omega arith)) refl
 
 -- What is asked where the walk stands before `next`: the value there is known, or a condition is to be read.
-abbrev pub Standing : Option Bool → Table → List ℕ → ℕ → List ℕ → ℕ → ℕ → Lent → ConditionEval → Lent → Type 0
+abbrev pub Standing : Option Bool → Table → List ℕ → ℕ → List OpenNode → ℕ → ℕ → Lent → ConditionEval → Lent → Type 0
 Standing (Some v) T words depth above level next s r t = Known T words s r t (depth - level) (opens above level) v next (λ l. l)
 Standing None T words depth above level next s r t = Unread T words s r t (depth - level) (opens above level) next
 
@@ -234,18 +218,18 @@ known_step None = 0
 
 -- ---- the turns of the loop
 pub has_head : (h : ConditionHead) (f : ℕ) → node.Has f ≡ node_of h → Has f ≡ h
-has_head Always f e = let z : ◌≡◌ {A = ℕ} 0 1 = cc in absurd (omega arith)
-has_head Never f e = let z : ◌≡◌ {A = ℕ} 0 1 = cc in absurd (omega arith)
+has_head Always f e = absurd (cc)
+has_head Never f e = absurd (cc)
 has_head (Has g) f e = cc
-has_head Not f e = let z : ◌≡◌ {A = ℕ} 0 1 = cc in absurd (omega arith)
-has_head (All zero) f e = let z : ◌≡◌ {A = ℕ} 0 1 = cc in absurd (omega arith)
-has_head (All (suc m)) f e = let z : ◌≡◌ {A = ℕ} 0 1 = cc in absurd (omega arith)
-has_head (Any zero) f e = let z : ◌≡◌ {A = ℕ} 0 1 = cc in absurd (omega arith)
-has_head (Any (suc m)) f e = let z : ◌≡◌ {A = ℕ} 0 1 = cc in absurd (omega arith)
-has_head BadKind f e = let z : ◌≡◌ {A = ℕ} 0 1 = cc in absurd (omega arith)
-has_head BadField f e = let z : ◌≡◌ {A = ℕ} 0 1 = cc in absurd (omega arith)
+has_head Not f e = absurd (cc)
+has_head (All zero) f e = absurd (cc)
+has_head (All (suc m)) f e = absurd (cc)
+has_head (Any zero) f e = absurd (cc)
+has_head (Any (suc m)) f e = absurd (cc)
+has_head BadKind f e = absurd (cc)
+has_head BadField f e = absurd (cc)
 
-module _ (T : Table) (words : List ℕ) (depth : ℕ) (above : List ℕ) where
+module _ (T : Table) (words : List ℕ) (depth : ℕ) (above : List OpenNode) where
   pub walk_begins : (at : ℕ) (s : Lent) (r : ConditionEval) (t : Lent) → Unread T words s r t (depth - 0) (opens above 0) at → EvaluatesC T words at depth s r t
   unfolding opens Known Unread
   walk_begins at s r t k = let e : depth - 0 ≡ depth = omega arith in record { says = rw e at k }
@@ -266,13 +250,13 @@ module _ (T : Table) (words : List ℕ) (depth : ℕ) (above : List ℕ) where
 
       -- The innermost node is closed, or goes on.
       module _ (inner : ℕ) (i : level ≡ inner + 1) (v : Bool) where
-        pub node_closed : (w : Bool) (end : ℕ) → level ≤ depth → Settles words (get_or above inner 0) v at (Closed w end) →
+        pub node_closed : (w : Bool) (end : ℕ) → level ≤ depth → Settles words (get_or above inner not_node) v at (Closed (answer_of w end)) →
             Known T words s r t (depth - inner) (opens above inner) w end (λ l. l) → Known T words s r t (depth - level) (opens above level) v at (λ l. l)
         node_closed w end h a k =
             let e : depth - inner ≡ suc (depth - (inner + 1)) = omega arith in
             rw (i, opens_last above inner) (a.goes T s r t (depth - (inner + 1)) (opens above inner) (rw e at k))
 
-        pub node_more : (n : ℕ) → inner < length above → Settles words (get_or above inner 0) v at (More n) →
+        pub node_more : (n : OpenNode) → inner < length above → Settles words (get_or above inner not_node) v at (More n) →
             Unread T words s r t (depth - level) (opens (set above inner n) level) at → Known T words s r t (depth - level) (opens above level) v at (λ l. l)
         node_more n h a k = rw (i, opens_last above inner) (a.goes T s r t (depth - (inner + 1)) (opens above inner) (rw (i, opens_put above n inner h) at k))
 
@@ -294,6 +278,6 @@ module _ (T : Table) (words : List ℕ) (depth : ℕ) (above : List ℕ) where
             rw levels (at_once T words r t (opens above level) (suc (depth - (level + 1))) at
             (eval_has_lem T words at (depth - (level + 1)) s v u lt f (has_head (condition_head (get_or words at 0)) f e) h) (rw levels at k))
 
-        pub node_open : (n : ℕ) → level < length above → Open n ≡ node_of (condition_head (get_or words at 0)) →
+        pub node_open : (n : OpenNode) → level < length above → Open n ≡ node_of (condition_head (get_or words at 0)) →
             Unread T words s r t (depth - (level + 1)) (opens (set above level n) (level + 1)) (at + 1) → Unread T words s r t (depth - level) (opens above level) at
         node_open n h e k = rw levels (opened T words s r t (opens above level) (depth - (level + 1)) at lt (condition_head (get_or words at 0)) n e refl (rw (opens_put above n level h) at k))

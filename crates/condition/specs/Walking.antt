@@ -1,5 +1,5 @@
 -- A walk over a condition in one loop: the nodes that are open, and what is still asked of them.
-use Rattle.std.specs.Prelude.{Bool, true, false, not, cond, List, [], ◌∷◌, ℕ, zero, suc, ◌+◌, ◌%◌, ◌≤◌, leb, drop, get_or}
+use Rattle.std.specs.Prelude.{Bool, true, false, not, cond, List, [], ◌∷◌, ℕ, zero, suc, ◌+◌, ◌≤◌, drop, get_or}
 use Rattle.std.specs.Bool.{beq}
 use Rattle.model.specs.Facts.{Table}
 use Rattle.model.specs.Condition.{Conditions, cnil, ccons, eval_condition, eval_condition_all, eval_condition_any}
@@ -10,6 +10,8 @@ use Rattle.laws.specs.Size.{words_c, words_cs}
 use Rattle.policy_model.specs.declared.ConditionHead.{ConditionHead}
 use Rattle.policy_model.specs.declared.ConditionHead.TheVariants as condition
 use Rattle.condition.specs.declared.ConditionEval.{ConditionEval}
+use Rattle.condition.specs.declared.OpenNode.{OpenNode}
+use Rattle.condition.specs.declared.OpenNode.TheVariants.{Not, Arms}
 use Rattle.condition.specs.declared.Node.{Node}
 use Rattle.condition.specs.declared.Node.TheVariants.{Value, Has, Open}
 use Rattle.condition.specs.declared.AfterArm.{AfterArm}
@@ -18,34 +20,25 @@ use Rattle.consulted.specs.Listing.{Lent}
 use Rattle.condition.specs.Evaluating.{is_satisfied, Evaluated}
 
 -- ---- nodes
--- What a condition's head is to a walk: 8,192 is a Not, and what is added to the arms after the first is 0 for All and 4,096 for Any.
-abbrev pub list_node : ℕ → ℕ → Node
-list_node kind zero = Value false
-list_node kind (suc n) = Open (n + kind)
+-- What a condition's head is to a walk.
+abbrev pub list_node : Bool → ℕ → Node
+list_node stop zero = Value false
+list_node stop (suc n) = Open (Arms stop n)
 
 abbrev pub node_of : ConditionHead → Node
 node_of condition.Always = Value true
 node_of condition.Never = Value false
 node_of (condition.Has f) = Has f
-node_of condition.Not = Open 8192
-node_of (condition.All n) = list_node 0 n
-node_of (condition.Any n) = list_node 4096 n
+node_of condition.Not = Open Not
+node_of (condition.All n) = list_node false n
+node_of (condition.Any n) = list_node true n
 node_of condition.BadKind = Value false
 node_of condition.BadField = Value false
 
--- An open node: a Not, or a list rule by the value that decides it and how many of its arms come after the one that is read.
-pub data OpenNode : Type 0 where
-  not_node : OpenNode
-  arms_node : Bool → ℕ → OpenNode
-
--- By its number: a Not from 8,192 on, an Any from 4,096 on.
-unfoldable pub open_of : ℕ → OpenNode
-open_of n = cond (leb 8192 n) not_node (arms_node (leb 4096 n) (n % 4096))
-
--- The first `level` numbers as open nodes, the last of them, which is the innermost, first.
-unfoldable pub opens : List ℕ → ℕ → List OpenNode
+-- The first `level` nodes of an array, the last of them, which is the innermost, first.
+unfoldable pub opens : List OpenNode → ℕ → List OpenNode
 opens above zero = []
-opens above (suc level) = open_of (get_or above level 0) ∷ opens above level
+opens above (suc level) = get_or above level Not ∷ opens above level
 
 -- ---- list rules
 -- A list rule by the value that decides it, false for All and true for Any. The empty All is none of them.
@@ -68,8 +61,8 @@ read_on stop T v cs l = cond (beq v stop) l (list_read stop T cs l)
 -- The answer to a walk in which the condition before `next` has the value v and has consulted as `read` does; `d` is how many levels it may have.
 unfoldable pub Known : Table → List ℕ → Lent → ConditionEval → Lent → ℕ → List OpenNode → Bool → ℕ → (Consulted → Consulted) → Type 0
 Known T words s r t d [] v next read = Evaluated v next read s r t
-Known T words s r t d (not_node ∷ fs) v next read = Known T words s r t (suc d) fs (not v) next read
-Known T words s r t d (arms_node stop n ∷ fs) v next read =
+Known T words s r t d (Not ∷ fs) v next read = Known T words s r t (suc d) fs (not v) next read
+Known T words s r t d (Arms stop n ∷ fs) v next read =
     Holds
     (λ cs rest. Known T words s r t (suc d) fs (value_on stop T v cs) (next + words_cs cs) (λ l. read_on stop T v cs (read l)))
     (many cnil ccons (read_condition d) n (drop next words))
@@ -83,15 +76,15 @@ Unread T words s r t d fs next =
 
 -- What is asked where the innermost node is done with an arm.
 abbrev pub Left : Table → List ℕ → Lent → ConditionEval → Lent → ℕ → List OpenNode → ℕ → AfterArm → Type 0
-Left T words s r t d fs next (Closed v end) = Known T words s r t (suc d) fs v end (λ l. l)
-Left T words s r t d fs next (More n) = Unread T words s r t d (open_of n ∷ fs) next
+Left T words s r t d fs next (Closed e) = Known T words s r t (suc d) fs e.satisfied e.next (λ l. l)
+Left T words s r t d fs next (More n) = Unread T words s r t d (n ∷ fs) next
 
 abbrev pub end_of : ℕ → AfterArm → ℕ
-end_of next (Closed v end) = end
+end_of next (Closed e) = e.next
 end_of next (More n) = next
 
 -- An open node whose arm before `next` has the value v: whatever answers the walk after it answers the walk before.
-pub record Settles (words : List ℕ) (n : ℕ) (v : Bool) (next : ℕ) (a : AfterArm) : Type 0 where
+pub record Settles (words : List ℕ) (n : OpenNode) (v : Bool) (next : ℕ) (a : AfterArm) : Type 0 where
   pub onward : next ≤ end_of next a
   pub goes : (T : Table) (s : Lent) (r : ConditionEval) (t : Lent) (d : ℕ) (fs : List OpenNode) →
-      Left T words s r t d fs next a → Known T words s r t d (open_of n ∷ fs) v next (λ l. l)
+      Left T words s r t d fs next a → Known T words s r t d (n ∷ fs) v next (λ l. l)

@@ -14,6 +14,13 @@ use consulted::Consulted;
 use facts::Presence;
 use policy_model::ConditionHead;
 
+// What a walk reads: the words, and the table of facts.
+#[derive(Clone, Copy)]
+pub struct Walk<'a> {
+    pub words: &'a [u32],
+    pub facts: &'a [u8],
+}
+
 // Whether a condition is satisfied, and the position after its words.
 #[derive(Drop)]
 pub struct ConditionEval {
@@ -21,40 +28,32 @@ pub struct ConditionEval {
     pub next: usize,
 }
 
-// Whether a Has is satisfied: on Present. Its fact is consulted: where it is listed already, that changes nothing.
-pub fn eval_has(fact: u32, facts: &[u8], consulted: &mut Consulted<'_>) -> bool
-    requires { fact < fact_count }
-    ensures { EvaluatesHas (table_of facts.now) fact (held consulted.old) result (held consulted.new) }
-{
-    if !consulted.lists(fact) {
-        consulted.record(fact, Presence::of(facts, fact));
-    }
-    facts::present(facts, fact)
+// A node whose arms are still read: a Not, or a list by the value that decides it, which is false for an All and true for an Any, and by how many of its
+// arms come after the one that is read. `stop` is no switch: the value of an arm is compared with it.
+#[derive(Clone, Copy)]
+enum OpenNode {
+    Not,
+    Arms { stop: bool, left: u16 },
 }
-
-// A node that is open is a number: how many of its arms come after the one that is read, and so much more for an Any; a Not is the other.
-const ANY: u16 = policy_model::COUNTS as u16;
-
-const NOT: u16 = 2 * ANY;
 
 // What the first word of a condition is to a walk: a value, a fact to be read, or a node that stays open while its arms are read.
 #[derive(Drop)]
 enum Node {
     Value(bool),
     Has(u32),
-    Open(u16),
+    Open(OpenNode),
 }
 
-// A list of so many arms, `kind` 0 for an All. Without arms All and Any are both false.
-fn list_node(kind: u16, arms: u32) -> Node
-    requires { (kind ≤ 2 ^ count_bits) × (arms < 2 ^ count_bits) }
-    ensures { result ≡ list_node kind arms }
+// A list by the value that decides it. Without arms All and Any are both false.
+fn list_node(stop: bool, arms: u32) -> Node
+    requires { arms < 2 ^ count_bits }
+    ensures { result ≡ list_node stop arms }
 {
     if arms == 0 {
         return Node::Value(false);
     }
-    let node = (arms - 1) as u16 + kind;
-    Node::Open(node)
+    let left = (arms - 1) as u16;
+    Node::Open(OpenNode::Arms { stop, left })
 }
 
 // The node by its word. Of a word that doesn't read nothing is asked.
@@ -65,128 +64,136 @@ fn node_of(word: u32) -> Node
         ConditionHead::Always => Node::Value(true),
         ConditionHead::Never => Node::Value(false),
         ConditionHead::Has(fact) => Node::Has(fact),
-        ConditionHead::Not => Node::Open(NOT),
-        ConditionHead::All(arms) => list_node(0, arms),
-        ConditionHead::Any(arms) => list_node(ANY, arms),
-        ConditionHead::BadKind => Node::Value(false),
-        ConditionHead::BadField => Node::Value(false),
+        ConditionHead::Not => Node::Open(OpenNode::Not),
+        ConditionHead::All(arms) => list_node(false, arms),
+        ConditionHead::Any(arms) => list_node(true, arms),
+        ConditionHead::BadKind | ConditionHead::BadField => Node::Value(false),
     }
 }
 
-// What becomes of an open node when an arm has its value: it is closed, with its own value and the position after it, or its next arm is read.
+// What becomes of an open node when an arm has its value: it is closed, with an answer of its own, or its next arm is read.
 #[derive(Drop)]
 enum AfterArm {
-    Closed { value: bool, next: usize },
-    More(u16),
+    Closed(ConditionEval),
+    More(OpenNode),
 }
 
 // The open node whose arm before `next` has this value. A Not flips it. A false arm decides an All and a true arm an Any, and the arms after it aren't
 // read.
-fn after_arm(words: &[u32], node: u16, value: bool, next: usize) -> AfterArm
+fn after_arm(words: &[u32], node: OpenNode, value: bool, next: usize) -> AfterArm
     ensures { Settles words.now node value next result }
 {
-    if node >= NOT {
-        return AfterArm::Closed {
-            value: !value,
+    match node {
+        OpenNode::Not => AfterArm::Closed(ConditionEval {
+            satisfied: !value,
             next,
-        };
-    }
-    let left = node % ANY;
-    if value == (node >= ANY) {
-        return AfterArm::Closed {
-            value,
-            next: policy_model::skip_conditions(words, next, left as u32),
-        };
-    }
-    if left == 0 {
-        return AfterArm::Closed { value, next };
-    }
-    let more = node - 1;
-    AfterArm::More(more)
-}
-
-// The condition at `at`, of at most `depth` levels. The first `level` numbers of `above` are the nodes that are open, the innermost last. `value` is that of
-// the condition that ends at `next`, or none where a condition is still to be read there.
-fn eval_condition(
-    words: &[u32],
-    at: usize,
-    depth: usize,
-    facts: &[u8],
-    consulted: &mut Consulted<'_>,
-) -> ConditionEval
-    requires { depth ≤ levels }
-    ensures { EvaluatesC (table_of facts.now) words.now at depth (held consulted.old) result (held consulted.new) }
-{
-    let mut above = [0u16; policy_model::LEVELS];
-    let mut level = 0;
-    let mut value: Option<bool> = None;
-    let mut next = at;
-    loop {
-        match value {
-            Some(satisfied) => {
-                if level == 0 {
-                    return ConditionEval { satisfied, next };
-                }
-                let inner = level - 1;
-                match after_arm(words, above[inner], satisfied, next) {
-                    AfterArm::Closed {
-                        value: of,
-                        next: end,
-                    } => {
-                        value = Some(of);
-                        next = end;
-                        level = inner;
-                    }
-                    AfterArm::More(node) => {
-                        above[inner] = node;
-                        value = None;
-                    }
-                }
+        }),
+        OpenNode::Arms { stop, left } => {
+            if value == stop {
+                return AfterArm::Closed(ConditionEval {
+                    satisfied: value,
+                    next: policy_model::skip_conditions(words, next, left as u32),
+                });
             }
-            None => {
-                if words.len() <= next || depth <= level {
-                    return ConditionEval {
-                        satisfied: false,
-                        next,
-                    };
-                }
-                match node_of(words[next]) {
-                    Node::Value(of) => value = Some(of),
-                    Node::Has(fact) => value = Some(eval_has(fact, facts, consulted)),
-                    Node::Open(node) => {
-                        above[level] = node;
-                        level += 1;
-                    }
-                }
-                next += 1;
+            if left == 0 {
+                return AfterArm::Closed(ConditionEval {
+                    satisfied: value,
+                    next,
+                });
             }
+            let left = left - 1;
+            AfterArm::More(OpenNode::Arms { stop, left })
         }
     }
 }
 
-// The same of a grant's condition. Most are a Has, which is seen here, so that no walk is begun for it.
-pub fn eval_arm(
-    words: &[u32],
-    at: usize,
-    depth: usize,
-    facts: &[u8],
-    consulted: &mut Consulted<'_>,
-) -> ConditionEval
-    requires { depth ≤ levels }
-    ensures { EvaluatesC (table_of facts.now) words.now at depth (held consulted.old) result (held consulted.new) }
-{
-    if words.len() <= at {
-        return ConditionEval {
-            satisfied: false,
-            next: at,
-        };
+impl<'a> Walk<'a> {
+    // Whether a Has is satisfied: on Present. Its fact is consulted: where it is listed already, that changes nothing, and is left out for its time.
+    pub fn eval_has(&self, fact: u32, consulted: &mut Consulted<'_>) -> bool
+        requires { fact < fact_count }
+        ensures { EvaluatesHas (table_of self.now.facts.now) fact (held consulted.old) result (held consulted.new) }
+    {
+        if !consulted.lists(fact) {
+            consulted.consult(fact, Presence::of(self.facts, fact));
+        }
+        facts::present(self.facts, fact)
     }
-    let word = words[at];
-    if word / policy_model::FACTS == policy_model::HAS {
-        return ConditionEval {
-            satisfied: eval_has(word % policy_model::FACTS, facts, consulted),
-            next: at + 1,
-        };
+
+    // The condition at `at`, of at most `depth` levels. The first `level` of `above` are the nodes that are open, the innermost last. `value` is that
+    // of the condition that ends at `next`, or none where a condition is still to be read there.
+    // One loop in place of a call for each level, which costs more than the level itself. Its turns aren't counted, so it is no `for`: each reads a word,
+    // closes a node, or goes on to a node's next arm.
+    fn eval_condition(
+        &self,
+        at: usize,
+        depth: usize,
+        consulted: &mut Consulted<'_>,
+    ) -> ConditionEval
+        requires { depth ≤ levels }
+        ensures { EvaluatesC (table_of self.now.facts.now) self.now.words.now at depth (held consulted.old) result (held consulted.new) }
+    {
+        let mut above = [OpenNode::Not; policy_model::LEVELS];
+        let mut level = 0;
+        let mut value: Option<bool> = None;
+        let mut next = at;
+        loop {
+            match value {
+                Some(satisfied) => {
+                    if level == 0 {
+                        return ConditionEval { satisfied, next };
+                    }
+                    let inner = level - 1;
+                    match after_arm(self.words, above[inner], satisfied, next) {
+                        AfterArm::Closed(node) => {
+                            value = Some(node.satisfied);
+                            next = node.next;
+                            level = inner;
+                        }
+                        AfterArm::More(node) => {
+                            above[inner] = node;
+                            value = None;
+                        }
+                    }
+                }
+                None => {
+                    if self.words.len() <= next || depth <= level {
+                        return ConditionEval {
+                            satisfied: false,
+                            next,
+                        };
+                    }
+                    match node_of(self.words[next]) {
+                        Node::Value(of) => value = Some(of),
+                        Node::Has(fact) => value = Some(self.eval_has(fact, consulted)),
+                        Node::Open(node) => {
+                            above[level] = node;
+                            level += 1;
+                        }
+                    }
+                    next += 1;
+                }
+            }
+        }
     }
-    eval_condition(words, at, depth, facts, consulted)
+
+    // The same of a grant's condition. Most are a Has, which is seen here, so that no walk is begun for it.
+    pub fn eval_arm(&self, at: usize, depth: usize, consulted: &mut Consulted<'_>) -> ConditionEval
+        requires { depth ≤ levels }
+        ensures { EvaluatesC (table_of self.now.facts.now) self.now.words.now at depth (held consulted.old) result (held consulted.new) }
+    {
+        if self.words.len() <= at {
+            return ConditionEval {
+                satisfied: false,
+                next: at,
+            };
+        }
+        let word = self.words[at];
+        if word / policy_model::FACTS == policy_model::HAS {
+            return ConditionEval {
+                satisfied: self.eval_has(word % policy_model::FACTS, consulted),
+                next: at + 1,
+            };
+        }
+        self.eval_condition(at, depth, consulted)
+    }
 }

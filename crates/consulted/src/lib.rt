@@ -6,7 +6,7 @@ ghost use Rattle.std.specs.Prelude.{◌≡◌, ◌<◌, length as long};
 ghost use Rattle.model.specs.Facts.{fact_count};
 ghost use Rattle.facts.specs.Answers.{presence_of};
 ghost use Rattle.fact_set.specs.Sets.{Contained};
-ghost use Rattle.consulted.specs.Lists.{entries_with, length_with};
+ghost use Rattle.consulted.specs.Lists.{entries_with, length_with, list_with};
 ghost use Rattle.consulted.specs.Listing.{held, Recorded};
 
 use facts::Presence;
@@ -18,7 +18,7 @@ pub struct Consulted<'a> {
     pub length: usize,
 }
 
-// Puts the entry at the end, unless its fact is listed `already`, and returns how many are in use then.
+// Puts the entry at the end, unless its fact is listed `already`, and returns how many are in use then. The flag is document 01's.
 pub fn recorded(entries: &mut [u16], length: usize, already: bool, entry: u16) -> usize
     requires { length < long entries.old }
     ensures listed { (result ≡ length_with length already) × (entries.new ≡ entries_with entries.old length already entry) }
@@ -38,8 +38,16 @@ impl<'a> Consulted<'a> {
         fact_set::contains(&*self.seen, fact)
     }
 
+    // `recorded` of a list that is lent. The set of its facts is `consult`'s.
+    pub fn record(&mut self, already: bool, entry: u16)
+        requires { self.old.length < long self.old.entries.now }
+        ensures { self.new ≡ list_with self.old already entry }
+    {
+        self.length = recorded(&mut *self.entries, self.length, already, entry);
+    }
+
     // Lists the fact with its presence, unless it is listed already or the entries are full.
-    pub fn record(&mut self, fact: u32, presence: Presence)
+    pub fn consult(&mut self, fact: u32, presence: Presence)
         requires { fact < fact_count }
         ensures { Recorded fact (presence_of presence) (held self.old) (held self.new) }
     {
@@ -47,8 +55,7 @@ impl<'a> Consulted<'a> {
             return;
         }
         let already = self.lists(fact);
-        let entry = facts::entry(fact, presence);
-        self.length = recorded(&mut *self.entries, self.length, already, entry);
+        self.record(already, facts::entry(fact, presence));
         if !already {
             fact_set::insert(&mut *self.seen, fact);
         }

@@ -1,6 +1,6 @@
 -- The entries of a record, looked at one after the other. Assumes nothing.
 use mathlib.Core.Path.{◌≡◌, sym, ◌∙◌, ap, ap₂}
-use mathlib.Core.Bool.{true, false, ◌||◌}
+use mathlib.Core.Bool.{Bool, true, false, ◌||◌}
 use mathlib.Core.List.{List, ◌∷◌, ◌++◌, map}
 use Prim.Native.Nat.{ℕ, ◌+◌, ◌/◌, ◌%◌, ◌≤◌, ◌<◌}
 use native.Mathlib.Numerals.{add-one}
@@ -33,11 +33,12 @@ module _ (P : Table) (words : List ℕ) (count : ℕ) where
         ∙ ap (any_contradicted P) (sym (drop-cons es i no_entry here))
         ∙ k.others es rest n c were
 
-    pub seen_more : contradicts seen later ≡ false → Undecided (i + 1)
-    seen_more e = record { within = omega arith; others = λ es rest n c were. ap (λ d. d || any_contradicted P (drop (i + 1) es)) (sym e) ∙ one_more es rest n c were }
+    module _ {it : Bool} (e : it ≡ contradicts seen later) where
+      pub seen_more : it ≡ false → Undecided (i + 1)
+      seen_more k₁ = record { within = omega arith; others = λ es rest n c were. ap (λ d. d || any_contradicted P (drop (i + 1) es)) (sym k₁ ∙ e) ∙ one_more es rest n c were }
 
-    pub found : contradicts seen later ≡ true → Contradicted P words count true
-    found e = record { says = λ es rest n c were. ap (λ d. d || any_contradicted P (drop (i + 1) es)) (sym e) ∙ one_more es rest n c were }
+      pub found : it ≡ true → Contradicted P words count true
+      found k₁ = record { says = λ es rest n c were. ap (λ d. d || any_contradicted P (drop (i + 1) es)) (sym k₁ ∙ e) ∙ one_more es rest n c were }
 
   -- Words that end before their entries do hold none.
   pub words_end : (i : ℕ) → i < count → length words ≤ 1 + i / 2 → Contradicted P words count false

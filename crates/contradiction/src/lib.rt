@@ -7,6 +7,7 @@ ghost use Rattle.contradiction.specs.Contradicted.{Contradicted};
 use facts::Presence;
 
 // Whether the table contradicts one of the `consulted` entries after the first word. They are looked at as they stand, so that repeated ones count too.
+#[tactic(auto, using(crate::proofs::Contradicting::words_end))]
 pub fn contradicted(words: &[u32], consulted: usize, facts: &[u8]) -> bool
     ensures { Contradicted (table_of facts.now) words.now consulted result }
 {

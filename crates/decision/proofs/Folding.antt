@@ -1,5 +1,5 @@
 -- The folds of permits, case by case. Assumes nothing.
-use mathlib.Core.Path.{◌≡◌, refl, sym, ◌∙◌, ap, ap₂, subst}
+use mathlib.Core.Path.{◌≡◌, refl, sym, ◌∙◌, ap, ap₂}
 use mathlib.Core.Bool.{Bool, true, false, cond}
 use mathlib.Core.Option.{Option}
 use mathlib.Core.List.{List, []}
@@ -31,14 +31,12 @@ module _ (fold : Permit Outcome → Permit Outcome → Permit Outcome) (words be
       ((T : Table) → fold (permit_of words T before sofar) (permit_of words T (drop obligation_room before) incoming) ≡ permit_of words T (drop obligation_room before) incoming) →
       Folded fold words before after sofar incoming r
   keeps_second after r few k f =
-      let it : Folded fold words before after sofar incoming incoming =
-      record {
+      rw k.same (record {
         few = few;
         permit = λ _ p. p;
         sound = λ _ s. same_sound words (drop obligation_room before) after incoming k.front s;
         folded = λ _ _ T. same_permit words (drop obligation_room before) after incoming k.front T ∙ sym (f T);
-      } in
-      subst (Folded fold words before after sofar incoming) (sym k.same) it
+      })
 
 -- ---- meet
 module _ (g : Option OutcomeTable) (p q : Permit Outcome) (o : ℕ) (is : o ≡ meet_of g p.outcome q.outcome) where
@@ -66,15 +64,12 @@ module _ (g : Option OutcomeTable) (words before : List ℕ) (sofar incoming : D
   pub meet_neither : (r : Decision) → r ≡ permitted_at o (length words) (length words) 0 → eqb o sofar.outcome ≡ false → eqb o incoming.outcome ≡ false →
       Folded (meet_permit g) words before before sofar incoming r
   meet_neither r e n m =
-      let none = length words in
-      let it : Folded (meet_permit g) words before before sofar incoming (permitted_at o none none 0) =
-      record {
+      rw e (record {
         few = omega arith;
         permit = λ _ _. refl;
-        sound = λ _ _. sound_permitted words before o none (past (omega arith));
-        folded = λ _ _ T. permitted_is words T before o none (omega arith) ∙ sym (meets T false false n m);
-      } in
-      subst (Folded (meet_permit g) words before before sofar incoming) (sym e) it
+        sound = λ _ _. sound_permitted words before o (length words) (past (omega arith));
+        folded = λ _ _ T. permitted_is words T before o (length words) (omega arith) ∙ sym (meets T false false n m);
+      })
 
 -- ---- join
 abbrev with_obligations : Permit Outcome → List ℕ → Permit Outcome
@@ -123,8 +118,7 @@ module _ (g : Option OutcomeTable) (words before : List ℕ) (sofar incoming : D
       eqb o sofar.outcome ≡ true → eqb o incoming.outcome ≡ true → Folded (join_permit g) words before after sofar incoming r
   unfolding permit_of
   join_both after n r e u m k =
-      let it : Folded (join_permit g) words before after sofar incoming (permitted_at o sofar.clause sofar.obligations n) =
-      record {
+      rw e (record {
         few = u.few;
         permit = λ _ _. refl;
         sound = λ s t. united_sound after sofar.clause n u s.clause s t;
@@ -132,8 +126,7 @@ module _ (g : Option OutcomeTable) (words before : List ℕ) (sofar incoming : D
             united after sofar.clause n u T s t
             ∙ ap (λ x. record { outcome = x; obligations = union; label = (clause_at words T sofar.clause).label; facts = (clause_at words T sofar.clause).facts }) (eqb-true o sofar.outcome m)
             ∙ sym (joins T true true m k);
-      } in
-      subst (Folded (join_permit g) words before after sofar incoming) (sym e) it
+      })
 
   pub join_unobliged : sofar.united ≤ obligation_room → eqb o sofar.outcome ≡ true → eqb o incoming.outcome ≡ true → Unobliged words incoming → Folded (join_permit g) words before before sofar incoming sofar
   unfolding permit_of
@@ -151,8 +144,7 @@ module _ (g : Option OutcomeTable) (words before : List ℕ) (sofar incoming : D
       eqb o sofar.outcome ≡ false → eqb o incoming.outcome ≡ false → Folded (join_permit g) words before after sofar incoming r
   join_neither after n r e u m k =
       let none = length words in
-      let it : Folded (join_permit g) words before after sofar incoming (permitted_at o none sofar.obligations n) =
-      record {
+      rw e (record {
         few = u.few;
         permit = λ _ _. refl;
         sound = λ s t. united_sound after none n u (past (omega arith)) s t;
@@ -160,5 +152,4 @@ module _ (g : Option OutcomeTable) (words before : List ℕ) (sofar incoming : D
             united after none n u T s t
             ∙ ap (λ (c : Denial Outcome). record { outcome = o; obligations = union; label = c.label; facts = c.facts }) (no_clause words T none (omega arith))
             ∙ sym (joins T false false m k);
-      } in
-      subst (Folded (join_permit g) words before after sofar incoming) (sym e) it
+      })

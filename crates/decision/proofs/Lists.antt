@@ -5,7 +5,8 @@ use Prim.Native.Nat.{ℕ, ◌+◌, ◌≤◌, ◌<◌}
 use native.Mathlib.Numerals.{add-one}
 use native.Mathlib.Omega.{arith}
 use lib.ListN.{length, take, drop, set}
-use lib.Seq.{length-take-le, take-append-add, take_at, take-suc-set}
+use lib.Seq.{length-take-le, take-append-add, take_at}
+use Rattle.std.proofs.lemmas.List.{take_more_set}
 use Rattle.model.specs.Writing.{obligation_bits}
 use Rattle.laws.specs.FieldAt.{field_at, firsts}
 use Rattle.decision.specs.Room.{obligation_room}
@@ -19,10 +20,8 @@ pub load_more : (node mid : List ℕ) (i v : ℕ) → i < length mid → take i 
     take (i + 1) (set mid i v) ≡ obligation_fields (i + 1) (drop 2 node)
 unfolding firsts
 load_more node mid i v h l e =
-    ap (λ n. take n (set mid i v)) (add-one i)
-    ∙ take-suc-set mid i v h
-    ∙ ap (λ os. os ++ v ∷ []) l
-    ∙ ap (λ x. obligation_fields i (drop 2 node) ++ x ∷ []) e
+    take_more_set mid i v h
+    ∙ ap₂ (λ os x. os ++ x ∷ []) l e
     ∙ ap (λ n. obligation_fields n (drop 2 node)) (sym (add-one i))
 
 -- ---- a node's obligations, and those that were appended behind them

@@ -1,24 +1,22 @@
 -- A mask of obligations answers whether one is held. Assumes nothing.
 use mathlib.Core.Path.{◌≡◌, refl, sym, ◌∙◌, ap, ap₂, subst}
-use mathlib.Core.Bool.{Bool, true, false, ◌||◌, or-false, or_assoc}
+use mathlib.Core.Bool.{Bool, true, false, cond, ◌||◌, or-false, or_assoc}
 use mathlib.Core.List.{List, [], ◌∷◌, ◌++◌}
-use Prim.Native.Nat.{ℕ, zero, suc, ◌+◌, ◌*◌, ◌/◌, ◌%◌, ◌^◌, ◌<◌}
-use native.Mathlib.Nat.{one-mul, zero-div, pow-suc, mul-mod_left, div-one, div-eq_of_lt, mul-div-mul_right, mod-lt}
-use native.Mathlib.Numerals.{add-one}
+use Prim.Native.Nat.{ℕ, zero, suc, ◌/◌, ◌%◌, ◌^◌, ◌<◌}
+use native.Mathlib.Nat.{zero-div, pow-suc, mul-mod_left, div-one, div-eq_of_lt, mul-div-mul_right, mod-lt}
 use native.Mathlib.Omega.{arith}
 use lib.Dec.{eqb, eqb-zero-suc, eqb-suc-zero, eqb-suc-suc}
-use lib.Pow.{pow-lt, shl_exact}
+use lib.Pow.{pow-lt}
 use lib.Bits.{bit_or, or_shr, or_mod}
 use Rattle.model.specs.Decision.{held}
-use Rattle.model.specs.Writing.{obligation_bits}
 use Rattle.model.specs.Reading.{obligation_count}
 use Rattle.laws.specs.Lists.{Below}
-use Rattle.laws.specs.FieldAt.{field_at, firsts}
-use Rattle.policy_model.specs.Heads.{bit_of}
-use Rattle.decision.specs.Nodes.{obligation_fields}
 use Rattle.decision.specs.Answers.{mask_from, Masked}
 
 -- ---- bits
+abbrev bit_of : Bool → ℕ
+bit_of b = cond b 1 0
+
 abbrev pub bit_at : ℕ → ℕ → ℕ
 bit_at m b = m / 2 ^ b % 2
 
@@ -61,10 +59,6 @@ mask_held m b (x ∷ xs) =
 pub mask_of : (b : ℕ) (xs : List ℕ) → eqb (bit_at (mask_from 0 xs) b) 1 ≡ held b xs
 mask_of b xs = mask_held 0 b xs ∙ ap (λ n. eqb (n % 2) 1 || held b xs) (zero-div (2 ^ b))
 
--- A bit that is shifted to its place.
-pub one_shifted : (b : ℕ) → b < 64 → (1 * 2 ^ b) % 2 ^ 64 ≡ 2 ^ b
-one_shifted b h = shl_exact {a = 1} 1 b 64 (omega arith) (omega arith) ∙ one-mul (2 ^ b)
-
 -- ---- lists with one more
 pub below_first : (n : ℕ) (ps qs : List ℕ) → Below n (ps ++ qs) → Below n ps
 below_first n [] qs h = tt
@@ -78,14 +72,6 @@ masked_end : (m : ℕ) (os : List ℕ) (o x y : ℕ) → Masked m os x → (o < 
 masked_end m os o x y k e =
     record { is = λ b. e (below_second obligation_count os (o ∷ []) b).0 ∙ ap (λ n. bit_or n (2 ^ o)) (k.is (below_first obligation_count os (o ∷ []) b)) ∙ sym (mask_end m o os) }
 
-pub masked_none : (m : ℕ) → Masked m [] m
-masked_none m = record { is = λ _. refl }
-
 -- One more, where the list is longer by it.
 pub masked_more : (m : ℕ) (os ps : List ℕ) (o x y : ℕ) → ps ≡ os ++ o ∷ [] → Masked m os x → (o < obligation_count → y ≡ bit_or x (2 ^ o)) → Masked m ps y
 masked_more m os ps o x y e k f = subst (λ l. Masked m l y) (sym e) (masked_end m os o x y k f)
-
--- The fields of a node, one after the other.
-pub field_more : (ws : List ℕ) (i v : ℕ) → v ≡ field_at obligation_bits ws i → obligation_fields (i + 1) ws ≡ obligation_fields i ws ++ v ∷ []
-unfolding firsts
-field_more ws i v e = ap (λ n. obligation_fields n ws) (add-one i) ∙ ap (λ z. obligation_fields i ws ++ z ∷ []) (sym e)

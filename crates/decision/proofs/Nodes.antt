@@ -1,35 +1,38 @@
 -- A node that reads has the obligations that stand two words after its first, each below 64. Assumes nothing.
 use mathlib.Core.Path.{◌≡◌, refl, sym, ◌∙◌, ap, subst}
-use mathlib.Core.Bool.{Bool, true, false, cond}
+use mathlib.Core.Bool.{Bool, true, false}
 use mathlib.Core.Option.{Option}
 use mathlib.Core.List.{List, [], ◌∷◌, ◌++◌, map-id}
-use Prim.Native.Nat.{ℕ, zero, suc, ◌+◌, ◌-◌, ◌/◌, ◌%◌, ◌≤◌, ◌<◌}
+use Prim.Native.Nat.{ℕ, ◌+◌, ◌-◌, ◌/◌, ◌%◌, ◌≤◌, ◌<◌}
 use native.Mathlib.Numerals.{add-one}
 use native.Mathlib.Omega.{arith}
 use borrow.Author.Tests.{ltb-true, ltb-false}
-use lib.Dec.{eqb, ltb, leb}
+use lib.Dec.{ltb}
 use lib.ListN.{length, take, drop, get_or, length-drop, drop_of_length-le}
 use lib.Seq.{take_all, drop-cons}
+use Rattle.std.specs.Prelude.{Option as Carried}
 use Rattle.model.specs.Facts.{Table}
 use Rattle.model.specs.Fields.{pack}
 use Rattle.model.specs.Condition.{Condition}
 use Rattle.model.specs.Decision.{denies, generic_deny}
 use Rattle.model.specs.Policy.{Policy, pnil, pcons}
 use Rattle.model.specs.Writing.{obligation_bits, entry_bits, most_held}
-use Rattle.model.specs.Reading.{Parsed, refuse, got, next, another, counted, read_list, obligation, listed, mark, many, shape_of, kind_of, rest_of, read_condition, most_obligations, obligation_count}
+use Rattle.model.specs.Reading.{Parsed, refuse, got, next, another, counted, read_list, obligation, listed, mark, many, shape_of, read_condition, obligation_count}
 use Rattle.model.specs.Products.{Outcome, read_policy}
 use Rattle.laws.specs.Lists.{Below}
 use Rattle.laws.specs.FieldAt.{firsts}
 use Rattle.laws.proofs.FieldAtLaws.{fields_held, narrow_below}
 use Rattle.laws.proofs.FieldLaws.{Holds, fine, nothing, if_holds, weaker, then_holds, both_hold, same_list_lem}
 use Rattle.laws.proofs.ReadForm.{same_obligation, ok_obligations}
+use Rattle.policy_model.specs.declared.DenyShape.{DenyShape}
 use Rattle.policy_model.specs.declared.PolicyHead.{PolicyHead}
 use Rattle.policy_model.specs.declared.PolicyHead.TheVariants.{Permit, Deny, Grant, All, Any, OrElse, PermitWithTrace, DenyWithTrace, BadKind, BadField}
-use Rattle.policy_model.specs.Heads.{permit_head, grant_head, permit_trace_head, deny_trace_head, policy_heads, policy_head, bit_of, denied_by, grant_node, permit_trace_node, deny_trace_node, policy_node}
+use Rattle.policy_model.specs.Heads.{policy_head, bit_of, denied_by, grant_node, permit_trace_node, deny_trace_node, policy_node}
 use Rattle.policy_model.specs.HeadLaws.{policy_node_lem}
+use Rattle.policy_model.proofs.Skipping.{grant_says, permit_says}
 use Rattle.decision.specs.Nodes.{node_at, obligations_of_d, obligations_of, clause_read, obligations_read, clause_at, obligations_at, obligation_fields, head_count, obligation_count_of}
 use Rattle.decision.specs.Meaning.{Names, past, reads}
-use Rattle.decision.specs.Answers.{Listed, Loaded, Masked}
+use Rattle.decision.specs.Answers.{Listed, Loaded}
 
 -- A list that was read is the fields of its words.
 abbrev ReadO : ℕ → List ℕ → List ℕ → List ℕ → Type 0
@@ -62,10 +65,10 @@ unfolding firsts
 none_has h ws t vs e k = record { below = subst (Below obligation_count) (sym e) tt; listed_there = e ∙ sym (ap (λ n. obligation_fields n (drop 1 ws)) k) }
 
 module _ (pc : List ℕ → Parsed Condition) (p : List ℕ → Parsed (Policy Outcome)) where
-  grant_has : (hidden : Bool) (n o : ℕ) (ws : List ℕ) → Holds (Has (Grant hidden n o) ws) (grant_node pc hidden n o ws)
+  grant_has : (shape : DenyShape) (n o : ℕ) (ws : List ℕ) → Holds (Has (Grant shape n o) ws) (grant_node pc shape n o ws)
   unfolding grant_node
-  grant_has hidden n o [] = nothing
-  grant_has hidden n o (w ∷ ws) =
+  grant_has shape n o [] = nothing
+  grant_has shape n o (w ∷ ws) =
       then_holds (mark (w / 65536)) _ (whatever (mark (w / 65536))) (λ l _ _.
       then_holds (mark (w % 65536)) _ (whatever (mark (w % 65536))) (λ m _ _.
       then_holds (read_list obligation obligation_bits n ws) _ (read_obligations n ws) (λ os vs h.
@@ -82,15 +85,15 @@ module _ (pc : List ℕ → Parsed Condition) (p : List ℕ → Parsed (Policy O
       then_holds (read_list listed entry_bits (w % 65536) vs) _ (whatever (read_list listed entry_bits (w % 65536) vs)) (λ fs us _.
       fine h))))
 
-  deny_has : (hidden denied : Bool) (o : ℕ) (ws : List ℕ) → Holds (λ d _. obligations_of_d d ≡ []) (deny_trace_node hidden denied o ws)
+  deny_has : (shape : DenyShape) (denied : Carried ℕ) (ws : List ℕ) → Holds (λ d _. obligations_of_d d ≡ []) (deny_trace_node shape denied ws)
   unfolding deny_trace_node
-  deny_has hidden denied o [] = nothing
-  deny_has hidden denied o (w ∷ ws) =
+  deny_has shape denied [] = nothing
+  deny_has shape denied (w ∷ ws) =
       then_holds (mark (w / 65536)) _ (whatever (mark (w / 65536))) (λ l _ _.
       then_holds (mark (w % 65536)) _ (whatever (mark (w % 65536))) (λ m _ _. facts_read l m ws))
     where
       facts_read : (l m : Option ℕ) (ws : List ℕ) → Holds (λ d _. obligations_of_d d ≡ []) (another ws (λ n vs. counted n (next (read_list listed entry_bits n vs) (λ fs us.
-          got (denies (record { denied = denied_by denied o; facts = fs; label = l; reason = m; shape = shape_of (bit_of hidden) })) us))))
+          got (denies (record { denied = denied_by denied; facts = fs; label = l; reason = m; shape = shape_of (bit_of shape) })) us))))
       facts_read l m [] = nothing
       facts_read l m (n ∷ ws) =
           if_holds (ltb n 4096) 8 _ (λ _. then_holds (read_list listed entry_bits n ws) _ (whatever (read_list listed entry_bits n ws)) (λ fs us _. fine refl))
@@ -99,14 +102,14 @@ module _ (pc : List ℕ → Parsed Condition) (p : List ℕ → Parsed (Policy O
   unfolding policy_node
   node_has (Permit o) ws = fine (none_has _ _ _ _ refl refl)
   node_has Deny ws = fine (none_has _ _ _ _ refl refl)
-  node_has (Grant hidden n o) ws = grant_has hidden n o ws
+  node_has (Grant shape n o) ws = grant_has shape n o ws
   node_has (All n) ws = then_holds (many pnil pcons p n ws) _ (whatever (many pnil pcons p n ws)) (λ ts vs _. fine (none_has _ _ _ _ refl refl))
   node_has (Any n) ws = then_holds (many pnil pcons p n ws) _ (whatever (many pnil pcons p n ws)) (λ ts vs _. fine (none_has _ _ _ _ refl refl))
   node_has OrElse ws = then_holds (p ws) _ (whatever (p ws)) (λ a vs _. then_holds (p vs) _ (whatever (p vs)) (λ b us _. fine (none_has _ _ _ _ refl refl)))
   node_has (PermitWithTrace n o) ws =
       then_holds (permit_trace_node n o ws) _ (permit_has n o ws) (λ d vs h. fine (record { below = h.0; listed_there = h.1 }))
-  node_has (DenyWithTrace hidden denied o) ws =
-      then_holds (deny_trace_node hidden denied o ws) _ (deny_has hidden denied o ws) (λ d vs h. fine (none_has _ _ _ _ h refl))
+  node_has (DenyWithTrace shape denied) ws =
+      then_holds (deny_trace_node shape denied ws) _ (deny_has shape denied ws) (λ d vs h. fine (none_has _ _ _ _ h refl))
   node_has BadKind ws = nothing
   node_has BadField ws = nothing
 
@@ -168,70 +171,20 @@ obligations_there words at h (reads t vs e) =
     ∙ ap obligations_read (sym (node_there words at h))
 
 -- ---- a head has at most 127 obligations, and at most as many as the field that counts them says
-abbrev FewCounted : ℕ → PolicyHead → Type 0
-FewCounted r h = (head_count h ≤ most_held) × (head_count h ≤ r / 1048576 % 128)
-
-few_if : (r : ℕ) (b : Bool) (g h : PolicyHead) → (b ≡ true → FewCounted r g) → FewCounted r h → FewCounted r (cond b g h)
-few_if r true g h f k = f refl
-few_if r false g h f k = k
-
-none_few : (r : ℕ) → FewCounted r BadKind
-none_few r = (omega arith, omega arith)
-
-few_grant : (r : ℕ) → FewCounted r (grant_head r)
-unfolding grant_head
-few_grant r =
-    few_if r (leb (r / 1048576 % 128) most_obligations) _ BadField
-    (λ _. few_if r (eqb (r / 65536 % 16) 0) (Grant (eqb (r / 134217728) 1) (r / 1048576 % 128) (r % 65536)) BadField (λ _. (omega arith, omega arith)) (none_few r))
-    (none_few r)
-
-few_permit_trace : (r : ℕ) → FewCounted r (permit_trace_head r)
-unfolding permit_trace_head
-few_permit_trace r =
-    few_if r (eqb (r / 134217728) 0) _ BadField
-    (λ _. few_if r (eqb (r / 65536 % 16) 0) (PermitWithTrace (r / 1048576 % 128) (r % 65536)) BadField (λ _. (omega arith, omega arith)) (none_few r))
-    (none_few r)
-
-few_permit : (r : ℕ) → FewCounted r (permit_head r)
-unfolding permit_head
-few_permit r = few_if r (eqb (r / 65536) 0) (Permit (r % 65536)) BadField (λ _. none_few r) (none_few r)
-
-few_deny_trace : (r : ℕ) → FewCounted r (deny_trace_head r)
-unfolding deny_trace_head
-few_deny_trace r =
-    few_if r (eqb (r / 65536 % 1024) 0) _ BadField
-    (λ _. few_if r (eqb (r / 67108864 % 2) 1) (DenyWithTrace (eqb (r / 134217728) 1) true (r % 65536)) _ (λ _. none_few r)
-    (few_if r (eqb (r % 65536) 0) (DenyWithTrace (eqb (r / 134217728) 1) false (r % 65536)) BadField (λ _. none_few r) (none_few r)))
-    (none_few r)
-
-few_heads : (r j : ℕ) → FewCounted r (get_or (policy_heads true r) j BadKind)
-few_heads r zero = few_permit r
-few_heads r (suc zero) = few_if r (eqb r 0) Deny BadField (λ _. none_few r) (none_few r)
-few_heads r (suc (suc zero)) = few_grant r
-few_heads r (suc (suc (suc zero))) = few_if r (ltb r 4096) (All r) BadField (λ _. none_few r) (none_few r)
-few_heads r (suc (suc (suc (suc zero)))) = few_if r (ltb r 4096) (Any r) BadField (λ _. none_few r) (none_few r)
-few_heads r (suc (suc (suc (suc (suc zero))))) = few_if r (eqb r 0) OrElse BadField (λ _. none_few r) (none_few r)
-few_heads r (suc (suc (suc (suc (suc (suc zero)))))) = few_permit_trace r
-few_heads r (suc (suc (suc (suc (suc (suc (suc zero))))))) = few_deny_trace r
-few_heads r (suc (suc (suc (suc (suc (suc (suc (suc j)))))))) = none_few r
-
-few_in : (w : ℕ) → FewCounted (rest_of w) (policy_head w true)
-unfolding policy_head
-few_in w = few_if (rest_of w) (leb 6 (kind_of w)) (get_or (policy_heads true (rest_of w)) (kind_of w - 6) BadKind) BadKind (λ _. few_heads (rest_of w) (kind_of w - 6)) (none_few (rest_of w))
-
-few_obligations_lem : (w : ℕ) → obligation_count_of w ≤ most_held
-unfolding obligation_count_of
-few_obligations_lem w = (few_in w).0
+few_in : (w : ℕ) (h : PolicyHead) → h ≡ policy_head w true → (head_count h ≤ most_held) × (head_count h ≤ w / 1048576 % 128)
+few_in w (Grant shape n o) e = let says = grant_says true w shape n o e in (omega (arith, says.0), omega (arith, says.0))
+few_in w (PermitWithTrace n o) e = let says = permit_says true w n o e in (omega (arith, says.0), omega (arith, says.0))
+few_in w h e = (omega arith, omega arith)
 
 -- A word whose field says none has none, whatever its node.
 pub no_obligations : (w : ℕ) → w / 1048576 % 128 ≡ 0 → obligation_count_of w ≡ 0
 unfolding obligation_count_of
-no_obligations w e = omega (arith, (few_in w).1)
+no_obligations w e = omega (arith, (few_in w (policy_head w true) refl).1)
 
 -- What the code counts and loads.
 pub counted_as : (w : ℕ) (h : PolicyHead) → h ≡ policy_head w true → (head_count h ≡ obligation_count_of w) × (head_count h ≤ most_held)
 unfolding obligation_count_of
-counted_as w h e = (ap head_count e, subst (λ n. n ≤ most_held) (sym (ap head_count e)) (few_obligations_lem w))
+counted_as w h e = (ap head_count e, (few_in w h e).0)
 
 pub loaded_none : (words : List ℕ) (at : ℕ) (out : List ℕ) → length words ≤ at → Loaded words at out 0
 loaded_none words at out h = record { few = omega arith; front = λ _. sym (none_held words at h) }
@@ -246,6 +199,3 @@ fields_there words at n h e names =
 pub loaded : (words : List ℕ) (at n : ℕ) (out : List ℕ) → at < length words → n ≡ obligation_count_of (get_or words at 0) → n ≤ most_held →
     Listed (take (length words - at) (drop at words)) n out → Loaded words at out n
 loaded words at n out h e few l = record { few = few; front = λ names. l.front ∙ fields_there words at n h e names }
-
-pub masked_none_there : (words : List ℕ) (at : ℕ) → length words ≤ at → Names words at → Masked 0 (obligations_at words at) 0
-masked_none_there words at h names = subst (λ os. Masked 0 os 0) (sym (none_held words at h)) (record { is = λ _. refl })

@@ -2,13 +2,13 @@
 use mathlib.Core.Path.{◌≡◌, refl, sym, ◌∙◌, ap, subst}
 use mathlib.Core.Bool.{Bool, true, false, cond, ◌||◌}
 use mathlib.Core.List.{List, [], ◌∷◌, ◌++◌, append_assoc}
-use Prim.Native.Nat.{ℕ, ◌+◌, ◌-◌, ◌≤◌, ◌<◌, ◌^◌}
-use native.Mathlib.Numerals.{add-one}
+use Prim.Native.Nat.{ℕ, ◌+◌, ◌≤◌, ◌<◌, ◌^◌}
 use native.Mathlib.Omega.{arith}
 use borrow.Author.Tests.{eq-eqb, ne_eqb}
 use lib.Dec.{eqb}
-use lib.ListN.{length, take, drop, set, get_or, length-append, length-drop}
-use lib.Seq.{length-take-le, get_or-drop, take-suc, take-suc-set, drop-set-lt}
+use lib.ListN.{length, take, drop, set, length-append}
+use lib.Seq.{length-take-le, take-append-le, take-take}
+use Rattle.std.proofs.lemmas.List.{take_more_set}
 use lib.Bits.{bit_or}
 use Rattle.model.specs.Decision.{held, union_obligations}
 use Rattle.model.specs.Decision.{insert as insert_one}
@@ -17,10 +17,10 @@ use Rattle.laws.specs.Lists.{Below, distinct_end, every_end, every_append, or_fa
 use Rattle.decision.specs.Room.{obligation_room}
 use Rattle.decision.specs.declared.Decision.{Decision}
 use Rattle.decision.specs.declared.Union.{Union}
-use Rattle.decision.specs.Nodes.{obligations_at, obligation_fields, obligation_count_of}
-use Rattle.decision.specs.Meaning.{obligations_in, Names, Sound}
+use Rattle.decision.specs.Nodes.{obligations_at}
+use Rattle.decision.specs.Meaning.{obligations_in, Appended, Names, Sound}
 use Rattle.decision.specs.Answers.{mask_from, Masked, Holding, Grown, GrownBy, Both}
-use Rattle.decision.proofs.Nodes.{none_held, obligations_below, fields_there}
+use Rattle.decision.proofs.Nodes.{obligations_below}
 use Rattle.decision.proofs.Masks.{bit_at, mask_end, mask_append, mask_of, below_first, below_second}
 
 abbrev pub union_of : ℕ → ℕ → Union
@@ -40,13 +40,12 @@ union_append os (p ∷ ps) qs = union_append (insert_one os p) ps qs
 
 -- ---- one by one
 pub grown_none : (buf : List ℕ) (u : Union) → u.count ≤ obligation_room → Grown [] buf buf u u
-grown_none buf u few = record { few = few; rest = refl; holds = λ os _ h. h; grown = λ os _ _. refl }
+grown_none buf u few = record { few = few; holds = λ os _ h. h; grown = λ os _ _. refl }
 
 pub grown_then : {ps qs a b c : List ℕ} {u v z : Union} → Grown ps a b u v → Grown qs b c v z → Grown (ps ++ qs) a c u z
 grown_then {ps} {qs} f g =
     record {
       few = g.few;
-      rest = g.rest ∙ f.rest;
       holds = λ os k h. g.holds os (below_second obligation_count ps qs k) (f.holds os (below_first obligation_count ps qs k) h);
       grown = λ os k h.
           g.grown os (below_second obligation_count ps qs k) (f.holds os (below_first obligation_count ps qs k) h)
@@ -60,7 +59,7 @@ module _ (mask count o : ℕ) (buf : List ℕ) (few : count ≤ obligation_room)
   before = union_of mask count
 
   pub append_none : obligation_count ≤ o → Grown (o ∷ []) buf buf before before
-  append_none h = record { few = few; rest = refl; holds = λ os k _. absurd (omega (arith, k.0)); grown = λ os k _. absurd (omega (arith, k.0)) }
+  append_none h = record { few = few; holds = λ os k _. absurd (omega (arith, k.0)); grown = λ os k _. absurd (omega (arith, k.0)) }
 
   held_by_lem : (os : List ℕ) → Holding os buf before → eqb (bit_at mask o) 1 ≡ held o (os ++ take count buf)
   held_by_lem os h = ap (λ m. eqb (bit_at m o) 1) h.mask_is ∙ mask_of o (os ++ take count buf)
@@ -69,7 +68,6 @@ module _ (mask count o : ℕ) (buf : List ℕ) (few : count ≤ obligation_room)
   append_held e =
       record {
         few = few;
-        rest = refl;
         holds = λ os _ h. h;
         grown = λ os _ h. ap (λ b. cond b (os ++ take count buf) ((os ++ take count buf) ++ o ∷ [])) (sym (eq-eqb (bit_at mask o) 1 e) ∙ held_by_lem os h);
       }
@@ -83,10 +81,9 @@ module _ (mask count o : ℕ) (buf : List ℕ) (few : count ≤ obligation_room)
 
     pub append_new : (m : ℕ) → count < obligation_room → (o < obligation_count → m ≡ bit_or mask (2 ^ o)) → Grown (o ∷ []) buf (set buf count o) before (union_of m (count + 1))
     append_new m less e =
-        let more : take (count + 1) (set buf count o) ≡ take count buf ++ o ∷ [] = ap (λ i. take i (set buf count o)) (add-one count) ∙ take-suc-set buf count o (omega arith) in
+        let more : take (count + 1) (set buf count o) ≡ take count buf ++ o ∷ [] = take_more_set buf count o (omega arith) in
         record {
           few = omega arith;
-          rest = drop-set-lt obligation_room buf count o less;
           holds = λ os k h.
               record {
                 mask_is =
@@ -110,64 +107,52 @@ module _ (mask count o : ℕ) (buf : List ℕ) (few : count ≤ obligation_room)
         let most : length (take count buf ++ o ∷ []) ≤ obligation_count =
         pigeon obligation_count (take count buf ++ o ∷ []) (distinct_end (take count buf) o h.appended.0 (not_appended os h)) (every_end (λ p. p < obligation_count) (take count buf) o h.appended.1 k.0) in
         omega (arith, length-append (take count buf) (o ∷ []), length-take-le count buf (omega arith)) in
-        record { few = few; rest = refl; holds = λ os k h. absurd (clash os k h); grown = λ os k h. absurd (clash os k h) }
+        record { few = few; holds = λ os k h. absurd (clash os k h); grown = λ os k h. absurd (clash os k h) }
 
 -- One more, where the list is longer by it.
 pub grown_more : {ps qs before mid after : List ℕ} {u v r : Union} {o : ℕ} → qs ≡ ps ++ o ∷ [] → Grown ps before mid u v → Grown (o ∷ []) mid after v r → Grown qs before after u r
 grown_more {before = before} {after = after} {u = u} {r = r} e g a = subst (λ x. Grown x before after u r) (sym e) (grown_then g a)
 
--- The bytes from the second room on.
-pub byte_more : (before mid : List ℕ) (i : ℕ) → obligation_room + i < length before → drop obligation_room mid ≡ drop obligation_room before →
-    take (i + 1) (drop obligation_room before) ≡ take i (drop obligation_room before) ++ get_or mid (obligation_room + i) 0 ∷ []
-byte_more before mid i h e =
-    ap (λ n. take n (drop obligation_room before)) (add-one i)
-    ∙ take-suc (drop obligation_room before) i 0 (omega (arith, length-drop obligation_room before))
-    ∙ ap (λ v. take i (drop obligation_room before) ++ v ∷ []) (ap (λ l. get_or l i 0) (sym e) ∙ get_or-drop obligation_room mid i 0)
-
--- ---- a node's obligations
-pub grown_past : (words : List ℕ) (at : ℕ) (buf : List ℕ) (u : Union) → u.count ≤ obligation_room → length words ≤ at → GrownBy (Names words at) (obligations_at words at) buf buf u u
-grown_past words at buf u few h =
-    record { few = few; rest = refl; grows = λ _. subst (λ os. Grown os buf buf u u) (sym (none_held words at h)) (grown_none buf u few) }
-
-pub grown_there : (words : List ℕ) (at n : ℕ) (before after : List ℕ) (u r : Union) → at < length words → n ≡ obligation_count_of (get_or words at 0) →
-    Grown (obligation_fields n (drop 2 (take (length words - at) (drop at words)))) before after u r → GrownBy (Names words at) (obligations_at words at) before after u r
-grown_there words at n before after u r h e g =
-    record { few = g.few; rest = g.rest; grows = λ names. subst (λ os. Grown os before after u r) (fields_there words at n h e names) g }
-
--- ---- a whole decision
-module _ (words before mid after : List ℕ) (sofar incoming : Decision) (m mask : ℕ) (v r : Union)
-    (node : Names words sofar.obligations → Masked 0 (obligations_at words sofar.obligations) m) (bytes : Masked m (take sofar.united before) mask)
-    (first : GrownBy (Names words incoming.obligations) (obligations_at words incoming.obligations) before mid (union_of mask sofar.united) v)
-    (second : Grown (take incoming.united (drop obligation_room mid)) mid after v r) where
+-- ---- a whole decision: appended to the buffer's front, while the rest stands
+module _ (words buf front mid after rest : List ℕ) (sofar incoming : Decision) (m mask : ℕ) (v r : Union)
+    (few : sofar.united ≤ obligation_room) (front_is : front ≡ take obligation_room buf) (rest_is : rest ≡ drop obligation_room buf) (long : length after ≡ obligation_room)
+    (node : Names words sofar.obligations → Masked 0 (obligations_at words sofar.obligations) m) (bytes : Masked m (take sofar.united front) mask)
+    (first : GrownBy (Names words incoming.obligations) (obligations_at words incoming.obligations) front mid (union_of mask sofar.united) v)
+    (second : Grown (take incoming.united rest) mid after v r) where
   abbrev os : List ℕ
   os = obligations_at words sofar.obligations
 
   ps : List ℕ
-  ps = obligations_at words incoming.obligations ++ take incoming.united (drop obligation_room before)
+  ps = obligations_at words incoming.obligations ++ take incoming.united (drop obligation_room buf)
 
-  starts : Sound words before sofar → Holding os before (union_of mask sofar.united)
+  at_front : take sofar.united front ≡ take sofar.united buf
+  at_front = ap (take sofar.united) front_is ∙ take-take sofar.united obligation_room buf few
+
+  starts : Sound words buf sofar → Holding os front (union_of mask sofar.united)
   starts s =
+      let appended : Appended (take sofar.united front) = subst Appended (sym at_front) s.appended in
       record {
         mask_is =
-            bytes.is s.appended.1
-            ∙ ap (λ x. mask_from x (take sofar.united before)) ((node s.held).is (obligations_below words sofar.obligations))
-            ∙ sym (mask_append 0 os (take sofar.united before));
-        appended = s.appended;
+            bytes.is appended.1
+            ∙ ap (λ x. mask_from x (take sofar.united front)) ((node s.held).is (obligations_below words sofar.obligations))
+            ∙ sym (mask_append 0 os (take sofar.united front));
+        appended = appended;
       }
 
-  all : Sound words (drop obligation_room before) incoming → Grown ps before after (union_of mask sofar.united) r
+  all : Sound words (drop obligation_room buf) incoming → Grown ps front after (union_of mask sofar.united) r
   unfolding ps
-  all t = grown_then (first.grows t.held) (rw first.rest at second)
+  all t = grown_then (first.grows t.held) (rw rest_is at second)
 
-  below : Sound words (drop obligation_room before) incoming → Below obligation_count ps
+  below : Sound words (drop obligation_room buf) incoming → Below obligation_count ps
   unfolding ps
-  below t = every_append (λ o. o < obligation_count) (obligations_at words incoming.obligations) (take incoming.united (drop obligation_room before)) (obligations_below words incoming.obligations) t.appended.1
+  below t = every_append (λ o. o < obligation_count) (obligations_at words incoming.obligations) (take incoming.united (drop obligation_room buf)) (obligations_below words incoming.obligations) t.appended.1
 
-  pub both_are : Both words sofar incoming before after r.count
+  pub both_are : Both words sofar incoming buf (after ++ rest) r.count
   unfolding ps obligations_in
   both_are =
+      let at_end : take r.count (after ++ rest) ≡ take r.count after = take-append-le r.count after rest (omega (arith, second.few)) in
       record {
         few = second.few;
-        united = λ s t. (all t).grown os (below t) (starts s);
-        appended = λ s t. ((all t).holds os (below t) (starts s)).appended;
+        united = λ s t. ap (λ l. os ++ l) at_end ∙ (all t).grown os (below t) (starts s) ∙ ap (λ l. union_obligations (os ++ l) ps) at_front;
+        appended = λ s t. subst Appended (sym at_end) ((all t).holds os (below t) (starts s)).appended;
       }

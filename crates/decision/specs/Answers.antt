@@ -44,13 +44,11 @@ pub record Holding (os buf : List ℕ) (u : Union) : Type 0 where
 -- Those of ps that were not held were appended, one by one.
 pub record Grown (ps before after : List ℕ) (u r : Union) : Type 0 where
   pub few : r.count ≤ obligation_room
-  pub rest : drop obligation_room after ≡ drop obligation_room before
   pub holds : (os : List ℕ) → Below obligation_count ps → Holding os before u → Holding os after r
   pub grown : (os : List ℕ) → Below obligation_count ps → Holding os before u → os ++ take r.count after ≡ union_obligations (os ++ take u.count before) ps
 
 pub record GrownBy (A : Type 0) (ps before after : List ℕ) (u r : Union) : Type 0 where
   pub few : r.count ≤ obligation_room
-  pub rest : drop obligation_room after ≡ drop obligation_room before
   pub grows : A → Grown ps before after u r
 
 -- A decision has no obligations, whatever its buffer holds.

@@ -1,5 +1,5 @@
 -- What a decision of the code stands for, given the words and the buffer that it names. Document 01, "Policies" and "Folds".
-use Rattle.std.specs.Prelude.{◌≡◌, true, false, cond, List, ◌++◌, ℕ, ◌≤◌, length, take}
+use Rattle.std.specs.Prelude.{◌≡◌, Bool, true, false, cond, List, ◌++◌, ℕ, ◌≤◌, length, take}
 use Rattle.model.specs.Facts.{Table}
 use Rattle.model.specs.Outcome.{no_product}
 use Rattle.model.specs.Decision.{Permit, permits, denies}
@@ -17,6 +17,11 @@ denied_at at none = record { permit = false; outcome = no_product; clause = at; 
 
 abbrev pub permitted_at : ℕ → ℕ → ℕ → ℕ → Decision
 permitted_at o at from n = record { permit = true; outcome = o; clause = at; obligations = from; united = n }
+
+-- The decision of a grant at `at` on the outcome o, by whether its condition is satisfied.
+abbrev pub granted_at : Bool → ℕ → ℕ → ℕ → Decision
+granted_at true o at end = permitted_at o at at 0
+granted_at false o at end = denied_at at end
 
 -- A permit's obligations: those of the node, and then those in the buffer.
 unfoldable pub obligations_in : List ℕ → List ℕ → Decision → List ℕ

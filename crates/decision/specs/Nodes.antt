@@ -74,12 +74,12 @@ obligation_fields n ws = firsts (field_at obligation_bits ws) n
 abbrev pub head_count : PolicyHead → ℕ
 head_count (Permit o) = 0
 head_count Deny = 0
-head_count (Grant hidden n o) = n
+head_count (Grant shape n o) = n
 head_count (All n) = 0
 head_count (Any n) = 0
 head_count OrElse = 0
 head_count (PermitWithTrace n o) = n
-head_count (DenyWithTrace hidden denied o) = 0
+head_count (DenyWithTrace shape denied) = 0
 head_count BadKind = 0
 head_count BadField = 0
 

@@ -12,14 +12,14 @@ ghost use Rattle.model.specs.Products.{meet_permit, join_permit};
 ghost use Rattle.laws.specs.FieldAt.{field_at};
 ghost use Rattle.decision.specs.Room.{obligation_room, list_room, RoomToUnite, Few};
 ghost use Rattle.decision.specs.Nodes.{obligations_at, obligation_count_of, obligation_fields};
-ghost use Rattle.decision.specs.Meaning.{denied_at, permitted_at, Names};
+ghost use Rattle.decision.specs.Meaning.{denied_at, permitted_at, granted_at, Names};
 ghost use Rattle.decision.specs.Answers.{Listed, Loaded, Held, Masked, Grown, GrownBy, Unobliged, Both, Kept, Folded};
 
 use outcome::Products;
 use policy_model::PolicyHead;
 
 // What was decided. A position is that of a grant or of a stored decision, or the number of words for none.
-// One flat value and no enum: walks hand it on by copy, and both kinds have a clause.
+// One flat value and no enum: nearly every use asks `permit` and one field that both kinds have, and a match would give each of them two arms.
 #[derive(Clone, Copy, PartialEq, Eq)]
 pub struct Decision {
     pub permit: bool,
@@ -33,14 +33,26 @@ pub struct Decision {
     pub united: usize,
 }
 
+impl Decision {
+    // Its outcome as products, or as a level.
+    pub fn products(self) -> Products
+        ensures { result.bits ≡ self.outcome }
+    {
+        Products { bits: self.outcome }
+    }
+}
+
 // An obligation is a number below this.
 const OBLIGATION_NUMBERS: u8 = policy_model::OBLIGATION_NUMBERS as u8;
 
 // No more are appended: obligations are 0 to 63, and a join appends only those that are not held.
 pub const OBLIGATION_ROOM: usize = policy_model::OBLIGATION_NUMBERS as usize;
 
-// All obligations of a decision: at most 127 of its node, and those that were appended.
-pub const LIST_ROOM: usize = policy_model::OBLIGATION_COUNTS as usize + OBLIGATION_ROOM;
+// The most obligations of a node: as many as the bits of their count can say.
+pub const MOST_HELD: usize = policy_model::OBLIGATION_COUNTS as usize - 1;
+
+// All obligations of a decision: those of its node, and those that were appended.
+pub const LIST_ROOM: usize = MOST_HELD + OBLIGATION_ROOM;
 
 // A deny with the clause of the node at `at`, or with nothing named where `at` is the number of words.
 pub fn denied_by(at: usize, none: usize) -> Decision
@@ -80,6 +92,17 @@ pub fn permitted(outcome: u16, none: usize) -> Decision
     ensures { result ≡ permitted_at outcome none none 0 }
 {
     permitted_by(outcome, none)
+}
+
+// The decision of a grant at `at` on the outcome, by whether its condition is satisfied. `none` is the number of words.
+pub fn granted(satisfied: bool, outcome: u16, at: usize, none: usize) -> Decision
+    ensures { result ≡ granted_at satisfied outcome at none }
+{
+    if satisfied {
+        permitted_by(outcome, at)
+    } else {
+        denied_by(at, none)
+    }
 }
 
 // A permit with the label and facts of the node at `at`, and with the obligations of the node at `held` and the first `united` bytes of the buffer.
@@ -170,37 +193,24 @@ fn with_bit(mask: u64, obligation: u8) -> u64
     mask | (1u64 << obligation)
 }
 
-// The mask of the first `count` obligations of a node.
-fn list_mask(node: &[u32], count: usize) -> u64
-    requires { count ≤ most_held }
-    ensures { Masked 0 (obligation_fields count (drop 2 node.now)) result }
+// The mask with these obligations.
+fn with_bits(mask: u64, obligations: &[u8]) -> u64
+    ensures { Masked mask obligations.now result }
 {
-    let mut mask: u64 = 0;
-    for i in 0..count {
-        mask = with_bit(mask, obligation_at(node, i));
+    let mut all = mask;
+    for obligation in obligations {
+        all = with_bit(all, *obligation);
     }
-    mask
+    all
 }
 
 // The mask of the obligations of the node at `at`.
 fn node_mask(words: &[u32], at: usize) -> u64
     ensures { Names words.now at → Masked 0 (obligations_at words.now at) result }
 {
-    if words.len() <= at {
-        return 0;
-    }
-    list_mask(&words[at..], obligation_count(words[at]))
-}
-
-// The mask with these obligations.
-fn bytes_mask(mask: u64, bytes: &[u8]) -> u64
-    ensures { Masked mask bytes.now result }
-{
-    let mut all = mask;
-    for obligation in bytes {
-        all = with_bit(all, *obligation);
-    }
-    all
+    let mut own = [0u8; MOST_HELD];
+    let count = load_obligations(words, at, &mut own);
+    with_bits(0, &own[..count])
 }
 
 // Appends the obligation unless it is held. Where 64 were appended every obligation is held, so the last test never fails.
@@ -226,14 +236,14 @@ fn append(union: Union, obligation: u8, buf: &mut [u8]) -> Union
     union
 }
 
-// Appends the first `count` obligations of a node, one by one.
-fn append_list(union: Union, node: &[u32], count: usize, buf: &mut [u8]) -> Union
-    requires { (union.count ≤ obligation_room) × (count ≤ most_held) × RoomToUnite 1 buf.old }
-    ensures { Grown (obligation_fields count (drop 2 node.now)) buf.old buf.new union result }
+// Appends these obligations, one by one.
+fn append_all(union: Union, obligations: &[u8], buf: &mut [u8]) -> Union
+    requires { (union.count ≤ obligation_room) × RoomToUnite 1 buf.old }
+    ensures { Grown obligations.now buf.old buf.new union result }
 {
     let mut all = union;
-    for i in 0..count {
-        all = append(all, obligation_at(node, i), buf);
+    for obligation in obligations {
+        all = append(all, *obligation, buf);
     }
     all
 }
@@ -243,23 +253,9 @@ fn append_node(union: Union, words: &[u32], at: usize, buf: &mut [u8]) -> Union
     requires { (union.count ≤ obligation_room) × RoomToUnite 1 buf.old }
     ensures { GrownBy (Names words.now at) (obligations_at words.now at) buf.old buf.new union result }
 {
-    if words.len() <= at {
-        return union;
-    }
-    append_list(union, &words[at..], obligation_count(words[at]), buf)
-}
-
-// Appends the `more` bytes from the second room on, one by one.
-fn append_bytes(union: Union, more: usize, buf: &mut [u8]) -> Union
-    requires { (union.count ≤ obligation_room) × (more ≤ obligation_room) × RoomToUnite 2 buf.old }
-    ensures { Grown (take more (drop obligation_room buf.old)) buf.old buf.new union result }
-{
-    let mut all = union;
-    for i in 0..more {
-        let obligation = buf[OBLIGATION_ROOM + i];
-        all = append(all, obligation, buf);
-    }
-    all
+    let mut own = [0u8; MOST_HELD];
+    let count = load_obligations(words, at, &mut own);
+    append_all(union, &own[..count], buf)
 }
 
 // Whether a permit is known to have no obligations, so that there is nothing to unite. The field that counts them stands in one place in all
@@ -283,9 +279,10 @@ fn unite(words: &[u32], sofar: Decision, incoming: Decision, buf: &mut [u8]) -> 
     ensures { Both words.now sofar incoming buf.old buf.new result }
 {
     let count = sofar.united;
-    let mask = bytes_mask(node_mask(words, sofar.obligations), &buf[..count]);
-    let union = append_node(Union { mask, count }, words, incoming.obligations, buf);
-    let all = append_bytes(union, incoming.united, buf);
+    let (front, later) = buf.split_at_mut(OBLIGATION_ROOM);
+    let mask = with_bits(node_mask(words, sofar.obligations), &front[..count]);
+    let union = append_node(Union { mask, count }, words, incoming.obligations, front);
+    let all = append_all(union, &later[..incoming.united], front);
     all.count
 }
 
@@ -300,14 +297,15 @@ pub fn keep(incoming: Decision, buf: &mut [u8]) -> Decision
     incoming
 }
 
-// Whether two outcomes are equal, by the function of their type.
+// Whether two outcomes are equal, by the function of their type, as outcomes are compared by that alone.
 fn same_outcome(a: u16, b: u16) -> bool
     ensures { result ≡ eqb a b }
 {
     Products { bits: a }.same(Products { bits: b })
 }
 
-// Two permits under All, whose outcomes meet in `outcome`. The permit so far has its buffer at the front, the incoming one from the second room on; the result has it at the front.
+// Two permits under All, whose outcomes meet in `outcome`. The permit so far has its buffer at the front, the incoming one from the second room on; the result
+// has it at the front. What a fold takes stays five parameters, here and where it is called: a struct of them would be made for one call.
 pub fn meet(
     words: &[u32],
     outcome: u16,
@@ -328,7 +326,8 @@ pub fn meet(
     permitted(outcome, words.len())
 }
 
-// Two permits under Any, whose outcomes join in `outcome`, with the buffers as in `meet`.
+// Two permits under Any, whose outcomes join in `outcome`, with the buffers as in `meet`. Not one function with that: a meet unites no obligations, so where
+// the outcome is that of both, or of neither, the two go apart.
 pub fn join(
     words: &[u32],
     outcome: u16,

@@ -1,11 +1,13 @@
 -- The list rule in the form that a loop's invariant takes: what answers for the arms that are left answers for all. Assumes nothing.
 use mathlib.Core.Path.{◌≡◌, refl, sym, ap, ◌∙◌}
 use mathlib.Core.Bool.{Bool, true, false, not, beq}
-use mathlib.Core.List.{List, [], ◌++◌, append_assoc, append-nil}
+use mathlib.Core.List.{List, ◌++◌, append_assoc, append-nil}
 use Prim.Native.Nat.{ℕ, ◌+◌, ◌-◌, ◌≤◌, ◌<◌}
 use native.Mathlib.Omega.{arith}
-use lib.ListN.{length, take, drop, length-append}
-use lib.Seq.{length-take-le, take-append-add, take-append-le, drop_at}
+use lib.ListN.{length, take, drop, length-append, length-drop}
+use lib.Seq.{paste, length-take-le, take-append-add, take-append-le, drop_at}
+use Rattle.std.specs.List.{copy_within}
+use Rattle.std.proofs.lemmas.List.Edits.{take-paste}
 use Rattle.model.specs.Facts.{Table, fact_count}
 use Rattle.model.specs.Condition.{Condition, Conditions, cnil, ccons, ConditionEval, satisfied, unsatisfied, both, either, eval_condition, eval_condition_all, eval_condition_any}
 use Rattle.model.specs.Reading.{next, many, read_condition}
@@ -20,12 +22,6 @@ use Rattle.decisive.proofs.Positions.{first_arm}
 -- The value of a list by its arms that are left, where those before them named fs and none of them stopped it.
 abbrev passed : Bool → List ℕ → Table → Conditions → ConditionEval
 passed stop fs T cs = join_arm stop (eval_of (not stop) fs) (eval_arms stop T cs)
-
-join_none : (stop : Bool) (v : ConditionEval) → join_arm stop (eval_of (not stop) []) v ≡ v
-join_none true (satisfied fs) = refl
-join_none true (unsatisfied fs) = refl
-join_none false (satisfied fs) = refl
-join_none false (unsatisfied fs) = refl
 
 join_more : (stop b : Bool) (fs gs : List ℕ) (v : ConditionEval) → beq b stop ≡ false →
     join_arm stop (eval_of (not stop) fs) (join_arm stop (eval_of b gs) v) ≡ join_arm stop (eval_of (not stop) (fs ++ gs)) v
@@ -52,6 +48,13 @@ passed_end : (stop : Bool) (fs : List ℕ) (T : Table) → passed stop fs T cnil
 passed_end true fs T = ap unsatisfied (append-nil fs)
 passed_end false fs T = ap satisfied (append-nil fs)
 
+-- The library's copy moves n facts from `from` on down to the start.
+moved_down : (out : List ℕ) (from n : ℕ) → from + n ≤ length out → take n (copy_within out from (from + n) 0) ≡ take n (drop from out)
+moved_down out from n h =
+    let size : from + n - from ≡ n = omega arith in
+    let all : n ≡ 0 + n = omega arith in
+    rw size (ap (λ (k : ℕ). take k (paste out 0 (drop from out) n)) all ∙ take-paste out 0 (drop from out) n (omega arith) (omega (arith, length-drop from out)))
+
 -- What the answer r and the slice o tell of arms from `at`.
 abbrev Told : (Conditions → ConditionEval) → ℕ → List ℕ → Named → Conditions → List ℕ → Type 0
 Told value at o r cs rest = Tells (value cs) (at + words_cs cs) o r
@@ -66,16 +69,6 @@ pub record Passing (T : Table) (stop : Bool) (words : List ℕ) (d at arms : ℕ
       Holds (Told (eval_arms stop T) at o r) (many cnil ccons (read_condition d) arms (drop at words))
 
 module _ (T : Table) (stop : Bool) (words : List ℕ) (d at arms : ℕ) (out₀ : List ℕ) where
-  pub passing_none : Passing T stop words d at arms out₀ out₀ at arms 0
-  passing_none = record {
-    long = refl;
-    within = omega arith;
-    few = omega arith;
-    below = tt;
-    answers = λ o r s. weaker (many cnil ccons (read_condition d) arms (drop at words))
-        (λ cs rest t. record { value_is = sym (join_none stop (eval_arms stop T cs)) ∙ t.value_is; next_is = t.next_is }) s;
-  }
-
   -- The arm at `next`, whose facts stand in the part `here` that it was lent, and the slice after it.
   module _ (out here rest : List ℕ) (next left count : ℕ) (a : Named) (more : left ≡ 0 → ⊥) (i : Passing T stop words d at arms out₀ out next left count)
       (s : Decisive T next (read_condition d (drop next words)) here a) (long : length (take count out ++ (here ++ rest)) ≡ length out) where
@@ -120,9 +113,9 @@ module _ (T : Table) (stop : Bool) (words : List ℕ) (d at arms : ℕ) (out₀ 
 
     -- it does: its facts are moved to the start, and the others are passed over
     module _ (o : List ℕ) (r : Named) (end : ℕ) (over : SkippedConditions words a.next (left - 1) end) (said : Says stop end a.count r)
-        (moved : take a.count o ≡ take a.count (drop count (take count out ++ (here ++ rest)))) where
+        (moved : o ≡ copy_within (take count out ++ (here ++ rest)) count (count + a.count) 0) where
       facts_are : take r.count o ≡ take a.count here
-      facts_are = rw said.count_is (moved ∙ back_is)
+      facts_are = rw (said.count_is, moved) (moved_down (take count out ++ (here ++ rest)) count a.count (omega (arith, room, long)) ∙ back_is)
 
       pub passing_stop : beq a.satisfied stop ≡ true → length o ≡ length out → DecisiveArms T stop at (many cnil ccons (read_condition d) arms (drop at words)) o r
       passing_stop halt l = record {

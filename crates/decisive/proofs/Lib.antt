@@ -1,5 +1,4 @@
 -- Laws that several proofs cite; those of positions are for any walk over conditions.
 pub mod Positions
-mod Sliding
 mod Nodes
 mod Arms

@@ -16,7 +16,8 @@ use Rattle.policy_model.specs.declared.ConditionHead.TheVariants.{Always, Never,
 use Rattle.policy_model.specs.Heads.{condition_head, condition_node}
 use Rattle.decisive.specs.declared.Named.{Named}
 use Rattle.decisive.specs.Naming.{eval_of, Tells, Decisive, DecisiveArms, Says, NamesFact}
-use Rattle.decisive.proofs.Positions.{no_words, no_levels, by_head, Some, some_arms, fact_below, has_word}
+use Rattle.condition.proofs.Evaluating.{no_words, below_head, has_word}
+use Rattle.decisive.proofs.Positions.{no_levels, by_head, Some, some_arms}
 
 eval_has_lem : (f : ℕ) (p : Presence) → eval_has f p ≡ eval_of (is_present p) (f ∷ [])
 eval_has_lem f absent = refl
@@ -94,7 +95,7 @@ module _ (T : Table) (words : List ℕ) (at depth : ℕ) (out : List ℕ) (r : N
     pub decides_has : (f : ℕ) (before : List ℕ) → Says-head (Has f) → 0 < length before → NamesFact T f (at + 1) before out r → Named-there
     unfolding condition_node
     decides_has f before e l s =
-        has_named T at f (read_condition depth (drop at words)) before out r (fact_below (get_or words at 0) f e) l s
+        has_named T at f (read_condition depth (drop at words)) before out r (below_head (Has f) (get_or words at 0) e) l s
         (λ one. by_head words at depth (Has f) there deep e (fine (record { value_is = eval_has_lem f (T f) ∙ rw (s.says.satisfied_is, one); next_is = s.says.next_is })))
 
     pub decides_not : (a : Named) → Says-head Not → Says (not a.satisfied) a.next a.count r → Decisive T (at + 1) (read_condition (depth - 1) (drop (at + 1) words)) out a → Named-there

@@ -1,5 +1,6 @@
 -- What a policy comes to and consults, by its head. Assumes nothing.
-use mathlib.Core.Path.{◌≡◌, refl, sym, ◌∙◌, ap, subst}
+use mathlib.Core.Path.{◌≡◌, refl, sym, ◌∙◌, ap, ap₂, subst}
+use mathlib.Core.Logic.{◌⊎◌, inl, inr}
 use mathlib.Core.Bool.{Bool, true, false}
 use mathlib.Core.Option.{Option}
 use mathlib.Core.List.{List, [], ◌∷◌}
@@ -8,6 +9,7 @@ use native.Mathlib.Numerals.{sub-one}
 use native.Mathlib.Omega.{arith}
 use lib.ListN.{length, drop, get_or, length-drop}
 use lib.Seq.{drop-drop, get_or-drop}
+use Rattle.std.specs.Prelude.{Option as Carried}
 use Rattle.model.specs.Facts.{Table}
 use Rattle.model.specs.Condition.{Condition, satisfied, unsatisfied, eval_condition}
 use Rattle.model.specs.Condition as model
@@ -15,27 +17,33 @@ use Rattle.model.specs.Consulted.{read_c}
 use Rattle.model.specs.Policy.{Policy, Grant as Clause, grant, stored}
 use Rattle.model.specs.Levels.{OutcomeTable}
 use Rattle.model.specs.Decision.{permits, denies}
+use Rattle.model.specs.Decision.{Decision as Decided}
 use Rattle.model.specs.Evaluate.{eval_grant}
-use Rattle.model.specs.Reading.{refuse, got, read_condition}
+use Rattle.model.specs.Reading.{Parsed, refuse, got, next, read_condition}
 use Rattle.model.specs.Products.{Outcome, read, eval_policy, read_policy, policy_at}
-use Rattle.laws.proofs.FieldLaws.{Holds, fine, nothing, weaker}
-use Rattle.laws.specs.Size.{words_c, words}
+use Rattle.laws.proofs.FieldLaws.{Holds, fine, nothing, weaker, then_holds}
+use Rattle.laws.specs.Size.{words_c, words_d, words}
+use Rattle.policy_model.specs.declared.DenyShape.{DenyShape}
 use Rattle.policy_model.specs.declared.PolicyHead.{PolicyHead}
 use Rattle.policy_model.specs.declared.PolicyHead.TheVariants.{Permit, Deny, Grant, PermitWithTrace, DenyWithTrace, BadKind, BadField}
-use Rattle.policy_model.specs.Heads.{policy_head, policy_node}
+use Rattle.policy_model.specs.Heads.{policy_head, policy_node, permit_trace_node, deny_trace_node}
+use Rattle.policy_model.proofs.Policies.{node_of}
 use Rattle.policy_model.specs.HeadLaws.{policy_deep, permit_word}
 use Rattle.policy_model.proofs.Checking.{no_word}
+use Rattle.policy_model.proofs.Skipping.{grant_says}
+use Rattle.grant.specs.Fields.{outcome_at, obligations_at}
 use Rattle.condition.specs.declared.ConditionEval.{ConditionEval}
 use Rattle.consulted.specs.Listing.{Lent}
 use Rattle.condition.specs.Evaluating.{is_satisfied, Evaluated, EvaluatesC}
 use Rattle.consulted.proofs.Listing.{consults_none, consults_as}
+use Rattle.decision.specs.declared.Decision.{Decision}
 use Rattle.decision.specs.Nodes.{node_at}
-use Rattle.decision.specs.Meaning.{denied_at, permitted_at, decision_of, past, reads, Sound}
+use Rattle.decision.specs.Meaning.{denied_at, permitted_at, granted_at, decision_of, past, reads, Sound}
 use Rattle.decision.proofs.Standing.{node_reads, as_permit, denied_is, denied_grant, denied_stored, permitted_is, permitted_grant, permitted_stored, sound_denied, sound_permitted}
 use Rattle.evaluate.specs.declared.PolicyEval.{PolicyEval}
-use Rattle.evaluate.specs.Evaluating.{eval_of, granted_at, Answers, EvaluatesP, EvaluatesBy}
-use Rattle.evaluate.proofs.Nodes.{held_at, in_sheet, node_holds, node_knows, grant_reads, permit_reads, deny_reads}
-use Rattle.decision.specs.Room.{obligation_room}
+use Rattle.evaluate.specs.Evaluating.{eval_of, Answers, EvaluatesP, stored_words, EvaluatesBy}
+use Rattle.evaluate.proofs.Nodes.{held_at, in_sheet, node_holds, node_knows, grant_reads, IsPermit, permit_reads, IsDeny, deny_reads}
+use Rattle.decision.specs.Room.{obligation_room, Few}
 
 -- The answer to a policy at `at`.
 abbrev pub Answered : Option OutcomeTable → Table → List ℕ → ℕ → Lent → PolicyEval → Lent → List ℕ → Policy Outcome → List ℕ → Type 0
@@ -55,55 +63,46 @@ one_level zero ws f h = absurd (f refl)
 one_level (suc depth) ws f h = rw sub-one at h
 
 -- ---- a policy by its head
-module _ (g : Option OutcomeTable) (T : Table) (W : List ℕ) (at depth : ℕ) (s : Lent) (r : PolicyEval) (t : Lent) (buf : List ℕ) where
-  pub by_head : (h : PolicyHead) → (depth ≡ 0 → ⊥) → h ≡ policy_head (get_or W at 0) true → EvaluatesBy g h T W at (depth - 1) s r t buf → EvaluatesP g T W at depth s r t buf
-  by_head h f e a = record { few = a.few; says = in_sheet depth (drop at W) (one_level depth (drop at W) f (a.says e)) }
+module _ {g : Option OutcomeTable} {T : Table} {W : List ℕ} {at depth : ℕ} {s : Lent} {r : PolicyEval} {t : Lent} {buf : List ℕ} {h k : PolicyHead} where
+  pub by_head : (depth ≡ 0 → ⊥) → k ≡ h → k ≡ policy_head (get_or W at 0) true → EvaluatesBy g h T W at (depth - 1) s r t buf → EvaluatesP g T W at depth s r t buf
+  by_head f is e a = record { few = a.few; says = in_sheet depth (drop at W) (one_level depth (drop at W) f (a.says (sym is ∙ e))) }
 
 -- ---- words that don't read, and nodes without parts
-module _ (g : Option OutcomeTable) (T : Table) (W : List ℕ) (at depth : ℕ) (next : ℕ) (s : Lent) (buf : List ℕ) where
-  abbrev none : ℕ
-  none = length W
-
-  abbrev stop : PolicyEval
-  stop = eval_of (denied_at none none) next
-
-  pub eval_end : length W ≤ at → EvaluatesP g T W at depth s stop s buf
+module _ {g : Option OutcomeTable} {T : Table} {W : List ℕ} {at depth : ℕ} {next : ℕ} {s : Lent} {buf : List ℕ} where
+  pub eval_end : length W ≤ at → EvaluatesP g T W at depth s (eval_of (denied_at (length W) (length W)) next) s buf
   eval_end h = record {
     few = omega arith;
     says = λ res. rw (no_word W at h, nothing_there res depth) nothing;
   }
 
-  pub eval_limit : depth ≡ 0 → EvaluatesP g T W at depth s stop s buf
+  pub eval_limit : depth ≡ 0 → EvaluatesP g T W at depth s (eval_of (denied_at (length W) (length W)) next) s buf
   eval_limit z = record { few = omega arith; says = λ res. rw z (no_levels res (drop at W)) }
 
   module _ (lt : at < length W) where
-    pub eval_bad_kind : EvaluatesBy g BadKind T W at depth s stop s buf
+    pub eval_bad : {h : PolicyHead} → (h ≡ BadKind) ⊎ (h ≡ BadField) → EvaluatesBy g h T W at depth s (eval_of (denied_at (length W) (length W)) next) s buf
     unfolding policy_node
-    eval_bad_kind = record { few = omega arith; says = λ e. node_holds W at depth BadKind lt e nothing }
+    eval_bad (inl e) = rw e (record { few = omega arith; says = λ e. node_holds W at depth BadKind lt e nothing })
+    eval_bad (inr e) = rw e (record { few = omega arith; says = λ e. node_holds W at depth BadField lt e nothing })
 
-    pub eval_bad_field : EvaluatesBy g BadField T W at depth s stop s buf
+    pub eval_permit : {o : ℕ} → next ≡ at + 1 → EvaluatesBy g (Permit o) T W at depth s (eval_of (permitted_at o (length W) (length W) 0) next) s buf
     unfolding policy_node
-    eval_bad_field = record { few = omega arith; says = λ e. node_holds W at depth BadField lt e nothing }
-
-    pub eval_permit : (o : ℕ) → next ≡ at + 1 → EvaluatesBy g (Permit o) T W at depth s (eval_of (permitted_at o none none 0) next) s buf
-    unfolding policy_node
-    eval_permit o n = record {
+    eval_permit {o} n = record {
       few = omega arith;
       says = λ e. node_holds W at depth (Permit o) lt e (fine (record {
-        decision_is = as_permit W T buf (permitted_at o none none 0) refl ∙ ap permits (permitted_is W T buf o none (omega arith));
-        sound = sound_permitted W buf o none (past (omega arith));
+        decision_is = as_permit W T buf (permitted_at o (length W) (length W) 0) refl ∙ ap permits (permitted_is W T buf o (length W) (omega arith));
+        sound = sound_permitted W buf o (length W) (past (omega arith));
         next_is = n;
         log = consults_as (λ l. refl) consults_none;
       }));
     }
 
-    pub eval_deny : next ≡ at + 1 → EvaluatesBy g Deny T W at depth s stop s buf
+    pub eval_deny : next ≡ at + 1 → EvaluatesBy g Deny T W at depth s (eval_of (denied_at (length W) (length W)) next) s buf
     unfolding policy_node
     eval_deny n = record {
       few = omega arith;
       says = λ e. node_holds W at depth Deny lt e (fine (record {
-        decision_is = denied_is W T buf none (omega arith);
-        sound = sound_denied W buf none none (past (omega arith)) (omega arith);
+        decision_is = denied_is W T buf (length W) (omega arith);
+        sound = sound_denied W buf (length W) (length W) (past (omega arith)) (omega arith);
         next_is = n;
         log = consults_as (λ l. refl) consults_none;
       }));
@@ -114,8 +113,7 @@ pub eval_permit_word : (g : Option OutcomeTable) (T : Table) (W : List ℕ) (at 
     EvaluatesP g T W at depth s (eval_of (permitted_at (get_or W at 0 % 65536) (length W) (length W) 0) (at + 1)) s buf
 eval_permit_word g T W at zero s buf lt e = record { few = omega arith; says = λ res. no_levels res (drop at W) }
 eval_permit_word g T W at (suc depth) s buf lt e =
-    by_head g T W at (suc depth) _ _ _ buf (Permit (get_or W at 0 % 65536)) (λ z. omega arith) (permit_word (get_or W at 0) true e)
-    (eval_permit g T W at (suc depth - 1) (at + 1) s buf lt (get_or W at 0 % 65536) refl)
+    by_head (λ z. omega arith) refl (permit_word (get_or W at 0) true e) (eval_permit lt refl)
 
 -- ---- a grant
 -- The answer to a grant at `at`, by the answer to its condition.
@@ -143,14 +141,14 @@ pub granted_few : (b : Bool) (o at none : ℕ) → (granted_at b o at none).unit
 granted_few true o at none = omega arith
 granted_few false o at none = omega arith
 
-module _ (g : Option OutcomeTable) (T : Table) (W : List ℕ) (at depth : ℕ) (hidden : Bool) (n o : ℕ) (lt : at < length W) (deep : depth < 32) where
+module _ (g : Option OutcomeTable) (T : Table) (W : List ℕ) (at depth : ℕ) (shape : DenyShape) (n o : ℕ) (lt : at < length W) (deep : depth < 32) where
   -- A grant that ends early.
-  pub grant_short : (s : Lent) (r : PolicyEval) (buf : List ℕ) → r.decision.united ≤ obligation_room → length W - at < 2 + (n + 3) / 4 → EvaluatesBy g (Grant hidden n o) T W at depth s r s buf
+  pub grant_short : (s : Lent) (r : PolicyEval) (buf : List ℕ) → r.decision.united ≤ obligation_room → length W - at < 2 + (n + 3) / 4 → EvaluatesBy g (Grant shape n o) T W at depth s r s buf
   unfolding policy_node
   grant_short s r buf few h = record {
     few = few;
-    says = λ e. node_holds W at depth (Grant hidden n o) lt e
-        (weaker _ (λ p rest f. absurd (omega (arith, f.fits, length-drop (at + 1) W))) (grant_reads depth hidden n o (drop (at + 1) W)));
+    says = λ e. node_holds W at depth (Grant shape n o) lt e
+        (weaker _ (λ p rest f. absurd (omega (arith, f.fits, length-drop (at + 1) W))) (grant_reads depth shape n o (drop (at + 1) W)));
   }
 
   -- What is known of the grant, given the answer to its condition.
@@ -163,7 +161,7 @@ module _ (g : Option OutcomeTable) (T : Table) (W : List ℕ) (at depth : ℕ) (
     words_are : at + words (grant clause inner) ≡ at + (2 + (n + 3) / 4) + words_c inner
     answer : Evaluated (is_satisfied (eval_condition T inner)) (at + (2 + (n + 3) / 4) + words_c inner) (read_c T inner) s a t
 
-  grant_known : (a : ConditionEval) (s t : Lent) → EvaluatesC T W (at + (2 + (n + 3) / 4)) depth s a t → Grant hidden n o ≡ policy_head (get_or W at 0) true →
+  grant_known : (a : ConditionEval) (s t : Lent) → EvaluatesC T W (at + (2 + (n + 3) / 4)) depth s a t → Grant shape n o ≡ policy_head (get_or W at 0) true →
       Holds (Granted a s t) (policy_at W at (suc depth))
   unfolding policy_node
   grant_known a s t c e =
@@ -181,10 +179,10 @@ module _ (g : Option OutcomeTable) (T : Table) (W : List ℕ) (at depth : ℕ) (
         words_are = omega (arith, f.long);
         answer = held_at c.says (ap (read_condition depth) (sym from) ∙ f.below);
       })
-      (node_knows W at depth (Grant hidden n o) lt e (grant_reads depth hidden n o (drop (at + 1) W)))
+      (node_knows W at depth (Grant shape n o) lt e (grant_reads depth shape n o (drop (at + 1) W)))
 
   pub grant_decides : (a : ConditionEval) (s t : Lent) (buf : List ℕ) → EvaluatesC T W (at + (2 + (n + 3) / 4)) depth s a t →
-      EvaluatesBy g (Grant hidden n o) T W at depth s (eval_of (granted_at a.satisfied o at (length W)) a.next) t buf
+      EvaluatesBy g (Grant shape n o) T W at depth s (eval_of (granted_at a.satisfied o at (length W)) a.next) t buf
   grant_decides a s t buf c = record {
     few = granted_few a.satisfied o at (length W);
     says = λ e. weaker (policy_at W at (suc depth)) (λ p rest f.
@@ -194,67 +192,55 @@ module _ (g : Option OutcomeTable) (T : Table) (W : List ℕ) (at depth : ℕ) (
         (granted_answers T W at buf clause f.inner rest f.node g a s t _ f.answer (sym f.words_are)))) (grant_known a s t c e);
   }
 
+-- The answer to a grant by its first word is the answer to it by its head.
+pub grant_by_word : {g : Option OutcomeTable} {T : Table} {W : List ℕ} {at depth : ℕ} {s : Lent} {r : PolicyEval} {t : Lent} {buf : List ℕ} (shape : DenyShape) (n o : ℕ) →
+    EvaluatesBy g (Grant shape (obligations_at W at) (outcome_at W at)) T W at depth s r t buf → EvaluatesBy g (Grant shape n o) T W at depth s r t buf
+grant_by_word {W = W} {at} shape n o a = record {
+  few = a.few;
+  says = λ e. let f = grant_says true (get_or W at 0) shape n o e in a.says (sym (ap₂ (λ i j. Grant shape i j) f.0 f.1) ∙ e);
+}
+
 -- ---- stored decisions
-module _ (g : Option OutcomeTable) (T : Table) (W : List ℕ) (at depth : ℕ) (lt : at < length W) (deep : depth < 32) where
-  -- Word two, word three.
-  after_first : (i j : ℕ) → at + 1 + i ≡ j → get_or (drop (at + 1) W) i 0 ≡ get_or W j 0
-  after_first i j e = get_or-drop (at + 1) W i 0 ∙ ap (λ k. get_or W k 0) e
+record OfStored (Is : Decided Outcome → Type 0) (p : Policy Outcome) (rest : List ℕ) : Type 0 where
+  was : Decided Outcome
+  policy_is : p ≡ stored was
+  is : Is was
 
-  module _ (n o : ℕ) (s : Lent) (buf : List ℕ) where
-    pub permit_short : (r : PolicyEval) → r.decision.united ≤ obligation_room → length W - at < 2 + (n + 3) / 4 + (get_or W (at + 1) 0 % 4096 + 1) / 2 →
-        EvaluatesBy g (PermitWithTrace n o) T W at depth s r s buf
-    unfolding policy_node
-    permit_short r few h = record {
-      few = few;
-      says = λ e. node_holds W at depth (PermitWithTrace n o) lt e
-          (weaker _ (λ p rest f.
-          let w : get_or (drop (at + 1) W) 0 0 ≡ get_or W (at + 1) 0 = after_first 0 (at + 1) (omega arith) in
-          absurd (omega (arith, f.fits, length-drop (at + 1) W, w))) (permit_reads n o (drop (at + 1) W)));
-    }
+-- The word i of the node, the first being 0.
+word_of : (W : List ℕ) (at i j : ℕ) → i ≡ 1 + j → get_or (drop (at + 1) W) j 0 ≡ get_or W (at + i) 0
+word_of W at i j e = get_or-drop (at + 1) W j 0 ∙ ap (λ k. get_or W k 0) (let z : at + 1 + j ≡ at + i = omega arith in z)
 
-    pub permit_stored : (next : ℕ) → next ≡ at + (2 + (n + 3) / 4 + (get_or W (at + 1) 0 % 4096 + 1) / 2) →
-        EvaluatesBy g (PermitWithTrace n o) T W at depth s (eval_of (permitted_at o at at 0) next) s buf
-    unfolding policy_node
-    permit_stored next i = record {
-      few = omega arith;
-      says = λ e. weaker (policy_at W at (suc depth)) (λ p rest h.
-          let f = h.1 in
-          let w : get_or (drop (at + 1) W) 0 0 ≡ get_or W (at + 1) 0 = after_first 0 (at + 1) (omega arith) in
-          let node : node_at W at ≡ got (stored (permits f.was)) rest = node_reads W at (suc depth) true (stored (permits f.was)) rest (omega arith) (h.0 ∙ ap (λ x. got x rest) f.policy_is) in
-          subst (λ q. Answered g T W at s (eval_of (permitted_at o at at 0) next) s buf q rest) (sym f.policy_is) (record {
-            decision_is = ap (λ x. decision_of W T buf (permitted_at x at at 0)) (sym f.outcome_is) ∙ permitted_stored W T buf at f.was rest node;
-            sound = sound_permitted W buf o at (reads (stored (permits f.was)) rest node);
-            next_is = omega (arith, i, f.long, f.facts_long, w);
-            log = consults_as (λ l. refl) consults_none;
-          }))
-          (node_knows W at depth (PermitWithTrace n o) lt e (permit_reads n o (drop (at + 1) W)));
-    }
+module _ {g : Option OutcomeTable} {T : Table} {W : List ℕ} {at depth : ℕ} (lt : at < length W) (deep : depth < 32) {s : Lent} {buf : List ℕ} where
+  -- The node of the head h, which q reads, and the code's decision d, which stands for what is read.
+  stored_node : (h : PolicyHead) (q : Parsed (Decided Outcome)) (Is : Decided Outcome → Type 0) (d : Decision) (size : ℕ) → node_of true depth h (drop (at + 1) W) ≡ next q (λ x vs. got (stored x) vs) → Holds (λ x _. Is x) q → Few d →
+      ((x : Decided Outcome) (rest : List ℕ) → Is x → node_at W at ≡ got (stored x) rest → (words_d x ≡ size) × (decision_of W T buf d ≡ x) × Sound W buf d) → EvaluatesBy g h T W at depth s (eval_of d (at + size)) s buf
+  stored_node h q Is d size read_is is few stands = record {
+    few = few;
+    says = λ e. weaker (policy_at W at (suc depth)) (λ p rest f.
+        let k = f.1 in
+        let v = stands k.was rest k.is (node_reads W at (suc depth) true (stored k.was) rest (omega arith) (f.0 ∙ ap (λ x. got x rest) k.policy_is)) in
+        record {
+          decision_is = v.1 ∙ sym (ap (eval_policy g T) k.policy_is);
+          sound = v.2;
+          next_is = ap (λ n. at + n) (sym v.0 ∙ sym (ap (words {O = Outcome}) k.policy_is));
+          log = consults_as (λ l. ap (λ x. read g T x l) k.policy_is) consults_none;
+        })
+        (node_knows W at depth h lt e (subst (Holds (OfStored Is)) (sym read_is) (then_holds q _ is (λ x vs i. fine (record { was = x; policy_is = refl; is = i })))));
+  }
 
-  module _ (hidden denied : Bool) (o : ℕ) (s : Lent) (buf : List ℕ) where
-    pub deny_short : (r : PolicyEval) → r.decision.united ≤ obligation_room → length W - at < 3 + (get_or W (at + 2) 0 % 4096 + 1) / 2 → EvaluatesBy g (DenyWithTrace hidden denied o) T W at depth s r s buf
-    unfolding policy_node
-    deny_short r few h = record {
-      few = few;
-      says = λ e. node_holds W at depth (DenyWithTrace hidden denied o) lt e
-          (weaker _ (λ p rest f.
-          let w : get_or (drop (at + 1) W) 1 0 ≡ get_or W (at + 2) 0 = after_first 1 (at + 2) (omega arith) in
-          absurd (omega (arith, f.fits, length-drop (at + 1) W, w))) (deny_reads hidden denied o (drop (at + 1) W)));
-    }
+  pub permit_stored : {n o : ℕ} → EvaluatesBy g (PermitWithTrace n o) T W at depth s (eval_of (permitted_at o at at 0) (at + stored_words W at 1 n)) s buf
+  unfolding policy_node
+  permit_stored {n} {o} =
+      let size = 2 + (n + 3) / 4 in
+      stored_node (PermitWithTrace n o) (permit_trace_node n o (drop (at + 1) W)) (IsPermit o size (get_or (drop (at + 1) W) 0 0)) (permitted_at o at at 0) (stored_words W at 1 n) refl (permit_reads n o (drop (at + 1) W)) (omega arith)
+      (λ x rest k node.
+      let there : node_at W at ≡ got (stored (permits k.was)) rest = node ∙ ap (λ d. got (stored d) rest) k.is in
+      (k.long ∙ ap (λ w. size + (w % 4096 + 1) / 2) (word_of W at 1 0 refl), ap (λ z. decision_of W T buf (permitted_at z at at 0)) (sym k.outcome_is) ∙ permitted_stored W T buf at k.was rest there ∙ sym k.is, sound_permitted W buf o at (reads (stored x) rest node)))
 
-    pub deny_stored : (next : ℕ) → next ≡ at + (3 + (get_or W (at + 2) 0 % 4096 + 1) / 2) →
-        EvaluatesBy g (DenyWithTrace hidden denied o) T W at depth s (eval_of (denied_at at (length W)) next) s buf
-    unfolding policy_node
-    deny_stored next i = record {
-      few = omega arith;
-      says = λ e. weaker (policy_at W at (suc depth)) (λ p rest h.
-          let f = h.1 in
-          let w : get_or (drop (at + 1) W) 1 0 ≡ get_or W (at + 2) 0 = after_first 1 (at + 2) (omega arith) in
-          let node : node_at W at ≡ got (stored (denies f.was)) rest = node_reads W at (suc depth) true (stored (denies f.was)) rest (omega arith) (h.0 ∙ ap (λ x. got x rest) f.policy_is) in
-          subst (λ q. Answered g T W at s (eval_of (denied_at at (length W)) next) s buf q rest) (sym f.policy_is) (record {
-            decision_is = denied_stored W T buf at (length W) f.was rest node;
-            sound = sound_denied W buf at (length W) (reads (stored (denies f.was)) rest node) (omega arith);
-            next_is = omega (arith, i, f.facts_long, w);
-            log = consults_as (λ l. refl) consults_none;
-          }))
-          (node_knows W at depth (DenyWithTrace hidden denied o) lt e (deny_reads hidden denied o (drop (at + 1) W)));
-    }
+  pub deny_stored : {shape : DenyShape} {denied : Carried ℕ} → EvaluatesBy g (DenyWithTrace shape denied) T W at depth s (eval_of (denied_at at (length W)) (at + stored_words W at 2 0)) s buf
+  unfolding policy_node
+  deny_stored {shape} {denied} =
+      stored_node (DenyWithTrace shape denied) (deny_trace_node shape denied (drop (at + 1) W)) (IsDeny (get_or (drop (at + 1) W) 1 0)) (denied_at at (length W)) (stored_words W at 2 0) refl (deny_reads shape denied (drop (at + 1) W)) (omega arith)
+      (λ x rest k node.
+      let there : node_at W at ≡ got (stored (denies k.was)) rest = node ∙ ap (λ d. got (stored d) rest) k.is in
+      (k.long ∙ ap (λ w. 3 + (w % 4096 + 1) / 2) (word_of W at 2 1 refl), denied_stored W T buf at (length W) k.was rest there ∙ sym k.is, sound_denied W buf at (length W) (reads (stored x) rest node) (omega arith)))

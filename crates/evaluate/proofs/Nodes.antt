@@ -8,19 +8,23 @@ use native.Mathlib.Omega.{arith}
 use borrow.Author.Tests.{ltb-true}
 use lib.Dec.{ltb}
 use lib.ListN.{length, drop, get_or}
+use Rattle.std.specs.Prelude.{Option as Carried}
 use Rattle.model.specs.Outcome.{product_sets}
 use Rattle.model.specs.Condition.{Condition}
 use Rattle.model.specs.Decision.{Permit, Denial, Decision, permits, denies}
-use Rattle.model.specs.Policy.{Policy, Grant, grant, stored}
+use Rattle.model.specs.Policy.{Policy, Grant, grant, pnil, pcons}
 use Rattle.model.specs.Writing.{obligation_bits, entry_bits}
 use Rattle.model.specs.Reading.{Parsed, refuse, got, next, another, counted, read_list, obligation, listed, mark, shape_of, read_condition}
 use Rattle.model.specs.Products.{Outcome, read_policy, policy_at}
 use Rattle.laws.proofs.FieldLaws.{Holds, fine, nothing, if_holds, weaker, then_holds, both_hold}
 use Rattle.laws.proofs.Deeper.{deeper, follows_got}
 use Rattle.laws.proofs.ReadForm.{ok_obligations, ok_facts}
+use Rattle.policy_model.specs.declared.DenyShape.{DenyShape}
 use Rattle.policy_model.specs.declared.PolicyHead.{PolicyHead}
 use Rattle.policy_model.specs.Heads.{policy_head, bit_of, denied_by, grant_node, permit_trace_node, deny_trace_node}
 use Rattle.policy_model.specs.HeadLaws.{policy_node_lem}
+use Rattle.policy_model.specs.Span.{Skipped}
+use Rattle.laws.specs.Size.{words_d, words, wordss}
 use Rattle.policy_model.proofs.Checking.{word_at}
 use Rattle.policy_model.proofs.Quads.{obligations_leave}
 use Rattle.policy_model.proofs.Policies.{node_of}
@@ -74,16 +78,16 @@ pub record ReadsGrant (depth n o : ℕ) (ws : List ℕ) (p : Policy Outcome) (re
   pub fits : 1 + (n + 3) / 4 ≤ length ws
   pub below : read_condition depth (drop ((n + 3) / 4) (drop 1 ws)) ≡ got inner rest
 
-pub grant_reads : (depth : ℕ) (hidden : Bool) (n o : ℕ) (ws : List ℕ) → Holds (ReadsGrant depth n o ws) (grant_node (read_condition depth) hidden n o ws)
+pub grant_reads : (depth : ℕ) (shape : DenyShape) (n o : ℕ) (ws : List ℕ) → Holds (ReadsGrant depth n o ws) (grant_node (read_condition depth) shape n o ws)
 unfolding grant_node
-grant_reads depth hidden n o [] = nothing
-grant_reads depth hidden n o (w ∷ ws) =
+grant_reads depth shape n o [] = nothing
+grant_reads depth shape n o (w ∷ ws) =
     then_holds (mark (w / 65536)) _ (anything (mark (w / 65536))) (λ l _ _.
     then_holds (mark (w % 65536)) _ (anything (mark (w % 65536))) (λ m _ _.
     then_holds (read_list obligation obligation_bits n ws) _ (both_hold (read_list obligation obligation_bits n ws) (ok_obligations n ws) (obligations_leave n ws)) (λ os vs h.
     then_holds (read_condition depth vs) _ (itself (read_condition depth vs)) (λ c us e.
     fine (record {
-      clause = record { outcome = o; obligations = os; label = l; reason = m; shape = shape_of (bit_of hidden) };
+      clause = record { outcome = o; obligations = os; label = l; reason = m; shape = shape_of (bit_of shape) };
       inner = c;
       policy_is = refl;
       outcome_is = refl;
@@ -92,66 +96,54 @@ grant_reads depth hidden n o (w ∷ ws) =
       below = ap (λ k. read_condition depth (drop ((k + 3) / 4) ws)) (sym h.0.1) ∙ ap (read_condition depth) h.1 ∙ e;
     })))))
 
--- A stored permit: its second word ends with the count of facts.
-pub record ReadsPermit (n o : ℕ) (ws : List ℕ) (p : Policy Outcome) (rest : List ℕ) : Type 0 where
+-- A stored permit on an outcome, and a stored deny: n words, and those of the facts, which the word k counts.
+pub record IsPermit (o n k : ℕ) (d : Decision Outcome) : Type 0 where
   pub was : Permit Outcome
-  pub policy_is : p ≡ stored (permits was)
+  pub is : d ≡ permits was
   pub outcome_is : was.outcome ≡ o
-  pub long : length was.obligations ≡ n
-  pub facts_long : length was.facts ≡ get_or ws 0 0 % 4096
-  pub fits : 1 + (n + 3) / 4 + (get_or ws 0 0 % 4096 + 1) / 2 ≤ length ws
+  pub long : words_d d ≡ n + (k % 4096 + 1) / 2
 
-pub permit_reads : (n o : ℕ) (ws : List ℕ) → Holds (ReadsPermit n o ws) (next (permit_trace_node n o ws) (λ d vs. got (stored d) vs))
+pub permit_reads : (n o : ℕ) (ws : List ℕ) → Holds (λ d _. IsPermit o (2 + (n + 3) / 4) (get_or ws 0 0) d) (permit_trace_node n o ws)
 unfolding permit_trace_node
 permit_reads n o [] = nothing
 permit_reads n o (w ∷ ws) =
-    let node : Parsed (Decision Outcome) = permit_trace_node n o (w ∷ ws) in
-    then_holds {Q = λ d vs. ReadsPermit n o (w ∷ ws) (stored d) vs} node (λ d vs. got (stored d) vs)
-    (then_holds (mark (w / 65536)) _ (anything (mark (w / 65536))) (λ l _ _.
+    then_holds (mark (w / 65536)) _ (anything (mark (w / 65536))) (λ l _ _.
     if_holds (ltb (w % 65536) 4096) 8 _ (λ b.
     let small : w % 65536 < 4096 = ltb-true (w % 65536) 4096 b in
-    let count : w % 4096 ≡ w % 65536 = omega arith in
     then_holds (read_list obligation obligation_bits n ws) _ (ok_obligations n ws) (λ os vs h.
     then_holds (read_list listed entry_bits (w % 65536) vs) _ (ok_facts (w % 65536) vs) (λ fs us g.
-    fine (record {
-      was = record { outcome = o; obligations = os; label = l; facts = fs };
-      policy_is = refl;
-      outcome_is = refl;
-      long = h.1;
-      facts_long = g.1 ∙ sym count;
-      fits = rw count (omega (arith, h.2, g.2));
-    }))))))
-    (λ d vs h. fine h)
+    fine (record { was = record { outcome = o; obligations = os; label = l; facts = fs }; is = refl; outcome_is = refl; long = omega (arith, h.1, g.1) })))))
 
--- A stored deny: its third word is the count of facts.
-pub record ReadsDeny (ws : List ℕ) (p : Policy Outcome) (rest : List ℕ) : Type 0 where
+pub record IsDeny (k : ℕ) (d : Decision Outcome) : Type 0 where
   pub was : Denial Outcome
-  pub policy_is : p ≡ stored (denies was)
-  pub facts_long : length was.facts ≡ get_or ws 1 0 % 4096
-  pub fits : 2 + (get_or ws 1 0 % 4096 + 1) / 2 ≤ length ws
+  pub is : d ≡ denies was
+  pub long : words_d d ≡ 3 + (k % 4096 + 1) / 2
 
-deny_facts : (hidden denied : Bool) (o w : ℕ) (l m : Option ℕ) (ws : List ℕ) →
-    Holds (λ d vs. ReadsDeny (w ∷ ws) (stored d) vs)
-    (another ws (λ n vs. counted n (next (read_list listed entry_bits n vs) (λ fs us. got (denies (record { denied = denied_by denied o; facts = fs; label = l; reason = m; shape = shape_of (bit_of hidden) })) us))))
-deny_facts hidden denied o w l m [] = nothing
-deny_facts hidden denied o w l m (n ∷ ws) =
+deny_facts : (shape : DenyShape) (denied : Carried ℕ) (l m : Option ℕ) (ws : List ℕ) →
+    Holds (λ d vs. IsDeny (get_or ws 0 0) d)
+    (another ws (λ n vs. counted n (next (read_list listed entry_bits n vs) (λ fs us. got (denies (record { denied = denied_by denied; facts = fs; label = l; reason = m; shape = shape_of (bit_of shape) })) us))))
+deny_facts shape denied l m [] = nothing
+deny_facts shape denied l m (n ∷ ws) =
     if_holds (ltb n 4096) 8 _ (λ b.
     let small : n < 4096 = ltb-true n 4096 b in
-    let count : n % 4096 ≡ n = omega arith in
     then_holds (read_list listed entry_bits n ws) _ (ok_facts n ws) (λ fs us g.
-    fine (record {
-      was = record { denied = denied_by denied o; facts = fs; label = l; reason = m; shape = shape_of (bit_of hidden) };
-      policy_is = refl;
-      facts_long = g.1 ∙ sym count;
-      fits = rw count (omega (arith, g.2));
-    })))
+    fine (record { was = record { denied = denied_by denied; facts = fs; label = l; reason = m; shape = shape_of (bit_of shape) }; is = refl; long = omega (arith, g.1) })))
 
-pub deny_reads : (hidden denied : Bool) (o : ℕ) (ws : List ℕ) → Holds (ReadsDeny ws) (next (deny_trace_node hidden denied o ws) (λ d vs. got (stored d) vs))
+pub deny_reads : (shape : DenyShape) (denied : Carried ℕ) (ws : List ℕ) → Holds (λ d _. IsDeny (get_or ws 1 0) d) (deny_trace_node shape denied ws)
 unfolding deny_trace_node
-deny_reads hidden denied o [] = nothing
-deny_reads hidden denied o (w ∷ ws) =
-    let node : Parsed (Decision Outcome) = deny_trace_node hidden denied o (w ∷ ws) in
-    then_holds {Q = λ d vs. ReadsDeny (w ∷ ws) (stored d) vs} node (λ d vs. got (stored d) vs)
-    (then_holds (mark (w / 65536)) _ (anything (mark (w / 65536))) (λ l _ _.
-    then_holds (mark (w % 65536)) _ (anything (mark (w % 65536))) (λ m _ _. deny_facts hidden denied o w l m ws)))
-    (λ d vs h. fine h)
+deny_reads shape denied [] = nothing
+deny_reads shape denied (w ∷ ws) =
+    then_holds (mark (w / 65536)) _ (anything (mark (w / 65536))) (λ l _ _.
+    then_holds (mark (w % 65536)) _ (anything (mark (w % 65536))) (λ m _ _. deny_facts shape denied l m ws))
+
+-- ---- what is passed over
+pub skipped : {A : Type 0} (size : A → ℕ) (at n : ℕ) (q : Parsed A) → Skipped size at q n → Holds (λ a rest. n ≡ at + size a) q
+unfolding Skipped
+skipped size at n (refuse k) h = nothing
+skipped size at n (got a rest) h = fine h
+
+-- One policy.
+pub one_passed : (at n : ℕ) (q : Parsed (Policy Outcome)) → Skipped wordss at (next q (λ p vs. next (got pnil vs) (λ ps us. got (pcons p ps) us))) n → Holds (λ p rest. n ≡ at + words p) q
+unfolding Skipped
+one_passed at n (refuse k) h = nothing
+one_passed at n (got p rest) h = fine (omega (arith, h))

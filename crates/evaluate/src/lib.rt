@@ -1,45 +1,46 @@
 // Evaluation of policies, after gatekeep's evaluate.rs. A policy hands its arms to the list rule, and the list rule hands each arm back.
-// Lent down the walk: the consulted list, and `buf`, room for the obligations of each level that is left and of one more, where a list rule keeps united obligations at the front and lends the tail to its arms.
+// Lent down the walk: the consulted list, and `buf`, room for the obligations of each level that is left and of one more, where a list rule keeps united
+// obligations at the front and lends the tail to its arms.
 // A sheet is read as a residual is: where nodes 12 and 13 don't stand, it makes no difference that they may.
 #![tactic(auto)]
 
-ghost use Rattle.std.specs.Prelude.{◌≡◌, Bool, List, ℕ, ◌+◌, ◌≤◌, ◌<◌, length, drop};
+ghost use Rattle.std.specs.Prelude.{◌≡◌, Some, IfSome, List, ℕ, ◌+◌, ◌≤◌, ◌<◌, length, drop};
 ghost use Rattle.std.proofs.Math.Option.{Option};
-ghost use Rattle.model.specs.Facts.{Table, table_of};
+ghost use Rattle.model.specs.Facts.{table_of};
 ghost use Rattle.model.specs.Levels.{meet_of, join_of};
 ghost use Rattle.model.specs.Levels as model;
 ghost use Rattle.outcome.specs.Carried.{carried};
 ghost use Rattle.model.specs.Reading.{levels, record_words};
-ghost use Rattle.policy_model.specs.declared.PolicyHead.TheVariants.{Grant, All, Any, OrElse, PermitWithTrace, DenyWithTrace};
-ghost use Rattle.consulted.specs.Listing.{Lent, held};
-ghost use Rattle.decision.specs.Meaning.{denied_at, permitted_at};
+ghost use Rattle.policy_model.specs.declared.DenyShape.{DenyShape};
+ghost use Rattle.policy_model.specs.declared.PolicyHead.TheVariants.{Grant, All, Any, OrElse};
+ghost use Rattle.consulted.specs.Listing.{held};
+ghost use Rattle.decision.specs.Meaning.{denied_at, permitted_at, granted_at};
 ghost use Rattle.decision.specs.Room.{obligation_room, RoomToUnite, Few};
-ghost use Rattle.evaluate.specs.Folding.{join_next};
-ghost use Rattle.evaluate.specs.Evaluating.{eval_of, granted_at, EvaluatesP, EvaluatesBy, Met, Folds};
+ghost use Rattle.evaluate.specs.Folding.{meet_next, join_next};
+ghost use Rattle.evaluate.specs.Evaluating.{eval_of, stored_words, EvaluatesP, EvaluatesBy, Permits, Met, Folds};
 
-use condition::ConditionEval;
+use condition::{ConditionEval, Walk};
 use consulted::Consulted;
 use decision::{Decision, OBLIGATION_ROOM};
-use outcome::{OutcomeTable, Products};
+use outcome::OutcomeTable;
 use policy_model::PolicyHead;
 
-// What an evaluation reads: the words, the facts, and the outcome table, where there is one.
+// What an evaluation reads: what a walk does, and the outcome table, where there is one.
 #[derive(Clone, Copy)]
 pub struct Evaluation<'a> {
-    pub words: &'a [u32],
-    pub facts: &'a [u8],
+    pub walk: Walk<'a>,
     pub outcomes: Option<OutcomeTable<'a>>,
-    ghost bounded: { length words.now ≤ record_words },
+    ghost bounded: { length walk.words.now ≤ record_words },
 }
 
-// What was decided, and the position after the policy's words.
+// What was decided, and the position after the policy's words. A type of its own beside `ConditionEval`, whose field says `satisfied`, as gatekeep's does.
 #[derive(Drop)]
 pub struct PolicyEval {
     pub decision: Decision,
     pub next: usize,
 }
 
-// A deny with nothing named: the answer to a Deny, and to words that don't read.
+// A deny with nothing named: the answer to a Deny, and to words that end early or have no kind of a policy.
 fn denied(none: usize, next: usize) -> PolicyEval
     ensures { result ≡ eval_of (denied_at none none) next }
 {
@@ -59,7 +60,7 @@ fn permitted(outcome: u16, none: usize, next: usize) -> PolicyEval
     }
 }
 
-// The decision so far and one more permit under All. The first permit is taken as it is.
+// The decision so far under All and one more permit. After a deny the permit is taken as it is.
 pub fn met(
     words: &[u32],
     outcome: u16,
@@ -77,22 +78,18 @@ pub fn met(
     decision::keep(incoming, buf)
 }
 
-// The decision so far and one more under Any; `begun` says whether there was an arm before. Permits are joined, and of two denies the first stands.
+// The decision so far under Any and one more. Permits are joined, and of two denies the first stands.
 pub fn joined(
     words: &[u32],
     outcome: u16,
     sofar: Decision,
-    begun: bool,
     incoming: Decision,
     buf: &mut [u8],
 ) -> Decision
     requires { Few sofar × Few incoming × RoomToUnite 2 buf.old }
     ensures few { Few result }
-    ensures folds { (g : Option model.OutcomeTable) → outcome ≡ join_of g sofar.outcome incoming.outcome → Folds (join_next g begun) words.now sofar buf.old incoming (drop obligation_room buf.old) result buf.new }
+    ensures folds { (g : Option model.OutcomeTable) → outcome ≡ join_of g sofar.outcome incoming.outcome → Folds (join_next g) words.now (Some sofar) buf.old incoming (drop obligation_room buf.old) result buf.new }
 {
-    if !begun {
-        return decision::keep(incoming, buf);
-    }
     if !incoming.permit {
         return sofar;
     }
@@ -102,7 +99,8 @@ pub fn joined(
     decision::keep(incoming, buf)
 }
 
-// The grant at `at` on the outcome, by the answer to its condition: permits where that is satisfied, else denies.
+// The grant at `at` on the outcome, by the answer to its condition. It is `decision::granted` once more, since with that in its place a list of 1,365 grants
+// takes 1.2 times as long.
 fn granted(at: usize, outcome: u16, none: usize, condition: ConditionEval) -> PolicyEval
     ensures { result ≡ eval_of (granted_at condition.satisfied outcome at none) condition.next }
 {
@@ -120,61 +118,64 @@ fn granted(at: usize, outcome: u16, none: usize, condition: ConditionEval) -> Po
 impl Evaluation<'_> {
     // A grant at `at`, whose condition has at most `depth` levels.
     fn eval_grant(&self, at: usize, depth: usize, consulted: &mut Consulted<'_>) -> PolicyEval
-        requires { (at < length self.now.words.now) × (depth < levels) }
-        ensures { (g : Option model.OutcomeTable) (hidden : Bool) (obligations outcome : ℕ) (buf : List ℕ) → EvaluatesBy g (Grant hidden obligations outcome) (table_of self.now.facts.now) self.now.words.now at depth (held consulted.old) result (held consulted.new) buf }
+        requires { (at < length self.now.walk.words.now) × (depth < levels) }
+        ensures { (g : Option model.OutcomeTable) (shape : DenyShape) (obligations outcome : ℕ) (buf : List ℕ) → EvaluatesBy g (Grant shape obligations outcome) (table_of self.now.walk.facts.now) self.now.walk.words.now at depth (held consulted.old) result (held consulted.new) buf }
     {
-        let none = self.words.len();
-        let before = grant::before_condition_in(self.words, at) as usize;
+        let none = self.walk.words.len();
+        let before = grant::before_condition_in(self.walk.words, at) as usize;
         if none - at < before {
             return denied(none, at);
         }
-        let condition = condition::eval_arm(self.words, at + before, depth, self.facts, consulted);
+        let condition = self.walk.eval_arm(at + before, depth, consulted);
         granted(
             at,
-            grant::outcome_in(self.words, at) as u16,
+            grant::outcome_in(self.walk.words, at) as u16,
             none,
             condition,
         )
     }
 
-    // A stored permit at `at`: word two ends with the count of its facts.
-    fn stored_permit(&self, at: usize, obligations: u32, outcome: u16) -> PolicyEval
-        requires { at < length self.now.words.now }
-        ensures { (g : Option model.OutcomeTable) (depth : ℕ) (T : Table) (s : Lent) (buf : List ℕ) → depth < levels → EvaluatesBy g (PermitWithTrace obligations outcome) T self.now.words.now at depth s result s buf }
+    // The stored decision at `at`. The word `counted` of its node ends with the count of its facts, which stand behind its obligations. Where these end is not
+    // asked: no word of them is read here, and a position past the end reads as nothing.
+    fn stored(&self, at: usize, counted: usize, obligations: u32, decision: Decision) -> PolicyEval
+        requires { (at < length self.now.walk.words.now) × (counted ≤ 2) }
+        ensures { result ≡ eval_of decision (at + stored_words self.now.walk.words.now at counted obligations) }
     {
-        let none = self.words.len();
-        let second = at + 1;
-        if none <= second {
-            return denied(none, at);
-        }
+        let facts = policy_model::word_at(self.walk.words, at + counted) % policy_model::COUNTS;
         let held = policy_model::obligation_words(obligations);
-        let size = 2 + held + policy_model::entry_words(self.words[second] % policy_model::COUNTS);
-        if none - at < size {
-            return denied(none, at);
-        }
         PolicyEval {
-            decision: decision::permitted_by(outcome, at),
-            next: at + size,
+            decision,
+            next: at + (counted + 1 + held + policy_model::entry_words(facts)),
         }
     }
 
-    // A stored deny at `at`: word three is the count of its facts.
-    fn stored_deny(&self, at: usize) -> PolicyEval
-        requires { at < length self.now.words.now }
-        ensures { (g : Option model.OutcomeTable) (hidden denied : Bool) (outcome depth : ℕ) (T : Table) (s : Lent) (buf : List ℕ) → depth < levels → EvaluatesBy g (DenyWithTrace hidden denied outcome) T self.now.words.now at depth s result s buf }
+    // The permits so far under All, if there are any, and that of one more arm.
+    fn meet_next(&self, sofar: Option<Decision>, arm: Decision, buf: &mut [u8]) -> Decision
+        requires { IfSome sofar Permits × Permits arm × RoomToUnite 2 buf.old }
+        ensures permits { Permits result }
+        ensures folds { Folds (meet_next (carried self.now.outcomes)) self.now.walk.words.now sofar buf.old arm (drop obligation_room buf.old) result buf.new }
     {
-        let none = self.words.len();
-        if none - at < 3 {
-            return denied(none, at);
+        match sofar {
+            None => decision::keep(arm, buf),
+            Some(earlier) => {
+                let both = earlier.products().meet_by(arm.products(), self.outcomes);
+                decision::meet(self.walk.words, both.bits, earlier, arm, buf)
+            }
         }
-        let third = at + 2;
-        let size = 3 + policy_model::entry_words(self.words[third] % policy_model::COUNTS);
-        if none - at < size {
-            return denied(none, at);
-        }
-        PolicyEval {
-            decision: decision::denied_by(at, none),
-            next: at + size,
+    }
+
+    // The decision so far under Any, if there was an arm, and that of one more.
+    fn join_next(&self, sofar: Option<Decision>, arm: Decision, buf: &mut [u8]) -> Decision
+        requires { IfSome sofar Few × Few arm × RoomToUnite 2 buf.old }
+        ensures few { Few result }
+        ensures folds { Folds (join_next (carried self.now.outcomes)) self.now.walk.words.now sofar buf.old arm (drop obligation_room buf.old) result buf.new }
+    {
+        match sofar {
+            None => decision::keep(arm, buf),
+            Some(earlier) => {
+                let either = earlier.products().join_by(arm.products(), self.outcomes);
+                joined(self.walk.words, either.bits, earlier, arm, buf)
+            }
         }
     }
 
@@ -188,15 +189,15 @@ impl Evaluation<'_> {
         buf: &mut [u8],
     ) -> PolicyEval
         requires { (depth ≤ levels) × RoomToUnite (depth + 1) buf.old }
-        ensures { EvaluatesP (carried self.now.outcomes) (table_of self.now.facts.now) self.now.words.now at depth (held consulted.old) result (held consulted.new) buf.new }
+        ensures { EvaluatesP (carried self.now.outcomes) (table_of self.now.walk.facts.now) self.now.walk.words.now at depth (held consulted.old) result (held consulted.new) buf.new }
     {
-        let none = self.words.len();
+        let none = self.walk.words.len();
         if none <= at || depth == 0 {
             return denied(none, at);
         }
         let next = at + 1;
         let below = depth - 1;
-        match policy_model::policy_head(self.words[at], true) {
+        match policy_model::policy_head(self.walk.words[at], true) {
             PolicyHead::Permit(outcome) => permitted(outcome, none, next),
             PolicyHead::Deny => denied(none, next),
             PolicyHead::Grant { .. } => self.eval_grant(at, below, consulted),
@@ -206,10 +207,11 @@ impl Evaluation<'_> {
             PolicyHead::PermitWithTrace {
                 obligations,
                 outcome,
-            } => self.stored_permit(at, obligations, outcome),
-            PolicyHead::DenyWithTrace { .. } => self.stored_deny(at),
-            PolicyHead::BadKind => denied(none, at),
-            PolicyHead::BadField => denied(none, at),
+            } => self.stored(at, 1, obligations, decision::permitted_by(outcome, at)),
+            PolicyHead::DenyWithTrace { .. } => {
+                self.stored(at, 2, 0, decision::denied_by(at, none))
+            }
+            PolicyHead::BadKind | PolicyHead::BadField => denied(none, at),
         }
     }
 
@@ -223,13 +225,13 @@ impl Evaluation<'_> {
         buf: &mut [u8],
     ) -> PolicyEval
         requires { (depth ≤ levels) × RoomToUnite (depth + 1) buf.old }
-        ensures { EvaluatesP (carried self.now.outcomes) (table_of self.now.facts.now) self.now.words.now at depth (held consulted.old) result (held consulted.new) buf.new }
+        ensures { EvaluatesP (carried self.now.outcomes) (table_of self.now.walk.facts.now) self.now.walk.words.now at depth (held consulted.old) result (held consulted.new) buf.new }
     {
-        let none = self.words.len();
+        let none = self.walk.words.len();
         if none <= at {
             return denied(none, at);
         }
-        let word = self.words[at];
+        let word = self.walk.words[at];
         if word / policy_model::HALF == policy_model::PERMIT {
             return permitted((word % policy_model::HALF) as u16, none, at + 1);
         }
@@ -246,10 +248,10 @@ impl Evaluation<'_> {
         consulted: &mut Consulted<'_>,
         buf: &mut [u8],
     ) -> PolicyEval
-        requires { (at < length self.now.words.now) × (depth < levels) × RoomToUnite (depth + 2) buf.old }
-        ensures { EvaluatesBy (carried self.now.outcomes) (All arms) (table_of self.now.facts.now) self.now.words.now at depth (held consulted.old) result (held consulted.new) buf.new }
+        requires { (at < length self.now.walk.words.now) × (depth < levels) × RoomToUnite (depth + 2) buf.old }
+        ensures { EvaluatesBy (carried self.now.outcomes) (All arms) (table_of self.now.walk.facts.now) self.now.walk.words.now at depth (held consulted.old) result (held consulted.new) buf.new }
     {
-        let mut sofar = decision::denied(self.words.len());
+        let mut sofar: Option<Decision> = None;
         let mut next = at + 1;
         for left in (0..arms).rev() {
             let arm = self.eval_arm(next, depth, consulted, &mut buf[OBLIGATION_ROOM..]);
@@ -258,25 +260,20 @@ impl Evaluation<'_> {
             if !decision.permit {
                 return PolicyEval {
                     decision,
-                    next: policy_model::skip_policies(self.words, next, left),
+                    next: policy_model::skip_policies(self.walk.words, next, left),
                 };
             }
-            let earlier = Products {
-                bits: sofar.outcome,
-            };
-            let later = Products {
-                bits: decision.outcome,
-            };
-            let both = earlier.meet_by(later, self.outcomes);
-            sofar = met(self.words, both.bits, sofar, decision, buf);
+            let folded = self.meet_next(sofar, decision, buf);
+            sofar = Some(folded);
         }
         PolicyEval {
-            decision: sofar,
+            decision: sofar.unwrap_or(decision::denied(self.walk.words.len())),
             next,
         }
     }
 
-    // The Any at `at`, whose `arms` have at most `depth` levels: joins the permits, or denies with the first deny. Every arm is read.
+    // The Any at `at`, whose `arms` have at most `depth` levels: joins the permits, or denies with the first deny. Every arm is read. Beside
+    // `eval_all`: which arm ends a list, and which decision is kept, is all that either says.
     #[cycle(evaluation)]
     fn eval_any(
         &self,
@@ -286,28 +283,19 @@ impl Evaluation<'_> {
         consulted: &mut Consulted<'_>,
         buf: &mut [u8],
     ) -> PolicyEval
-        requires { (at < length self.now.words.now) × (depth < levels) × RoomToUnite (depth + 2) buf.old }
-        ensures { EvaluatesBy (carried self.now.outcomes) (Any arms) (table_of self.now.facts.now) self.now.words.now at depth (held consulted.old) result (held consulted.new) buf.new }
+        requires { (at < length self.now.walk.words.now) × (depth < levels) × RoomToUnite (depth + 2) buf.old }
+        ensures { EvaluatesBy (carried self.now.outcomes) (Any arms) (table_of self.now.walk.facts.now) self.now.walk.words.now at depth (held consulted.old) result (held consulted.new) buf.new }
     {
-        let mut sofar = decision::denied(self.words.len());
-        let mut begun = false;
+        let mut sofar: Option<Decision> = None;
         let mut next = at + 1;
         for _ in 0..arms {
             let arm = self.eval_arm(next, depth, consulted, &mut buf[OBLIGATION_ROOM..]);
             next = arm.next;
-            let decision = arm.decision;
-            let earlier = Products {
-                bits: sofar.outcome,
-            };
-            let later = Products {
-                bits: decision.outcome,
-            };
-            let either = earlier.join_by(later, self.outcomes);
-            sofar = joined(self.words, either.bits, sofar, begun, decision, buf);
-            begun = true;
+            let folded = self.join_next(sofar, arm.decision, buf);
+            sofar = Some(folded);
         }
         PolicyEval {
-            decision: sofar,
+            decision: sofar.unwrap_or(decision::denied(self.walk.words.len())),
             next,
         }
     }
@@ -321,8 +309,8 @@ impl Evaluation<'_> {
         consulted: &mut Consulted<'_>,
         buf: &mut [u8],
     ) -> PolicyEval
-        requires { (at < length self.now.words.now) × (depth < levels) × RoomToUnite (depth + 1) buf.old }
-        ensures { EvaluatesBy (carried self.now.outcomes) OrElse (table_of self.now.facts.now) self.now.words.now at depth (held consulted.old) result (held consulted.new) buf.new }
+        requires { (at < length self.now.walk.words.now) × (depth < levels) × RoomToUnite (depth + 1) buf.old }
+        ensures { EvaluatesBy (carried self.now.outcomes) OrElse (table_of self.now.walk.facts.now) self.now.walk.words.now at depth (held consulted.old) result (held consulted.new) buf.new }
     {
         let primary = self.eval_policy(at + 1, depth, consulted, buf);
         let next = primary.next;
@@ -330,30 +318,9 @@ impl Evaluation<'_> {
         if decision.permit {
             return PolicyEval {
                 decision,
-                next: policy_model::skip_policies(self.words, next, 1),
+                next: policy_model::skip_policies(self.walk.words, next, 1),
             };
         }
         self.eval_policy(next, depth, consulted, buf)
     }
-}
-
-// The policy at `at`, of at most `depth` levels.
-pub fn eval_policy(
-    words: &[u32],
-    at: usize,
-    depth: usize,
-    facts: &[u8],
-    outcomes: Option<OutcomeTable<'_>>,
-    consulted: &mut Consulted<'_>,
-    buf: &mut [u8],
-) -> PolicyEval
-    requires { (depth ≤ levels) × RoomToUnite (depth + 1) buf.old × (length words.now ≤ record_words) }
-    ensures { EvaluatesP (carried outcomes.entry) (table_of facts.now) words.now at depth (held consulted.old) result (held consulted.new) buf.new }
-{
-    let evaluation = Evaluation {
-        words,
-        facts,
-        outcomes,
-    };
-    evaluation.eval_policy(at, depth, consulted, buf)
 }

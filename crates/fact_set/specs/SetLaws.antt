@@ -190,13 +190,3 @@ has_fact fact set h = record {
       ∙ ap named (let k : 0 + at ≡ fact = omega arith in k);
   too_short = λ s. let z : ⊥ = omega arith in absurd z;
 }
-
--- A set that is too short for the fact has not got it.
-pub has_no_fact : (fact : ℕ) (set : List ℕ) → length set ≤ fact / 64 → Contained fact set false
-has_no_fact fact set h = record {
-  is_named = λ named e p.
-      let s : set ≡ numbers named 64 16 0 = e ∙ set_numbers named in
-      let l : length set ≡ 16 = ap length s ∙ length_numbers named 64 16 0 in
-      let z : ⊥ = omega arith in absurd z;
-  too_short = λ s. refl;
-}

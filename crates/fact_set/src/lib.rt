@@ -11,7 +11,7 @@ pub fn put(set: &mut [u64], fact: u32)
 {
     let at = (fact / 64) as usize;
     let bit = 9223372036854775808 >> (fact % 64);
-    set[at] = set[at] | bit;
+    set[at] |= bit;
 }
 
 // Puts a fact into the set. A set that is too short for it is left as it was.
@@ -20,7 +20,7 @@ pub fn insert(set: &mut [u64], fact: u32)
 {
     let at = (fact / 64) as usize;
     if at < set.len() {
-        set[at] = set[at] | (9223372036854775808 >> (fact % 64));
+        put(set, fact);
     }
 }
 

@@ -1,6 +1,6 @@
 -- The first fault of a table, for a table of either kind. Assumes nothing.
 use mathlib.Core.Path.{◌≡◌, refl, ap, ◌∙◌}
-use mathlib.Core.Bool.{Bool, true, false, ◌&&◌, beq, and_assoc}
+use mathlib.Core.Bool.{Bool, true, ◌&&◌, and_assoc}
 use mathlib.Core.Option.{Option, none, some}
 use mathlib.Core.List.{List, [], ◌∷◌, ◌++◌}
 use Prim.Native.Nat.{ℕ, zero, suc, ◌+◌, ◌*◌, ◌/◌, ◌≤◌, ◌<◌}
@@ -11,6 +11,7 @@ use lib.Dec.{eqb, eqb-suc-zero}
 use lib.ListN.{length, get_or, drop, drop_of_length-le}
 use lib.Seq.{drop-cons}
 use borrow.Author.Tests.{ne_eqb}
+use Rattle.std.proofs.lemmas.Bool.{agree_below, agree_below_at}
 use Rattle.model.specs.Fields.{split}
 use Rattle.model.specs.Facts.{TableKind, partial_facts, known_facts, table_fields, field_fault, or_fault, first_fault}
 use Rattle.laws.proofs.UnpackedLaws.{length_fields}
@@ -25,44 +26,23 @@ no_fault_or : (a b : Option ℕ) → no_fault (or_fault a b) ≡ (no_fault a && 
 no_fault_or none b = refl
 no_fault_or (some n) b = refl
 
--- ---- a test of each number below a bound, computed
-both_left : (a b : Bool) → (a && b) ≡ true → a ≡ true
-both_left true b t = refl
-both_left false b t = t
-
-both_right : (a b : Bool) → (a && b) ≡ true → b ≡ true
-both_right true b t = t
-both_right false b t = cc
-
-same_bool : (a b : Bool) → beq a b ≡ true → a ≡ b
-same_bool true true t = refl
-same_bool true false t = cc
-same_bool false true t = cc
-same_bool false false t = refl
-
-abbrev each : (ℕ → Bool) → ℕ → Bool
-each f zero = true
-each f (suc n) = f zero && each (λ m. f (suc m)) n
-
-of_each : (f : ℕ → Bool) (n : ℕ) → each f n ≡ true → (m : ℕ) → m < n → f m ≡ true
-of_each f zero t m h = absurd (omega arith)
-of_each f (suc n) t zero h = both_left (f zero) (each (λ m. f (suc m)) n) t
-of_each f (suc n) t (suc m) h = of_each (λ m. f (suc m)) n (both_right (f zero) (each (λ m. f (suc m)) n) t) m (omega arith)
-
--- ---- the marks of a byte: none exactly where no field is at fault, for each byte and either kind of table
+-- ---- the marks of a byte: none exactly where no field is at fault, computed for each byte and either kind of table
 abbrev marks_of : TableKind → ℕ → ℕ
 marks_of partial_facts b = bit_and (bit_and b (b / 2)) 85
 marks_of known_facts b = bit_and b 170
 
-abbrev marks_right : TableKind → ℕ → Bool
-marks_right k b = beq (eqb (marks_of k b) 0) (no_fault (first_fault k (split 2 4 b)))
+abbrev unmarked : TableKind → ℕ → Bool
+unmarked k b = eqb (marks_of k b) 0
 
-each_byte : (k : TableKind) → each (marks_right k) 256 ≡ true
+abbrev flawless : TableKind → ℕ → Bool
+flawless k b = no_fault (first_fault k (split 2 4 b))
+
+each_byte : (k : TableKind) → agree_below (unmarked k) (flawless k) 256 ≡ true
 each_byte partial_facts = refl
 each_byte known_facts = refl
 
 pub marks_say : (k : TableKind) (b : ℕ) → b < 256 → eqb (marks_of k b) 0 ≡ no_fault (first_fault k (split 2 4 b))
-marks_say k b h = same_bool (eqb (marks_of k b) 0) (no_fault (first_fault k (split 2 4 b))) (of_each (marks_right k) 256 (each_byte k) b h)
+marks_say k b h = agree_below_at (unmarked k) (flawless k) 256 b (each_byte k) h
 
 pub or_zero : (a b : ℕ) → eqb (bit_or a b) 0 ≡ (eqb a 0 && eqb b 0)
 or_zero zero b = refl

@@ -90,7 +90,7 @@ pub fn entry(fact: u32, presence: Presence) -> u16
     presence.number() * ABOVE_FACT_16 + fact as u16
 }
 
-// The presence in a consulted entry.
+// The presence in a consulted entry. No `From`: not every number is an entry, and in a table's field 3 reads otherwise.
 pub fn entry_presence(field: u32) -> Presence
     ensures { Reads result (seen_in (field / 16384)) }
 {

@@ -151,13 +151,21 @@ agree_at i [] (b ∷ ss) h l e = absurd (omega arith)
 agree_at zero (a ∷ ls) (b ∷ ss) h l e = (agree_parts a b ls ss e).0
 agree_at (suc i) (a ∷ ls) (b ∷ ss) h l e = agree_at i ls ss (omega arith) (omega arith) (agree_parts a b ls ss e).1
 
+pub clean_byte : (i : ℕ) (bs : List ℕ) → Below 3 (table_fields bs) → Clean (get_or bs i 0)
+clean_byte i [] h = (omega arith, (omega arith, (omega arith, (omega arith, tt))))
+clean_byte zero (b ∷ bs) h = (h.0, (h.1.0, (h.1.1.0, (h.1.1.1.0, tt))))
+clean_byte (suc i) (b ∷ bs) h = clean_byte i bs h.1.1.1.1
+
 pub clean_at : (i : ℕ) (bs : List ℕ) → NoThree bs → Clean (get_or bs i 0)
-clean_at i bs h = by i bs (clean (table_fields bs) h)
+clean_at i bs h = clean_byte i bs (clean (table_fields bs) h)
+
+pub clean_rest : (n : ℕ) (bs : List ℕ) → NoThree bs → Below 3 (table_fields (drop n bs))
+clean_rest n bs h = by n bs (clean (table_fields bs) h)
   where
-    by : (i : ℕ) (bs : List ℕ) → Below 3 (table_fields bs) → Clean (get_or bs i 0)
-    by i [] h = (omega arith, (omega arith, (omega arith, (omega arith, tt))))
-    by zero (b ∷ bs) h = (h.0, (h.1.0, (h.1.1.0, (h.1.1.1.0, tt))))
-    by (suc i) (b ∷ bs) h = by i bs h.1.1.1.1
+    by : (n : ℕ) (bs : List ℕ) → Below 3 (table_fields bs) → Below 3 (table_fields (drop n bs))
+    by zero bs h = h
+    by (suc n) [] h = h
+    by (suc n) (b ∷ bs) h = by n bs h.1.1.1.1
 
 -- ---- the result
 joined_both : (a b : ℕ) (ls ss : List ℕ) → joined_bytes (a ∷ ls) (b ∷ ss) ≡ join_byte a b ∷ joined_bytes ls ss

@@ -109,7 +109,7 @@ total_more zero (n ∷ l) h = omega arith
 total_more (suc k) (n ∷ l) h = omega (arith, total_more k l (omega arith))
 
 -- The days before the month after m, and before the year after y.
-month_on : (y m : ℕ) → 1 ≤ m → m ≤ 12 → total (take m (months y)) ≡ total (take (m - 1) (months y)) + month_days y m
+pub month_on : (y m : ℕ) → 1 ≤ m → m ≤ 12 → total (take m (months y)) ≡ total (take (m - 1) (months y)) + month_days y m
 month_on y zero h k = absurd (omega arith)
 month_on y (suc m) h k = total_more m (months y) (omega arith) ∙ ap (λ n. total (take n (months y)) + get_or (months y) m 0) (let e : m ≡ suc m - 1 = omega arith in e)
 
@@ -118,7 +118,7 @@ year_on y h =
     ap years_days (let e : suc y - first_year ≡ suc (y - first_year) = omega arith in e)
     ∙ ap (λ n. years_days (y - first_year) + total (months n)) (let e : first_year + (y - first_year) ≡ y = omega arith in e)
 
-total_few : (k : ℕ) (l : List ℕ) → total (take k l) ≤ total l
+pub total_few : (k : ℕ) (l : List ℕ) → total (take k l) ≤ total l
 total_few zero l = omega arith
 total_few (suc k) [] = omega arith
 total_few (suc k) (n ∷ l) = omega (arith, total_few k l)

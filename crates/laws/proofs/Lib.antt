@@ -36,4 +36,5 @@ pub mod NumberLaws
 pub mod ReadingNumbers
 pub mod RecordTrips
 pub mod ShiftLaws
+pub mod Pairs
 pub mod WordLaws

@@ -24,22 +24,13 @@ enum Listed {
     Consulted,
 }
 
-// ---- fields of the record
-
-// The field at a place of the list that begins at a position, 8 or 16 bits from the left.
-fn field_at(words: &[u32], at: usize, place: usize, kind: Listed) -> u32
-    requires { at + place < 65536 }
-    ensures { result ≡ field_at (width_of kind) (drop at words.now) place }
-{
-    match kind {
-        Listed::Obligations => (policy_model::word_at(words, at + place / 4)
-            >> (24 - place % 4 * 8))
-            % policy_model::QUARTER,
-        Listed::Facts | Listed::Consulted => {
-            (policy_model::word_at(words, at + place / 2) >> (16 - place % 2 * 16))
-                % policy_model::HALF
-        }
-    }
+// A list of a record: so many fields of one kind, from a position of the words on.
+#[derive(Drop)]
+struct Fields<'a> {
+    pub words: &'a [u32],
+    pub at: usize,
+    pub count: usize,
+    pub kind: Listed,
 }
 
 // ---- bytes
@@ -117,6 +108,7 @@ fn put_presence(presence: Presence, out: &mut [u8]) -> usize
 }
 
 // A consulted entry: presence (2), zero (4), fact (10).
+#[tactic(auto, using(crate::specs::Writers::wrote_then), unfolding(crate::specs::Texts::field_text))]
 fn put_entry(field: u32, out: &mut [u8]) -> usize
     requires { 12 ≤ length out.old }
     ensures { Wrote (field_text Listed.Consulted field) out.old out.new result }
@@ -126,6 +118,7 @@ fn put_entry(field: u32, out: &mut [u8]) -> usize
 }
 
 // One of a list.
+#[tactic(auto, unfolding(crate::specs::Texts::field_text))]
 fn put_field(field: u32, kind: Listed, out: &mut [u8]) -> usize
     requires { most_of kind ≤ 1 + length out.old }
     ensures { Wrote (field_text kind field) out.old out.new result }
@@ -145,35 +138,47 @@ fn put_next(field: u32, kind: Listed, out: &mut [u8]) -> usize
     n + put_field(field, kind, &mut out[n..])
 }
 
-// A list of `count` fields from a position, comma-separated, `-` if empty.
-fn put_fields(words: &[u32], at: usize, count: usize, kind: Listed, out: &mut [u8]) -> usize
-    requires { (at + count < 65536) × (1 + most_of kind * count ≤ length out.old) }
-    ensures { Wrote (fields_text kind words.now at count) out.old out.new result }
-{
-    if count == 0 {
-        return copy(b"-", out);
+impl<'a> Fields<'a> {
+    // The field at a place, 8 or 16 bits from the left.
+    #[tactic(auto, using(laws::proofs::FieldAtLaws::field_by_shift))]
+    fn field_at(&self, place: usize) -> u32
+        requires { self.now.at + place < 65536 }
+        ensures { result ≡ field_at (width_of self.now.kind) (drop self.now.at self.now.words.now) place }
+    {
+        match self.kind {
+            Listed::Obligations => (policy_model::word_at(self.words, self.at + place / 4)
+                >> (24 - place % 4 * 8))
+                % policy_model::QUARTER,
+            Listed::Facts | Listed::Consulted => {
+                (policy_model::word_at(self.words, self.at + place / 2) >> (16 - place % 2 * 16))
+                    % policy_model::HALF
+            }
+        }
     }
-    let mut n = put_field(field_at(words, at, 0, kind), kind, out);
-    for i in 1..count {
-        n += put_next(field_at(words, at, i, kind), kind, &mut out[n..]);
-    }
-    n
-}
 
-// A list after its name.
-fn put_named(
-    name: &[u8],
-    words: &[u32],
-    at: usize,
-    count: usize,
-    kind: Listed,
-    out: &mut [u8],
-) -> usize
-    requires { (at + count < 65536) × (length name.now + (1 + most_of kind * count) ≤ length out.old) }
-    ensures { Wrote (name.now ++ fields_text kind words.now at count) out.old out.new result }
-{
-    let n = copy(name, out);
-    n + put_fields(words, at, count, kind, &mut out[n..])
+    // The list, comma-separated, `-` if empty.
+    fn put_fields(&self, out: &mut [u8]) -> usize
+        requires { (self.now.at + self.now.count < 65536) × (1 + most_of self.now.kind * self.now.count ≤ length out.old) }
+        ensures { Wrote (fields_text self.now.kind self.now.words.now self.now.at self.now.count) out.old out.new result }
+    {
+        if self.count == 0 {
+            return copy(b"-", out);
+        }
+        let mut n = put_field(self.field_at(0), self.kind, out);
+        for i in 1..self.count {
+            n += put_next(self.field_at(i), self.kind, &mut out[n..]);
+        }
+        n
+    }
+
+    // The list after its name.
+    fn put_named(&self, name: &[u8], out: &mut [u8]) -> usize
+        requires { (self.now.at + self.now.count < 65536) × (length name.now + (1 + most_of self.now.kind * self.now.count) ≤ length out.old) }
+        ensures { Wrote (name.now ++ fields_text self.now.kind self.now.words.now self.now.at self.now.count) out.old out.new result }
+    {
+        let n = copy(name, out);
+        n + self.put_fields(&mut out[n..])
+    }
 }
 
 // ---- decisions
@@ -192,25 +197,21 @@ fn put_permit_lists(words: &[u32], at: usize, out: &mut [u8]) -> usize
     requires { (at < 4096) × (lists_room ≤ length out.old) }
     ensures { Wrote (permit_lists words.now at) out.old out.new result }
 {
-    let obligations = policy_model::obligations_of(policy_model::word_at(words, at)) as usize;
-    let facts = (policy_model::word_at(words, at + 1) % policy_model::COUNTS) as usize;
-    let after = at + 2 + (obligations + 3) / 4;
-    let n = put_named(
-        b"\nshape -\nobligations ",
+    let held = policy_model::obligations_of(policy_model::word_at(words, at));
+    let obligations = Fields {
         words,
-        at + 2,
-        obligations,
-        Listed::Obligations,
-        out,
-    );
-    n + put_named(
-        b"\nfacts ",
+        at: at + 2,
+        count: held as usize,
+        kind: Listed::Obligations,
+    };
+    let facts = Fields {
         words,
-        after,
-        facts,
-        Listed::Facts,
-        &mut out[n..],
-    )
+        at: at + 2 + policy_model::obligation_words(held),
+        count: (policy_model::word_at(words, at + 1) % policy_model::COUNTS) as usize,
+        kind: Listed::Facts,
+    };
+    let n = obligations.put_named(b"\nshape -\nobligations ", out);
+    n + facts.put_named(b"\nfacts ", &mut out[n..])
 }
 
 // A node 12.
@@ -241,23 +242,23 @@ fn put_shape(word: u32, out: &mut [u8]) -> usize
 }
 
 // A node 13.
+#[tactic(auto, using(crate::specs::Writers::wrote_then), unfolding(crate::specs::Texts::deny_text))]
 fn put_deny(words: &[u32], at: usize, out: &mut [u8]) -> usize
     requires { (at < 4096) × (decision_room ≤ length out.old) }
     ensures { Wrote (deny_text words.now at) out.old out.new result }
 {
-    let facts = (policy_model::word_at(words, at + 2) % policy_model::COUNTS) as usize;
-    let n = put_shape(policy_model::word_at(words, at), out);
-    n + put_named(
-        b"\nfacts ",
+    let facts = Fields {
         words,
-        at + 3,
-        facts,
-        Listed::Facts,
-        &mut out[n..],
-    )
+        at: at + 3,
+        count: (policy_model::word_at(words, at + 2) % policy_model::COUNTS) as usize,
+        kind: Listed::Facts,
+    };
+    let n = put_shape(policy_model::word_at(words, at), out);
+    n + facts.put_named(b"\nfacts ", &mut out[n..])
 }
 
-// The node at a position.
+// The node at a position. Its kind is a number, as `policy_model` says.
+#[tactic(auto, using(crate::specs::Writers::wrote_as), unfolding(crate::specs::Texts::decision_text))]
 fn put_decision(words: &[u32], at: usize, out: &mut [u8]) -> usize
     requires { (at < 4096) × (decision_room ≤ length out.old) }
     ensures { Wrote (decision_text words.now at) out.old out.new result }
@@ -276,19 +277,26 @@ fn put_consulted(words: &[u32], count: usize, out: &mut [u8]) -> usize
     requires { (count < 4096) × (consulted_room ≤ length out.old) }
     ensures { Wrote ((text "\nconsulted " ++ fields_text Listed.Consulted words.now 1 count) ++ newline) out.old out.new result }
 {
-    let n = put_named(b"\nconsulted ", words, 1, count, Listed::Consulted, out);
+    let entries = Fields {
+        words,
+        at: 1,
+        count,
+        kind: Listed::Consulted,
+    };
+    let n = entries.put_named(b"\nconsulted ", out);
     n + copy(b"\n", &mut out[n..])
 }
 
 // The listing of a Resolved record. Of other words nothing is said but that the bytes fit.
+#[tactic(auto, using(crate::specs::RecordTexts::length_decision, crate::specs::RecordTexts::length_consulted))]
 pub fn list_record(words: &[u32], out: &mut [u8]) -> usize
     requires { listing_room ≤ length out.old }
     ensures room { result ≤ listing_room }
     ensures listing { ListedAs (λ bytes. Wrote bytes out.old out.new result) (read_record words.now) }
 {
-    let consulted = (policy_model::word_at(words, 0) % policy_model::COUNTS) as usize;
-    let n = put_decision(words, 1 + (consulted + 1) / 2, out);
-    n + put_consulted(words, consulted, &mut out[n..])
+    let consulted = policy_model::word_at(words, 0) % policy_model::COUNTS;
+    let n = put_decision(words, 1 + policy_model::entry_words(consulted), out);
+    n + put_consulted(words, consulted as usize, &mut out[n..])
 }
 
 // A number and the line's end.
@@ -300,7 +308,7 @@ fn put_number(number: u32, out: &mut [u8]) -> usize
     n + copy(b"\n", &mut out[n..])
 }
 
-// The listing of a refusal.
+// The listing of a refusal, by its number, which is all that it says of one.
 pub fn list_refusal(number: u32, out: &mut [u8]) -> usize
     requires { 13 ≤ length out.old }
     ensures { Wrote (refused_text number) out.old out.new result }
@@ -327,16 +335,16 @@ fn long_at(input: &[u8], at: usize) -> u32
     u32::from_be_bytes([input[at], input[at + 1], input[at + 2], input[at + 3]])
 }
 
-// Reads `count` words from a position, and says whether all their bytes are there.
-pub fn read_words(input: &[u8], at: usize, count: usize, out: &mut [u32]) -> bool
-    requires { (at ≤ length input.now) × (count ≤ length out.old) }
-    ensures { WordsRead (drop at input.now) count (drop (at + 4 * count) input.now) out.old out.new result }
+// Reads as many words as the output has, and says whether all their bytes are there. If not, it stays as it was.
+#[tactic(auto, using(crate::specs::InputLaws::words_short), unfolding(laws::specs::FieldAt::firsts))]
+pub fn read_words(input: &[u8], out: &mut [u32]) -> bool
+    ensures { WordsRead input.now out.old out.new result }
 {
-    if (input.len() - at) / 4 < count {
+    if input.len() / 4 < out.len() {
         return false;
     }
-    for (i, word) in out[..count].iter_mut().enumerate() {
-        *word = long_at(input, at + 4 * i);
+    for (i, word) in out.iter_mut().enumerate() {
+        *word = long_at(input, 4 * i);
     }
     true
 }

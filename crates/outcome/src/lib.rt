@@ -83,7 +83,7 @@ impl Products {
         }
     }
 
-    // Whether the two are equal.
+    // Whether the two are equal. Outcomes are met, joined and compared by the functions of this type alone, so that a table could take its place.
     pub fn same(self, other: Products) -> bool
         ensures { result ≡ product_sets.same self.bits other.bits }
     {

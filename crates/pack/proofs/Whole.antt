@@ -63,13 +63,9 @@ packed_done bs out part size r h e l s =
     narrow_front [] ys a = tt
     narrow_front (x ∷ xs) ys a = (a.0, narrow_front xs ys a.1)
 
+pub ruleset packing = (narrow_known, packed_no_room, packed_done)
+
 -- ---- sheets
-never : {G : Type 0} (n : ℕ) → none ≡ some n → G
-never n e = let z : ◌≡◌ {A = ℕ} 0 1 = cc in let b : ⊥ = omega arith in absurd b
-
-never_some : {G : Type 0} (n : ℕ) → some n ≡ none → G
-never_some n e = let z : ◌≡◌ {A = ℕ} 0 1 = cc in let b : ⊥ = omega arith in absurd b
-
 abbrev pub SheetOf : List ℕ → Policy Outcome → List ℕ → Type 0
 SheetOf ws = OkSheet InRange product_sets.value written_products.sound ws
 
@@ -79,20 +75,20 @@ module _ (ws out after : List ℕ) where
     where
       by : (q : Parsed (Policy Outcome)) → some (number_of r) ≡ refusal q → Answered (on_read q (λ t. give_bytes (length out) (tight product_sets.number t))) out out (Err r)
       by (refuse m) f = let same : number_of r ≡ m = cc in record { answer_is = ap err same; output_is = refl }
-      by (got t us) f = never_some (number_of r) f
+      by (got t us) f = absurd (cc)
 
   pub sheet_length_lem : none ≡ refusal (read_sheet ws) → length ws ≤ 16384
   sheet_length_lem e = by (read_sheet ws) e (ok_sheet InRange product_sets.value written_products.sound ws)
     where
       by : (q : Parsed (Policy Outcome)) → none ≡ refusal q → Holds (SheetOf ws) q → length ws ≤ 16384
-      by (refuse n) f k = never n f
+      by (refuse n) f k = absurd (cc)
       by (got t us) f k = let a = k.it.2 in let b = k.it.4 in omega arith
 
   pub sheet_packed : (r : Answer) → none ≡ refusal (read_sheet ws) → Packed (flat ws 0) out after r → Answered (pack_sheet product_sets ws (length out)) out after r
   sheet_packed r e p = by (read_sheet ws) refl e (ok_sheet InRange product_sets.value written_products.sound ws)
     where
       by : (q : Parsed (Policy Outcome)) → read_sheet ws ≡ q → none ≡ refusal q → Holds (SheetOf ws) q → Answered (on_read q (λ t. give_bytes (length out) (tight product_sets.number t))) out after r
-      by (refuse n) i f k = never n f
+      by (refuse n) i f k = absurd (cc)
       by (got t us) i f k =
           let words : encode product_sets.number t ≡ ws = same_sheet_lem product_sets.number product_sets.value written_products.only ws t us i in
           let form : FormOf InRange Few Countable t = sheet_form InRange product_sets.value written_products.sound Few FewRepeats Countable t k.it.3 k.it.0 in
@@ -101,22 +97,6 @@ module _ (ws out after : List ℕ) where
           (p.packed (subst Bits (sym bits) (bits_t InRange Few product_sets.number written_products.small t form).it))
 
 -- ---- records
-abbrev count_of : Parsed Lead → ℕ
-count_of (refuse n) = 0
-count_of (got l us) = l.consulted
-
-abbrev tree_of : Parsed Lead → ℕ
-tree_of (refuse n) = 0
-tree_of (got l us) = l.tree
-
-abbrev Got : Parsed Lead → Type 0
-Got (refuse n) = ⊥
-Got (got l us) = Unit {0}
-
-abbrev GotR : Parsed (Record Outcome) → Type 0
-GotR (refuse n) = ⊥
-GotR (got r us) = Unit {0}
-
 abbrev RecordOf : List ℕ → Record Outcome → List ℕ → Type 0
 RecordOf ws r us = OkRecord InRange product_sets.value written_products.sound (length ws) r
 
@@ -131,8 +111,8 @@ long_by true ws q r us e f = leb-true (length ws) 16384 e
 long_by false ws q r us e f = absurd (none_got (leb 1 (length ws)) f)
   where
     none_got : (a : Bool) → unless (a && false) 1 q ≡ got r us → ⊥
-    none_got true g = subst GotR (sym g) tt
-    none_got false g = subst GotR (sym g) tt
+    none_got true g = cc
+    none_got false g = cc
 
 module _ (ws out after : List ℕ) where
   pub record_refused : (x : Refusal) → refuse (number_of x) ≡ lead_of (read_record ws) → Answered (pack_record product_sets ws (length out)) out out (Err x)
@@ -141,7 +121,7 @@ module _ (ws out after : List ℕ) where
     where
       by : (q : Parsed (Record Outcome)) → refuse (number_of x) ≡ lead_of q → Answered (on_read q (λ r. give_bytes (length out) (tight_r product_sets.number (sheet_number ws) r))) out out (Err x)
       by (refuse m) f = let same : number_of x ≡ m = cc in record { answer_is = ap err same; output_is = refl }
-      by (got r us) f = absurd (subst Got (sym f) tt)
+      by (got r us) f = absurd (cc)
 
   module _ (lead : Lead) (e : got lead [] ≡ lead_of (read_record ws)) where
     pub record_bounds : Bounds ws lead.consulted lead.tree
@@ -149,10 +129,10 @@ module _ (ws out after : List ℕ) where
     record_bounds = by (read_record ws) refl e (ok_record InRange product_sets.value written_products.sound ws)
       where
         by : (q : Parsed (Record Outcome)) → read_record ws ≡ q → got lead [] ≡ lead_of q → Holds (RecordOf ws) q → Bounds ws lead.consulted lead.tree
-        by (refuse m) i f k = absurd (subst Got f tt)
+        by (refuse m) i f k = absurd (cc)
         by (got r us) i f k =
-            let c : lead.consulted ≡ length r.log = ap count_of f in
-            let t : lead.tree ≡ 1 + words_for 2 (length r.log) = ap tree_of f in
+            let c : lead.consulted ≡ length r.log = cc in
+            let t : lead.tree ≡ 1 + words_for 2 (length r.log) = cc in
             let l = k.it.long in
             let n = k.it.few in
             record {
@@ -167,10 +147,10 @@ module _ (ws out after : List ℕ) where
     record_packed x p = by (read_record ws) refl e (ok_record InRange product_sets.value written_products.sound ws)
       where
         by : (q : Parsed (Record Outcome)) → read_record ws ≡ q → got lead [] ≡ lead_of q → Holds (RecordOf ws) q → Answered (on_read q (λ r. give_bytes (length out) (tight_r product_sets.number (sheet_number ws) r))) out after x
-        by (refuse m) i f k = absurd (subst Got f tt)
+        by (refuse m) i f k = absurd (cc)
         by (got r us) i f k =
-            let c : lead.consulted ≡ length r.log = ap count_of f in
-            let t : lead.tree ≡ 1 + words_for 2 (length r.log) = ap tree_of f in
+            let c : lead.consulted ≡ length r.log = cc in
+            let t : lead.tree ≡ 1 + words_for 2 (length r.log) = cc in
             let n = sheet_number ws in
             let small : n < 65536 = omega arith in
             let few : length r.log < 4096 = omega (arith, k.it.few) in

@@ -7,20 +7,19 @@ use native.Mathlib.Omega.{arith}
 use borrow.Author.Tests.{ne_eqb}
 use Rattle.std.proofs.Math.ListN.{drop, get_or}
 use Rattle.std.proofs.Math.Seq.{drop-drop, get_or-drop}
-use Rattle.model.specs.Fields.{words_for}
 use Rattle.model.specs.Reading.{kind_of}
-use Rattle.policy_model.specs.Span.{own_of}
+use Rattle.policy_model.specs.Span.{own_by, own_of}
 use Rattle.bits.specs.Widths.{plain_width, mark_width, denied_width}
 use Rattle.bits.specs.WidthLaws.{plain_few, mark_few, denied_few}
 use Rattle.bits.specs.Splice.{low}
 use Rattle.bits.specs.SpliceLaws.{length_low}
 use Rattle.pack.specs.Room.{Room}
-use Rattle.pack.specs.Flat.{list_run, obligation_in, entry_in, owed_in, mark_run, grant_run, permit_run, deny_run, plain_run, node_by, node_run, flat, record_run}
+use Rattle.pack.specs.Flat.{list_run, entry_in, owed_in, grant_run, permit_run, deny_run, plain_run, Plain, node_by, node_run, flat, record_run}
 
 pub length_list : (f : ℕ → ℕ) (w n : ℕ) → length (list_run f w n) ≡ w * n
 unfolding list_run
 length_list f w zero = omega arith
-length_list f w (suc n) = omega (arith, length-append (list_run f w n) (low w (f n)), length_list f w n, length_low w (f n), mul-suc w n)
+length_list f w (suc n) = simp (length-append, length_list f w n, length_low, mul-suc) (omega arith)
 
 pub list_none : (f : ℕ → ℕ) (w : ℕ) → list_run f w 0 ≡ []
 unfolding list_run
@@ -32,49 +31,13 @@ list_more f w n = ap (list_run f w) (sym (add-one n))
 
 -- ---- how many bits
 pub length_grant : (w v : ℕ) (os : List ℕ) → length (grant_run w v os) ≡ 28 + mark_width (v / 65536) + mark_width (v % 65536) + 6 * owed_in w
-length_grant w v os =
-    let n = owed_in w in
-    let x₄ = list_run (obligation_in os) 6 n in
-    let x₃ = mark_run (v % 65536) ++ x₄ in
-    let x₂ = mark_run (v / 65536) ++ x₃ in
-    let x₁ = low 16 w ++ x₂ in
-    let l₁ = length-append (low 12 (w / 1048576)) x₁ in
-    let l₂ = length-append (low 16 w) x₂ in
-    let l₃ = length-append (mark_run (v / 65536)) x₃ in
-    let l₄ = length-append (mark_run (v % 65536)) x₄ in
-    omega (arith, length_low 12 (w / 1048576), length_low 16 w, length_low (mark_width (v / 65536)) (v / 65536), length_low (mark_width (v % 65536)) (v % 65536), length_list (obligation_in os) 6 n)
+length_grant w v os = simp (length-append, length_low, length_list) (omega arith)
 
 pub length_permit : (w v : ℕ) (os : List ℕ) → length (permit_run w v os) ≡ 39 + mark_width (v / 65536) + 6 * owed_in w + 10 * (v % 4096)
-length_permit w v os =
-    let n = owed_in w in
-    let m = v % 4096 in
-    let fs = drop (words_for 4 n) os in
-    let x₅ = list_run (entry_in fs) 10 m in
-    let x₄ = list_run (obligation_in os) 6 n ++ x₅ in
-    let x₃ = low 12 v ++ x₄ in
-    let x₂ = mark_run (v / 65536) ++ x₃ in
-    let x₁ = low 16 w ++ x₂ in
-    let l₁ = length-append (low 11 (12 * 128 + n)) x₁ in
-    let l₂ = length-append (low 16 w) x₂ in
-    let l₃ = length-append (mark_run (v / 65536)) x₃ in
-    let l₄ = length-append (low 12 v) x₄ in
-    let l₅ = length-append (list_run (obligation_in os) 6 n) x₅ in
-    omega (arith, length_low 11 (12 * 128 + n), length_low 16 w, length_low (mark_width (v / 65536)) (v / 65536), length_low 12 v, length_list (obligation_in os) 6 n, length_list (entry_in fs) 10 m)
+length_permit w v os = simp (length-append, length_low, length_list) (omega arith)
 
 pub length_deny : (w v t : ℕ) (fs : List ℕ) → length (deny_run w v t fs) ≡ 18 + denied_width w + mark_width (v / 65536) + mark_width (v % 65536) + 10 * (t % 4096)
-length_deny w v t fs =
-    let m = t % 4096 in
-    let x₅ = list_run (entry_in fs) 10 m in
-    let x₄ = low 12 t ++ x₅ in
-    let x₃ = mark_run (v % 65536) ++ x₄ in
-    let x₂ = mark_run (v / 65536) ++ x₃ in
-    let x₁ = low (denied_width w) w ++ x₂ in
-    let l₁ = length-append (low 6 (w / 67108864)) x₁ in
-    let l₂ = length-append (low (denied_width w) w) x₂ in
-    let l₃ = length-append (mark_run (v / 65536)) x₃ in
-    let l₄ = length-append (mark_run (v % 65536)) x₄ in
-    let l₅ = length-append (low 12 t) x₅ in
-    omega (arith, length_low 6 (w / 67108864), length_low (denied_width w) w, length_low (mark_width (v / 65536)) (v / 65536), length_low (mark_width (v % 65536)) (v % 65536), length_low 12 t, length_list (entry_in fs) 10 m)
+length_deny w v t fs = simp (length-append, length_low, length_list) (omega arith)
 
 pub length_plain : (w : ℕ) → length (plain_run w) ≡ 4 + plain_width (kind_of w)
 length_plain w = length_low (4 + plain_width (kind_of w)) (kind_of w * 2 ^ plain_width (kind_of w) + w % 2 ^ plain_width (kind_of w))
@@ -97,6 +60,8 @@ module _ (ws : List ℕ) (at : ℕ) where
   unfolding node_run
   node_plain a b d = rw (ne_eqb (kind_of (get_or ws at 0)) 8 a, ne_eqb (kind_of (get_or ws at 0)) 12 b, ne_eqb (kind_of (get_or ws at 0)) 13 d)
 
+  pub ruleset node_kinds = (node_grant, node_permit, node_deny, node_plain)
+
   -- The node that the words begin with, once those before it are left out.
   pub node_from : node_run (drop at ws) 0 ≡ node_run ws at
   unfolding node_run
@@ -111,6 +76,14 @@ module _ (ws : List ℕ) (at : ℕ) where
       (plain_run (g₀ i))))
 
 -- ---- from one node to the next
+-- A node without lists has one word.
+pub own_plain : (w : ℕ) (ws : List ℕ) → Plain w → 0 ≡ own_of w ws
+unfolding own_of
+own_plain w ws plain = by (kind_of w) plain.0 plain.1 plain.2
+  where
+    by : (k : ℕ) → (k ≡ 8 → ⊥) → (k ≡ 12 → ⊥) → (k ≡ 13 → ⊥) → 0 ≡ get_or (own_by (w / 1048576 % 128) ws) k 0
+    by k a b c = grind arith
+
 pub flat_pass : (ws : List ℕ) (n : ℕ) → flat ws n ≡ flat (drop n ws) 0
 unfolding flat
 flat_pass [] zero = refl
@@ -180,11 +153,5 @@ unfolding record_run
 record_parts ws count tree = refl
 
 pub length_record : (ws : List ℕ) (count tree : ℕ) → length (record_run ws count tree) ≡ 32 + 12 * count + length (flat (drop tree ws) 0)
-length_record ws count tree =
-    let w = get_or ws 0 0 in
-    let f = entry_in (drop 1 ws) in
-    let x₃ = flat (drop tree ws) 0 in
-    let x₂ = list_run f 12 count ++ x₃ in
-    let x₁ = low 16 w ++ x₂ in
-    ap length (record_parts ws count tree)
-    ∙ omega (arith, length-append (low 16 (w / 65536)) x₁, length-append (low 16 w) x₂, length-append (list_run f 12 count) x₃, length_low 16 (w / 65536), length_low 16 w, length_list f 12 count)
+unfolding record_run
+length_record ws count tree = simp (length-append, length_low, length_list) (omega arith)

@@ -1,6 +1,6 @@
 -- What a writer of bits needs: they fit the output from `at` on, no position is past what a number can say, and the other bits of the byte are 0.
 use Rattle.std.specs.Prelude.{ℕ, ◌+◌, ◌*◌, ◌^◌, ◌≤◌, ◌<◌, ◌≡◌, refl, List, [], ◌++◌, length, take}
-use Rattle.std.proofs.Common.{sym, subst, arith, length-append}
+use Rattle.std.proofs.Common.{subst, arith, length-append}
 use Rattle.model.specs.Bits.{run_of}
 use Rattle.bits.specs.Splice.{low, whole, fill, Spliced}
 use Rattle.bits.specs.SpliceLaws.{length_low, spliced_clear}
@@ -10,15 +10,7 @@ pub record Room (at : ℕ) (bs : List ℕ) (out : List ℕ) : Type 0 where
   pub few : at + length bs < 2 ^ 62
   pub clear : take (whole at) (run_of out) ≡ take at (run_of out) ++ fill at
 
--- Room for a field that comes first, and for what follows once it was put.
-pub room_low : (w v at : ℕ) (bs out : List ℕ) → w ≤ 25 → Room at (low w v ++ bs) out → (w ≤ 25) × (at + w ≤ 8 * length out) × (at < 2 ^ 62)
-room_low w v at bs out n r =
-    let a = length-append (low w v) bs in
-    let b = length_low w v in
-    let f = r.fits in
-    let g = r.few in
-    (n, omega arith, omega arith)
-
+-- Room for a field, for what comes first, and for what follows once that was put.
 pub room_last : (w v at : ℕ) (out : List ℕ) → w ≤ 25 → Room at (low w v) out → (w ≤ 25) × (at + w ≤ 8 * length out) × (at < 2 ^ 62)
 room_last w v at out n r =
     let b = length_low w v in
@@ -50,16 +42,9 @@ room_next {a} {b} {at} {r} {xs} s ys m =
 pub none_spliced : {at : ℕ} {bs out : List ℕ} → Room at bs out → Spliced out out at [] at
 none_spliced r = record { next = omega arith; run = r.clear; long = refl }
 
--- From the first bit on.
-pub room_start : (bs out : List ℕ) → length bs ≤ 8 * length out → length bs < 2 ^ 62 → Room 0 bs out
-room_start bs out h k = record { fits = omega arith; few = omega arith; clear = refl }
-
 pub room_here : {at : ℕ} {bs out : List ℕ} → Room at bs out → at ≤ 8 * length out
 room_here r = let f = r.fits in omega arith
 
--- The same bits, or the same width, said in another way.
+-- The same bits, said in another way.
 pub same_room : {at : ℕ} {xs ys out : List ℕ} → xs ≡ ys → Room at xs out → Room at ys out
 same_room {at} {xs} {ys} {out} e r = subst (λ l. Room at l out) e r
-
-pub room_low_as : (w u v at : ℕ) (bs out : List ℕ) → u ≡ w → w ≤ 25 → Room at (low w v ++ bs) out → (u ≤ 25) × (at + u ≤ 8 * length out) × (at < 2 ^ 62)
-room_low_as w u v at bs out e n r = subst (λ x. (x ≤ 25) × (at + x ≤ 8 * length out) × (at < 2 ^ 62)) (sym e) (room_low w v at bs out n r)

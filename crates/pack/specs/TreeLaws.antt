@@ -36,7 +36,7 @@ use Rattle.bits.specs.RunLaws.{bits_parted}
 use Rattle.bits.specs.Splice.{low}
 use Rattle.bits.specs.SpliceLaws.{low_is, low_of}
 use Rattle.pack.specs.Flat.{list_run, obligation_in, entry_in, tight_entry, owed_in, mark_run, plain_run, flat, record_run}
-use Rattle.pack.specs.FlatLaws.{node_grant, node_permit, node_deny, node_plain, flat_node}
+use Rattle.pack.specs.FlatLaws.{own_plain, node_grant, node_permit, node_deny, node_plain, flat_node}
 
 -- ---- lists
 each_end : (w : ℕ) (vs : List ℕ) (v : ℕ) → each w (vs ++ v ∷ []) ≡ each w vs ++ bits_of w v
@@ -101,25 +101,6 @@ low_two : (a b x y v : ℕ) → x < 2 ^ a → y < 2 ^ b → v ≡ x * 2 ^ b + y 
 low_two a b x y v h k e = low_is (a + b) v (subst (λ z. z < 2 ^ (a + b)) (sym e) (sum_fits a b x y h k)) ∙ two a b x y v h k e
 
 -- ---- nodes without lists
-own_by_lem : (k w : ℕ) (ws : List ℕ) → k ≡ kind_of w → (k ≡ 8 → ⊥) → k < 12 → own_of w ws ≡ 0
-unfolding own_of
-own_by_lem k w ws e g t = ap (λ j. get_or (own_by (w / 1048576 % 128) ws) j 0) (sym e) ∙ none_at k g t
-  where
-    none_at : (k : ℕ) → (k ≡ 8 → ⊥) → k < 12 → get_or (own_by (w / 1048576 % 128) ws) k 0 ≡ 0
-    none_at zero g t = refl
-    none_at (suc zero) g t = refl
-    none_at (suc (suc zero)) g t = refl
-    none_at (suc (suc (suc zero))) g t = refl
-    none_at (suc (suc (suc (suc zero)))) g t = refl
-    none_at (suc (suc (suc (suc (suc zero))))) g t = refl
-    none_at (suc (suc (suc (suc (suc (suc zero)))))) g t = refl
-    none_at (suc (suc (suc (suc (suc (suc (suc zero))))))) g t = refl
-    none_at (suc (suc (suc (suc (suc (suc (suc (suc zero)))))))) g t = absurd (g refl)
-    none_at (suc (suc (suc (suc (suc (suc (suc (suc (suc zero))))))))) g t = refl
-    none_at (suc (suc (suc (suc (suc (suc (suc (suc (suc (suc zero)))))))))) g t = refl
-    none_at (suc (suc (suc (suc (suc (suc (suc (suc (suc (suc (suc zero))))))))))) g t = refl
-    none_at (suc (suc (suc (suc (suc (suc (suc (suc (suc (suc (suc (suc n)))))))))))) g t = let z : ⊥ = omega arith in absurd z
-
 module _ (k r : ℕ) (hr : r < 268435456) where
   pub kind_is : kind_of (word k r) ≡ k
   kind_is = omega arith
@@ -137,10 +118,7 @@ module _ (k r : ℕ) (hr : r < 268435456) where
       flat_node (word k r) ws
       ∙ ap₂ (λ x y. x ++ flat (drop y ws) 0)
       (node_plain (word k r ∷ ws) 0 (λ z. g (sym kd ∙ z)) (λ z. omega arith) (λ z. omega arith) ∙ plain_word_lem p e hk h m)
-      (own_none (word k r) ws (sym kd) g t)
-    where
-      own_none : (w : ℕ) (ws : List ℕ) → k ≡ kind_of w → (k ≡ 8 → ⊥) → k < 12 → own_of w ws ≡ 0
-      own_none w ws e g t = own_by_lem k w ws e g t
+      (sym (own_plain (word k r) ws ((λ z. g (sym kd ∙ z)), (λ z. omega arith), λ z. omega arith)))
 
 -- ---- nodes with lists
 own_grant : (w : ℕ) (ws : List ℕ) → kind_of w ≡ 8 → own_of w ws ≡ suc (words_for 4 (owed_in w))

@@ -16,6 +16,7 @@ use answer::Answer;
 use refusal::Refusal;
 
 // The bits of a Grant itself: kind, shape and obligation count (12), outcome (16), label, reason, obligations.
+#[tactic(auto, using(bits::specs::WidthLaws::mark_few, crate::specs::FlatLaws::length_grant))]
 fn grant_bits(words: &[u32], at: usize) -> usize
     requires { at < length words.now }
     ensures { result ≡ length (grant_run (get_or words.now at 0) (get_or words.now (at + 1) 0) (drop (at + 2) words.now)) }
@@ -27,6 +28,7 @@ fn grant_bits(words: &[u32], at: usize) -> usize
 }
 
 // Of a PermitWithTrace: kind and obligation count (11), outcome (16), label, count of facts (12), obligations, facts.
+#[tactic(auto, using(bits::specs::WidthLaws::mark_few, crate::specs::FlatLaws::length_permit))]
 fn permit_trace_bits(words: &[u32], at: usize) -> usize
     requires { at < length words.now }
     ensures { result ≡ length (permit_run (get_or words.now at 0) (get_or words.now (at + 1) 0) (drop (at + 2) words.now)) }
@@ -38,6 +40,7 @@ fn permit_trace_bits(words: &[u32], at: usize) -> usize
 }
 
 // Of a DenyWithTrace: kind, shape and present bit (6), outcome, label, reason, count of facts (12), facts.
+#[tactic(auto, using(bits::specs::WidthLaws::mark_few, bits::specs::WidthLaws::denied_few, crate::specs::FlatLaws::length_deny))]
 fn deny_trace_bits(words: &[u32], at: usize) -> usize
     requires { at < length words.now }
     ensures { result ≡ length (deny_run (get_or words.now at 0) (get_or words.now (at + 1) 0) (get_or words.now (at + 2) 0) (drop (at + 3) words.now)) }
@@ -51,18 +54,17 @@ fn deny_trace_bits(words: &[u32], at: usize) -> usize
         + bits::FACT_BITS * (third % policy_model::COUNTS)) as usize
 }
 
-// Whether a node has no lists, by its first word. The loops ask it first, so that the commonest nodes are told by one test.
+// Whether a node has no lists, by its first word. The loops ask it first, so that the commonest nodes are told by one test. A kind is a number, as
+// `policy_model` says.
+#[tactic(auto, unfolding(bits::specs::Widths::has_lists))]
 fn is_plain(word: u32) -> bool
     ensures { result ≡ true → Plain word }
 {
-    let kind = word / policy_model::KIND;
-    if kind == policy_model::KIND_GRANT {
-        return false;
-    }
-    kind < policy_model::KIND_PERMIT_WITH_TRACE
+    !bits::has_lists(word / policy_model::KIND)
 }
 
 // The bits of such a node.
+#[tactic(auto, using(crate::specs::FlatLaws::length_plain))]
 fn plain_size(word: u32) -> usize
     ensures is { result ≡ length (plain_run word) }
     ensures few { result ≤ 20 }
@@ -71,6 +73,7 @@ fn plain_size(word: u32) -> usize
 }
 
 // The bits of the node at `at` itself.
+#[tactic(auto, using(crate::specs::FlatLaws::node_kinds))]
 fn node_bits(words: &[u32], at: usize) -> usize
     requires { at < length words.now }
     ensures { result ≡ length (node_run words.now at) }
@@ -105,7 +108,9 @@ fn measure(words: &[u32], from: usize) -> usize
     size
 }
 
-// Puts a label or a reason.
+// Puts a label or a reason. Below, the words, the place in them, the output and the place in that stay four parameters: `out` is lent again to each
+// `put_bits` and `to` moves with it, so a struct would be taken apart at each field.
+#[tactic(auto, using(bits::specs::WidthLaws::mark_few, crate::specs::Room::room_last))]
 fn put_mark(half: u32, out: &mut [u8], to: usize) -> usize
     requires { Room to (mark_run half) out.old }
     ensures { Spliced out.old out.new to (mark_run half) result }
@@ -114,6 +119,7 @@ fn put_mark(half: u32, out: &mut [u8], to: usize) -> usize
 }
 
 // Obligation number `index` of the list that begins at `at`.
+#[tactic(auto, using(laws::proofs::FieldAtLaws::field_by_shift), unfolding(crate::specs::Flat::obligation_in))]
 fn obligation_at(words: &[u32], at: usize, index: usize) -> u32
     requires { at + index / 4 < 2 ^ 62 }
     ensures { result ≡ obligation_in (drop at words.now) index }
@@ -141,6 +147,7 @@ fn put_list<F: Fn(usize) -> u32>(
 }
 
 // Puts a list of `count` obligations that begins at `at`.
+#[tactic(auto, using(crate::specs::FlatLaws::list_room))]
 fn put_obligations(words: &[u32], at: usize, count: u32, out: &mut [u8], to: usize) -> usize
     requires { (at < 2 ^ 32) × Room to (list_run (obligation_in (drop at words.now)) obligation_tight_bits count) out.old }
     ensures { Spliced out.old out.new to (list_run (obligation_in (drop at words.now)) obligation_tight_bits count) result }
@@ -156,6 +163,7 @@ fn put_obligations(words: &[u32], at: usize, count: u32, out: &mut [u8], to: usi
 
 // Fact or consulted entry number `index` of the list that begins at `at`, without its zero bits.
 // Apart from `obligation_at`: a word holds two, and the zero bits go, so that one function for both would ask for its kind in each turn.
+#[tactic(auto, using(laws::proofs::FieldAtLaws::field_by_shift), unfolding(crate::specs::Flat::entry_in))]
 fn entry_at(words: &[u32], at: usize, index: usize) -> u32
     requires { at + index / 2 < 2 ^ 62 }
     ensures { result ≡ entry_in (drop at words.now) index }
@@ -166,6 +174,7 @@ fn entry_at(words: &[u32], at: usize, index: usize) -> u32
 }
 
 // Puts a list of `count` facts, or consulted entries, by their width.
+#[tactic(auto, using(crate::specs::FlatLaws::list_room))]
 fn put_entries(words: &[u32], at: usize, count: u32, width: u32, out: &mut [u8], to: usize) -> usize
     requires { (at < 2 ^ 32) × (width ≤ 12) × Room to (list_run (entry_in (drop at words.now)) width count) out.old }
     ensures { Spliced out.old out.new to (list_run (entry_in (drop at words.now)) width count) result }
@@ -240,6 +249,7 @@ fn put_deny_trace(words: &[u32], at: usize, out: &mut [u8], to: usize) -> usize
 }
 
 // Puts a node without lists: its kind, and its other field if it has one.
+#[tactic(auto, using(crate::proofs::Plain::plain_value, crate::specs::Room::room_last))]
 fn put_plain(word: u32, out: &mut [u8], to: usize) -> usize
     requires { Room to (plain_run word) out.old }
     ensures { Spliced out.old out.new to (plain_run word) result }
@@ -255,6 +265,7 @@ fn put_plain(word: u32, out: &mut [u8], to: usize) -> usize
 }
 
 // Puts the node at `at`.
+#[tactic(auto, using(crate::specs::FlatLaws::node_kinds, crate::specs::Room::same_room, bits::specs::SpliceLaws::same_spliced))]
 fn put_node(words: &[u32], at: usize, out: &mut [u8], to: usize) -> usize
     requires { (at < length words.now) × (length words.now ≤ record_words) × Room to (node_run words.now at) out.old }
     ensures { Spliced out.old out.new to (node_run words.now at) result }
@@ -304,6 +315,7 @@ trait Packs {
 }
 
 // Packs it, if there is room. The length is known before a byte changes, and no more bytes are lent than it needs, so that those after them stay as they were.
+#[tactic(auto, using(crate::proofs::Whole::packing))]
 fn pack<P: Packs>(what: &P, out: &mut [u8]) -> Answer
     ensures { Packed (P.run what.now) out.old out.new result }
 {
@@ -357,6 +369,7 @@ struct Record<'a> {
 impl Packs for Record<'_> {
     ghost run = { λ r. record_run r.words.now r.consulted r.tree };
 
+    #[tactic(auto, using(crate::specs::FlatLaws::length_record))]
     fn size(&self) -> usize {
         (32 + bits::ENTRY_BITS * self.consulted) as usize + measure(self.words, self.tree)
     }

@@ -1,7 +1,7 @@
 // Lists of fields in words of 32 bits, most significant first: written into a slice that the caller lends, and read from words.
 #![tactic(auto)]
 
-ghost use Rattle.std.specs.Prelude.{◌≡◌, ◌∷◌, [], ◌+◌, ◌/◌, ◌≤◌, ◌<◌, length, take, drop, get_or};
+ghost use Rattle.std.specs.Prelude.{◌≡◌, ◌∷◌, [], ◌+◌, ◌/◌, ◌≤◌, ◌<◌, length, drop, get_or};
 ghost use Rattle.model.specs.Fields.{joined, words_for, pack};
 ghost use Rattle.model.specs.Writing.{obligation_bits, entry_bits};
 ghost use Rattle.laws.specs.FieldAt.{field_at};
@@ -26,6 +26,7 @@ fn obligations_word(first: u8, second: u8, third: u8, fourth: u8) -> u32
 
 // Facts or consulted entries, two a word; an unused last field is 0. The loop has no test but its own, so it is compiled to work on many words at a
 // time. Each width has its loop: one over both would join each word in a loop of its own.
+#[tactic(auto, using(crate::specs::PackedLaws::packed_number, crate::specs::WrittenLaws::sofar_all))]
 pub fn pack_entries(values: &[u16], out: &mut [u32]) -> usize
     requires { words_for 2 (length values.now) ≤ length out.old }
     ensures { (result ≡ words_for 2 (length values.now)) × Written (pack entry_bits values.now) out.old out.new result }
@@ -49,7 +50,9 @@ fn obligation_or_zero(values: &[u8], index: usize) -> u8
     values.get(index).copied().unwrap_or(0)
 }
 
-// Obligations, four a word; unused tail fields are 0.
+// Obligations, four a word; unused tail fields are 0. The words are counted here: `policy_model::obligation_words` takes a list's count in 32 bits, not a
+// slice's length.
+#[tactic(auto, using(crate::specs::PackedLaws::packed_number, crate::specs::WrittenLaws::sofar_all))]
 pub fn pack_obligations(values: &[u8], out: &mut [u32]) -> usize
     requires { words_for 4 (length values.now) ≤ length out.old }
     ensures { (result ≡ words_for 4 (length values.now)) × Written (pack obligation_bits values.now) out.old out.new result }
@@ -68,16 +71,8 @@ pub fn pack_obligations(values: &[u8], out: &mut [u32]) -> usize
     words
 }
 
-// `n` words from `at` on, as they stand: words that were read are those that would be written.
-pub fn copy_words(from: &[u32], at: usize, n: usize, out: &mut [u32]) -> usize
-    requires { (at + n ≤ length from.now) × (n ≤ length out.old) }
-    ensures { (result ≡ n) × Written (take n (drop at from.now)) out.old out.new result }
-{
-    out[..n].copy_from_slice(&from[at..at + n]);
-    n
-}
-
 // Field number `index` of the list of facts or consulted entries that begins at `at`. The place in the word is a shift, so nothing branches on it.
+#[tactic(auto, using(laws::proofs::FieldAtLaws::field_by_shift))]
 pub fn unpack_entry(words: &[u32], at: usize, index: usize) -> u16
     requires { at + index / 2 < length words.now }
     ensures { result ≡ field_at entry_bits (drop at words.now) index }

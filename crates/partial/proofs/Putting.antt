@@ -2,7 +2,7 @@
 use mathlib.Core.Path.{◌≡◌, refl, ◌∙◌, ap, ap₂, subst}
 use mathlib.Core.Bool.{Bool, true, false}
 use mathlib.Core.List.{List, ◌++◌, map}
-use Prim.Native.Nat.{ℕ, ◌+◌, ◌-◌, ◌/◌, ◌≤◌, ◌<◌}
+use Prim.Native.Nat.{ℕ, ◌+◌, ◌/◌, ◌≤◌, ◌<◌}
 use native.Mathlib.Omega.{arith}
 use borrow.Author.Tests.{leb-true, leb-false}
 use lib.Dec.{leb}
@@ -18,6 +18,7 @@ use Rattle.laws.specs.Size.{words}
 use Rattle.laws.proofs.Lengths.{length_encode_r}
 use Rattle.packing.specs.Written as packing
 use Rattle.packing.specs.WrittenLaws.{written_then, written_same}
+use Rattle.policy_model.specs.declared.Status.TheVariants as status
 use Rattle.record.specs.Nodes.{front_words}
 use Rattle.record.specs.NodeLaws.{record_words_lem}
 use Rattle.sizes.specs.Laid.{most_words, capped}
@@ -66,7 +67,7 @@ module _ {entries scratch out : List ℕ} {size : ℕ} where
       }
 
   pub put_written : {mid tail left : List ℕ} {front rest : ℕ} → 1 + (length entries + 1) / 2 + size ≤ 16384 → 1 + (length entries + 1) / 2 + size ≤ length out → size ≤ length scratch → left ≡ take size scratch →
-      front ≡ 1 + (length entries + 1) / 2 → packing.Written (front_words false entries) out mid front → rest ≡ size → tail ≡ left →
+      front ≡ 1 + (length entries + 1) / 2 → packing.Written (front_words status.Pending entries) out mid front → rest ≡ size → tail ≡ left →
       PutPending entries scratch size out (take front mid ++ (tail ++ drop rest (drop front mid))) (Ok (1 + (length entries + 1) / 2 + size))
   put_written {mid} {tail} {left} {front} {rest} few room fits-scratch is z p more w =
       record {
@@ -76,7 +77,7 @@ module _ {entries scratch out : List ℕ} {size : ℕ} where
             let long : size ≡ length left = omega (arith, ap length is, length-take size scratch) in
             let tree : packing.Written (encode q) (drop front mid) (tail ++ drop rest (drop front mid)) size =
             written_same (record { number = long; output = ap₂ (λ l n. l ++ drop n (drop front mid)) w more }) (is ∙ laid.front (omega arith) fits-scratch) in
-            let whole = written_same (written_then p tree) (record_words_lem (record_of q l) false entries refl m) in
+            let whole = written_same (written_then p tree) (record_words_lem (record_of q l) status.Pending entries refl m) in
             subst (λ n. Answered (write (length out) (record_of q l)) out (take front mid ++ (tail ++ drop rest (drop front mid))) (Ok n)) (ap (λ n. n + size) z)
             (written_record (length out) (front + size) (record_of q l) out (take front mid ++ (tail ++ drop rest (drop front mid))) (omega arith) (omega arith) heard.1 whole);
       }

@@ -5,7 +5,6 @@
 ghost use Rattle.std.specs.Prelude.{◌≤◌, length};
 ghost use Rattle.outcome.specs.Carried.{carried};
 ghost use Rattle.model.specs.Facts.{fact_count, table_of};
-ghost use Rattle.model.specs.Reading.{record_words};
 ghost use Rattle.sizes.specs.Laid.{too_many};
 ghost use Rattle.answer.specs.Answers.{Makes};
 ghost use Rattle.partial_policy.specs.Reducing.{order_of};
@@ -16,9 +15,9 @@ ghost use Rattle.partial.specs.Room.{RoomToLeave};
 use answer::Answer;
 use completion::{ENTRIES, FEW, FEW_FACTS, SEEN, SHORT, SHORT_FACTS, UNITED, UNITED_FEW};
 use consulted::Consulted;
-use outcome::OutcomeTable;
 use partial_list::Reduced;
-use policy_model::{LEVELS, RECORD_WORDS};
+use partial_policy::Reduction;
+use policy_model::{LEVELS, RECORD_WORDS, Status};
 use refusal::Refusal;
 
 // Writes the Pending record of the tree that is laid in the first `size` words of `tree`, and the consulted entries, if there is room for it.
@@ -26,7 +25,7 @@ fn put_pending(entries: &[u16], tree: &[u32], size: usize, out: &mut [u32]) -> A
     requires { (length entries.now ≤ fact_count) × (size ≤ too_many) }
     ensures { PutPending entries.now tree.now size out.old out.new result }
 {
-    let total = 1 + (entries.len() + 1) / 2 + size;
+    let total = 1 + policy_model::entry_words(entries.len() as u32) + size;
     if total > sizes::LIMIT {
         return Err(Refusal::Room);
     }
@@ -37,7 +36,7 @@ fn put_pending(entries: &[u16], tree: &[u32], size: usize, out: &mut [u32]) -> A
     let Some(left) = tree.get(..size) else {
         return Err(Refusal::Room);
     };
-    let front = record::write_front(false, entries, entries.len(), out);
+    let front = record::write_front(Status::Pending, entries, out);
     out[front..total].copy_from_slice(left);
     Ok(total)
 }
@@ -52,17 +51,9 @@ fn reduce_in<
     const BYTES: usize,
     const NAMED: usize,
     const LEFT: usize,
->(
-    words: &[u32],
-    count: usize,
-    at: usize,
-    in_order: bool,
-    facts: &[u8],
-    outcomes: Option<OutcomeTable<'_>>,
-    out: &mut [u32],
-) -> Answer
-    requires { RoomToWalk (length words.now) DEPTH LISTED BYTES NAMED × RoomToLeave (length words.now) LEFT }
-    ensures { Makes (reduced_after (carried outcomes.entry) (order_of in_order) (table_of facts.now)) words.now count at out.old out.new result }
+>(reduction: &Reduction<'_>, count: usize, at: usize, out: &mut [u32]) -> Answer
+    requires { RoomToWalk (length reduction.now.evaluation.walk.words.now) DEPTH LISTED BYTES NAMED × RoomToLeave (length reduction.now.evaluation.walk.words.now) LEFT }
+    ensures { Makes (reduced_after (carried reduction.now.evaluation.outcomes) (order_of reduction.now.order) (table_of reduction.now.evaluation.walk.facts.now)) reduction.now.evaluation.walk.words.now count at out.old out.new result }
 {
     let mut entries = [0u16; LISTED];
     let mut seen = [0u64; SEEN];
@@ -75,14 +66,11 @@ fn reduce_in<
         seen: &mut seen,
         length: 0,
     };
-    completion::load_consulted(words, count, &mut consulted);
-    let reduced = partial_policy::reduce_policy(
-        words,
+    let walk = &reduction.evaluation.walk;
+    completion::load_consulted(walk.words, count, &mut consulted);
+    let reduced = reduction.reduce_policy(
         at,
         DEPTH,
-        in_order,
-        facts,
-        outcomes,
         &mut consulted,
         &mut buf,
         &mut named,
@@ -93,7 +81,7 @@ fn reduce_in<
     match reduced.to {
         Reduced::Pending(size) => put_pending(listed, &tree, size, out),
         Reduced::Resolved(decision) => {
-            answer::put_record(words, decision, facts, listed, &buf, &mut named, out)
+            answer::put_record(walk, decision, listed, &buf, &mut named, out)
         }
     }
 }
@@ -110,31 +98,22 @@ const MIDDLING_FACTS: usize = 2 * MIDDLING;
 
 const MIDDLING_LEFT: usize = 3 * MIDDLING;
 
-// The same with as much room as so many words take.
-pub fn reduce(
-    words: &[u32],
-    count: usize,
-    at: usize,
-    in_order: bool,
-    facts: &[u8],
-    outcomes: Option<OutcomeTable<'_>>,
-    out: &mut [u32],
-) -> Answer
-    requires { length words.now ≤ record_words }
-    ensures { Makes (reduced_after (carried outcomes.entry) (order_of in_order) (table_of facts.now)) words.now count at out.old out.new result }
+// The same with as much room as its words take.
+pub fn reduce(reduction: &Reduction<'_>, count: usize, at: usize, out: &mut [u32]) -> Answer
+    ensures { Makes (reduced_after (carried reduction.now.evaluation.outcomes) (order_of reduction.now.order) (table_of reduction.now.evaluation.walk.facts.now)) reduction.now.evaluation.walk.words.now count at out.old out.new result }
 {
-    match words.len() {
+    match reduction.evaluation.walk.words.len() {
         0..=FEW => reduce_in::<FEW, FEW_FACTS, UNITED_FEW, FEW_FACTS, FEW_LEFT>(
-            words, count, at, in_order, facts, outcomes, out,
+            reduction, count, at, out,
         ),
         0..=SHORT => reduce_in::<LEVELS, SHORT_FACTS, UNITED, SHORT_FACTS, SHORT_LEFT>(
-            words, count, at, in_order, facts, outcomes, out,
+            reduction, count, at, out,
         ),
         0..=MIDDLING => reduce_in::<LEVELS, ENTRIES, UNITED, MIDDLING_FACTS, MIDDLING_LEFT>(
-            words, count, at, in_order, facts, outcomes, out,
+            reduction, count, at, out,
         ),
         _ => reduce_in::<LEVELS, ENTRIES, UNITED, RECORD_WORDS, RECORD_WORDS>(
-            words, count, at, in_order, facts, outcomes, out,
+            reduction, count, at, out,
         ),
     }
 }

@@ -1,32 +1,29 @@
 -- What a condition reduces to and what it consults, from what is known of its parts. Assumes nothing.
 use mathlib.Core.Path.{◌≡◌, refl, sym, ap, subst, ◌∙◌}
-use mathlib.Core.Bool.{Bool, true, false, cond}
+use mathlib.Core.Bool.{Bool, true, false}
 use mathlib.Core.List.{List}
 use mathlib.Core.Logic.{◌⊎◌, ⊎_elim}
 use Prim.Native.Nat.{ℕ, zero, suc, ◌+◌, ◌-◌, ◌/◌, ◌%◌, ◌≤◌, ◌<◌}
 use native.Mathlib.Omega.{arith}
-use borrow.Author.Tests.{ltb-true}
-use lib.Dec.{eqb, ltb}
 use lib.ListN.{length, drop, get_or, set}
-use Rattle.model.specs.Facts.{unknown, Table, fact_count}
+use Rattle.model.specs.Facts.{unknown, Table}
 use Rattle.model.specs.Condition.{not_c, all_c, any_c, Conditions, cnil, ccons}
 use Rattle.model.specs.Partial.{known, pending_c, reduce_has, flip_r, end_all_c, reduce_condition, reduce_condition_all}
 use Rattle.model.specs.Partial as model
 use Rattle.model.specs.Writing.{word}
-use Rattle.model.specs.Reading.{got, many, kind_of, rest_of, read_condition}
+use Rattle.model.specs.Reading.{got, many, read_condition}
 use Rattle.laws.proofs.FieldLaws.{fine, nothing, then_holds, both_hold}
-use Rattle.policy_model.specs.declared.ConditionHead.{ConditionHead}
 use Rattle.policy_model.specs.declared.ConditionHead.TheVariants.{Always, Never, Has, Not, All, Any, BadKind, BadField}
-use Rattle.policy_model.specs.Heads.{condition_heads, condition_head, condition_node}
+use Rattle.policy_model.specs.Heads.{condition_head, condition_node}
 use Rattle.facts.specs.Answers.{is_settled}
 use Rattle.facts.specs.AnswerLaws.{settled_known, settled_consulted}
 use Rattle.consulted.specs.Listing.{Lent}
 use Rattle.consulted.proofs.Listing.{consults_as, consults_none}
-use Rattle.decisive.proofs.Positions.{no_words, no_levels, by_head, Some, some_arms, has_word}
+use Rattle.decisive.proofs.Positions.{no_levels, by_head, Some, some_arms}
 use Rattle.sizes.specs.Laid.{too_many}
 use Rattle.sizes.specs.LaidLaws.{laid_word, laid_lead, laid_then}
 use Rattle.condition.specs.Evaluating.{EvaluatesHas}
-use Rattle.condition.proofs.Evaluating.{has_value}
+use Rattle.condition.proofs.Evaluating.{no_words, has_value, has_word}
 use Rattle.partial_condition.specs.declared.Reduced.{Reduced}
 use Rattle.partial_condition.specs.declared.Reduced.TheVariants.{Known, Pending}
 use Rattle.partial_condition.specs.declared.ReducedCondition.{ReducedCondition}
@@ -146,37 +143,3 @@ pub reduce_has_word : (P : Table) (words : List ℕ) (at depth : ℕ) (s : Lent)
     ReducesHas P (get_or words at 0 % 1024) s r t out → ReducesC P words at depth s (record { to = r; next = at + 1 }) t out
 reduce_has_word P words at zero s r t out lt e a = record { bound = a.bound; says = no_levels 0 (drop at words) refl }
 reduce_has_word P words at (suc depth) s r t out lt e a = reduce_has_lem P words at (suc depth) s lt (λ z. omega arith) r t out (get_or words at 0 % 1024) (has_word (get_or words at 0) e) a
-
--- ---- a list has at most 4,095 arms
-abbrev Few : ConditionHead → Type 0
-Few Always = Unit {0}
-Few Never = Unit {0}
-Few (Has f) = Unit {0}
-Few Not = Unit {0}
-Few (All n) = n < 4096
-Few (Any n) = n < 4096
-Few BadKind = Unit {0}
-Few BadField = Unit {0}
-
-few_field : (b : Bool) (h : ConditionHead) → (b ≡ true → Few h) → Few (cond b h BadField)
-few_field true h f = f refl
-few_field false h f = tt
-
-few_kind : (k r : ℕ) → Few (get_or (condition_heads r) k BadKind)
-few_kind zero r = few_field (eqb r 0) Always (λ _. tt)
-few_kind (suc zero) r = few_field (eqb r 0) Never (λ _. tt)
-few_kind (suc (suc zero)) r = few_field (ltb r fact_count) (Has r) (λ _. tt)
-few_kind (suc (suc (suc zero))) r = few_field (eqb r 0) Not (λ _. tt)
-few_kind (suc (suc (suc (suc zero)))) r = few_field (ltb r 4096) (All r) (λ e. ltb-true r 4096 e)
-few_kind (suc (suc (suc (suc (suc zero))))) r = few_field (ltb r 4096) (Any r) (λ e. ltb-true r 4096 e)
-few_kind (suc (suc (suc (suc (suc (suc k)))))) r = tt
-
-few_arms : (w : ℕ) (h : ConditionHead) → h ≡ condition_head w → Few h
-unfolding condition_head
-few_arms w h e = subst Few (sym e) (few_kind (kind_of w) (rest_of w))
-
-pub all_below : (w n : ℕ) → All n ≡ condition_head w → n < 4096
-all_below w n e = few_arms w (All n) e
-
-pub any_below : (w n : ℕ) → Any n ≡ condition_head w → n < 4096
-any_below w n e = few_arms w (Any n) e

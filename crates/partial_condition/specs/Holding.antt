@@ -51,6 +51,6 @@ pub record Negates (inner : Reduced) (before : List ℕ) (r : Reduced) (after : 
   pub wraps : (n : ℕ) → inner ≡ Pending n → (r ≡ Pending (capped (1 + n))) × (after ≡ set before 0 (word 3 0))
 
 -- The answer of a list rule that no arm decided, by the arms that it holds.
-pub record Ends (any : Bool) (h : Kept) (before : List ℕ) (r : Reduced) (after : List ℕ) : Type 0 where
+pub record Ends (stop : Bool) (h : Kept) (before : List ℕ) (r : Reduced) (after : List ℕ) : Type 0 where
   pub bound : size_of r ≤ too_many
-  pub ends : (cs : Conditions) → Holding cs before h → Left (end_of any (through cs)) r after
+  pub ends : (cs : Conditions) → Holding cs before h → Left (end_of stop (through cs)) r after

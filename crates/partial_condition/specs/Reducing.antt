@@ -61,4 +61,4 @@ read_of false P cs l = walk_all_c P cs l
 read_of true P cs l = walk_any_c P cs l
 
 abbrev pub ReducesList : Bool → Table → List ℕ → ℕ → ℕ → ℕ → Lent → ReducedCondition → Lent → List ℕ → Type 0
-ReducesList any P = ReducesArms (λ cs. end_of any (walk_of any P cs)) (read_of any P)
+ReducesList stop P = ReducesArms (λ cs. end_of stop (walk_of stop P cs)) (read_of stop P)

@@ -10,6 +10,7 @@ ghost use Rattle.sizes.specs.Laid.{too_many};
 ghost use Rattle.partial_condition.specs.Reducing.{size_of, ReducesC, ReducesHas, ReducesList};
 ghost use Rattle.partial_condition.specs.Holding.{list_kind, MovedUp, Keeps, Negates, Ends};
 
+use condition::Walk;
 use consulted::Consulted;
 use policy_model::ConditionHead;
 
@@ -39,8 +40,8 @@ struct Kept {
 pub fn put_first(word: u32, out: &mut [u32])
     ensures { out.new ≡ set out.old 0 word }
 {
-    if out.len() != 0 {
-        out[0] = word;
+    if let Some(first) = out.first_mut() {
+        *first = word;
     }
 }
 
@@ -54,12 +55,12 @@ fn move_up(size: usize, out: &mut [u32])
 }
 
 // A Has: pending on Unknown, which isn't consulted.
-fn reduce_has(fact: u32, facts: &[u8], consulted: &mut Consulted<'_>, out: &mut [u32]) -> Reduced
+fn reduce_has(walk: &Walk<'_>, fact: u32, consulted: &mut Consulted<'_>, out: &mut [u32]) -> Reduced
     requires { fact < fact_count }
-    ensures { ReducesHas (table_of facts.now) fact (held consulted.old) result (held consulted.new) out.new }
+    ensures { ReducesHas (table_of walk.now.facts.now) fact (held consulted.old) result (held consulted.new) out.new }
 {
-    if facts::settled(facts, fact) {
-        return Reduced::Known(condition::eval_has(fact, facts, consulted));
+    if facts::settled(walk.facts, fact) {
+        return Reduced::Known(walk.eval_has(fact, consulted));
     }
     put_first(policy_model::LEAD_HAS + fact, out);
     Reduced::Pending(1)
@@ -82,31 +83,30 @@ fn negated(inner: Reduced, out: &mut [u32]) -> Reduced
 // The condition at `at`, of at most `depth` levels. An All or an Any hands its arms to the list rule; All without arms is false.
 #[cycle(reduction)]
 pub fn reduce_condition(
-    words: &[u32],
+    walk: &Walk<'_>,
     at: usize,
     depth: usize,
-    facts: &[u8],
     consulted: &mut Consulted<'_>,
     out: &mut [u32],
 ) -> ReducedCondition
-    ensures { ReducesC (table_of facts.now) words.now at depth (held consulted.old) result (held consulted.new) out.new }
+    ensures { ReducesC (table_of walk.now.facts.now) walk.now.words.now at depth (held consulted.old) result (held consulted.new) out.new }
 {
     let none = ReducedCondition {
         to: Reduced::Known(false),
         next: at,
     };
-    if words.len() <= at || depth == 0 {
+    if walk.words.len() <= at || depth == 0 {
         return none;
     }
     let next = at + 1;
     let below = depth - 1;
-    let to = match policy_model::condition_head(words[at]) {
+    let to = match policy_model::condition_head(walk.words[at]) {
         ConditionHead::Always => Reduced::Known(true),
         ConditionHead::Never => Reduced::Known(false),
-        ConditionHead::Has(fact) => reduce_has(fact, facts, consulted, out),
+        ConditionHead::Has(fact) => reduce_has(walk, fact, consulted, out),
         ConditionHead::Not => {
             let from = sizes::tail_from(1, out.len());
-            let inner = reduce_condition(words, next, below, facts, consulted, &mut out[from..]);
+            let inner = reduce_condition(walk, next, below, consulted, &mut out[from..]);
             return ReducedCondition {
                 to: negated(inner.to, out),
                 next: inner.next,
@@ -114,13 +114,12 @@ pub fn reduce_condition(
         }
         ConditionHead::All(0) => Reduced::Known(false),
         ConditionHead::All(arms) => {
-            return reduce_arms(words, next, below, arms, false, facts, consulted, out);
+            return reduce_arms(walk, next, below, arms, false, consulted, out);
         }
         ConditionHead::Any(arms) => {
-            return reduce_arms(words, next, below, arms, true, facts, consulted, out);
+            return reduce_arms(walk, next, below, arms, true, consulted, out);
         }
-        ConditionHead::BadKind => return none,
-        ConditionHead::BadField => return none,
+        ConditionHead::BadKind | ConditionHead::BadField => return none,
     };
     ReducedCondition { to, next }
 }
@@ -128,25 +127,24 @@ pub fn reduce_condition(
 // The same of an arm. A Has, the commonest arm, is seen here, so that the list rule reads it with no call.
 #[cycle(reduction)]
 fn reduce_arm(
-    words: &[u32],
+    walk: &Walk<'_>,
     at: usize,
     depth: usize,
-    facts: &[u8],
     consulted: &mut Consulted<'_>,
     out: &mut [u32],
 ) -> ReducedCondition
-    ensures { ReducesC (table_of facts.now) words.now at depth (held consulted.old) result (held consulted.new) out.new }
+    ensures { ReducesC (table_of walk.now.facts.now) walk.now.words.now at depth (held consulted.old) result (held consulted.new) out.new }
 {
-    if at < words.len() {
-        let word = words[at];
+    if at < walk.words.len() {
+        let word = walk.words[at];
         if word / policy_model::FACTS == policy_model::HAS {
             return ReducedCondition {
-                to: reduce_has(word % policy_model::FACTS, facts, consulted, out),
+                to: reduce_has(walk, word % policy_model::FACTS, consulted, out),
                 next: at + 1,
             };
         }
     }
-    reduce_condition(words, at, depth, facts, consulted, out)
+    reduce_condition(walk, at, depth, consulted, out)
 }
 
 // One pending arm more, of this size, which stands behind the words that are kept. The first is moved up when it turns out not to be alone.
@@ -171,47 +169,46 @@ fn keep(kept: Kept, size: usize, out: &mut [u32]) -> Kept
     }
 }
 
-// The lead of a list, an All or an Any.
-fn lead(any: bool, count: u32) -> u32
+// The lead of the list that an arm of the value `stop` decides: false an All, true an Any.
+fn lead(stop: bool, count: u32) -> u32
     requires { count < 2 ^ count_bits }
-    ensures { result ≡ word (list_kind any) count }
+    ensures { result ≡ word (list_kind stop) count }
 {
-    if any {
+    if stop {
         return policy_model::LEAD_CONDITION_ANY + count;
     }
     policy_model::LEAD_CONDITION_ALL + count
 }
 
 // A list rule that no arm decided: known without pending arms, else the arm that is alone, or a list of them.
-fn ended(any: bool, kept: Kept, out: &mut [u32]) -> Reduced
+fn ended(stop: bool, kept: Kept, out: &mut [u32]) -> Reduced
     requires { (kept.count < 2 ^ count_bits) × (kept.first ≤ too_many) × (kept.used ≤ too_many) }
-    ensures { Ends any kept out.old result out.new }
+    ensures { Ends stop kept out.old result out.new }
 {
     if kept.count == 0 {
-        return Reduced::Known(!any);
+        return Reduced::Known(!stop);
     }
     if kept.count < 2 {
         return Reduced::Pending(kept.first);
     }
-    put_first(lead(any, kept.count), out);
+    put_first(lead(stop, kept.count), out);
     Reduced::Pending(kept.used)
 }
 
-// The arms of a list rule, an All or an Any of `arms` conditions from `at`. A known arm decides it: a false one an All, a true one an Any. The arms after
-// that one aren't read.
+// The list rule for `arms` conditions from `at`. The first arm that is known to have the value `stop` decides it, and the arms after that one aren't read:
+// an All stops at false, an Any at true. `stop` is that value, and no switch.
 #[cycle(reduction)]
 fn reduce_arms(
-    words: &[u32],
+    walk: &Walk<'_>,
     at: usize,
     depth: usize,
     arms: u32,
-    any: bool,
-    facts: &[u8],
+    stop: bool,
     consulted: &mut Consulted<'_>,
     out: &mut [u32],
 ) -> ReducedCondition
     requires { arms < 2 ^ count_bits }
-    ensures { ReducesList any (table_of facts.now) words.now at depth arms (held consulted.old) result (held consulted.new) out.new }
+    ensures { ReducesList stop (table_of walk.now.facts.now) walk.now.words.now at depth arms (held consulted.old) result (held consulted.new) out.new }
 {
     let mut kept = Kept {
         count: 0,
@@ -221,22 +218,22 @@ fn reduce_arms(
     let mut next = at;
     for left in (0..arms).rev() {
         let from = sizes::tail_from(kept.used, out.len());
-        let arm = reduce_arm(words, next, depth, facts, consulted, &mut out[from..]);
+        let arm = reduce_arm(walk, next, depth, consulted, &mut out[from..]);
         next = arm.next;
         match arm.to {
             Reduced::Pending(size) => kept = keep(kept, size, out),
             Reduced::Known(satisfied) => {
-                if satisfied == any {
+                if satisfied == stop {
                     return ReducedCondition {
                         to: arm.to,
-                        next: policy_model::skip_conditions(words, next, left),
+                        next: policy_model::skip_conditions(walk.words, next, left),
                     };
                 }
             }
         }
     }
     ReducedCondition {
-        to: ended(any, kept, out),
+        to: ended(stop, kept, out),
         next,
     }
 }

@@ -2,6 +2,7 @@
 use mathlib.Core.Path.{◌≡◌, refl, sym, ◌∙◌, ap, ap₂}
 use mathlib.Core.Bool.{Bool, true, false}
 use mathlib.Core.Option.{Option, none, some}
+use Rattle.std.specs.Prelude.{Some, None}
 use mathlib.Core.List.{List, [], ◌∷◌, ◌++◌, append-nil}
 use Prim.Native.Nat.{ℕ, zero, suc, ◌+◌, ◌-◌}
 use native.Mathlib.Omega.{arith}
@@ -12,45 +13,43 @@ use Rattle.model.specs.Decision.{Permit, Denial, permits}
 use Rattle.model.specs.Decision.{Decision as Decided}
 use Rattle.model.specs.Writing.{word, count}
 use Rattle.model.specs.Products.{Outcome, join_permit, encode_d, encodes}
-use Rattle.decision.specs.Meaning.{decision_of}
+use Rattle.decision.specs.Meaning.{decision_of, Sound}
+use Rattle.decision.specs.declared.Decision.{Decision}
 use Rattle.evaluate.specs.Folding.{any_of}
 use Rattle.evaluate.proofs.Arms.{decides, decides_as}
 use Rattle.sizes.specs.Laid.{capped}
 use Rattle.sizes.specs.LaidLaws.{laid_as}
 use Rattle.residual.specs.Weight.{weight_d, weights}
 use Rattle.residual.specs.Answers.{NodeLaid, ListPut}
-use Rattle.partial_list.specs.declared.Reduced.TheVariants.{Resolved, Pending}
+use Rattle.partial_list.specs.declared.Reduced.TheVariants.{Pending}
 use Rattle.partial_list.specs.declared.Sofar.{Sofar}
-use Rattle.partial_list.specs.Keeping.{Walked, as_decisions, any_value, sofar_value, is_begun, kept_of, nodes_of, list_kind, weights_d, encodes_d}
+use Rattle.partial_list.specs.Keeping.{Walked, as_decisions, value_by, kept_of, nodes_of, list_kind, weights_d, encodes_d}
 use Rattle.partial_list.specs.KeepingLaws.{list_weight, list_words}
 use Rattle.partial_list.specs.Within.{LaidWithin}
 use Rattle.partial_list.specs.WithinLaws.{within_as}
-use Rattle.partial_list.specs.Answers.{sofar_of, Bounded, SofarIs, NodesEnd, ListEnds}
+use Rattle.partial_list.specs.Answers.{Decides, sofar_of, Bounded, SofarIs, NodesEnd, ListEnds}
 use Rattle.partial_list.proofs.Adding.{clash}
 
 -- ---- which nodes are kept
-some_permit : (g : Option OutcomeTable) (p : Permit Outcome) (ps : List (Permit Outcome)) → decides (any_of g true (permits p) (as_decisions ps)) ≡ true
+some_permit : (g : Option OutcomeTable) (p : Permit Outcome) (ps : List (Permit Outcome)) → decides (any_of g (some (permits p)) (as_decisions ps)) ≡ true
 some_permit g p [] = refl
 some_permit g p (q ∷ ps) = some_permit g (join_permit g p q) ps
 
-kept_none : (ps : List (Permit Outcome)) (first : Option (Denial Outcome)) → is_begun ps first ≡ false → kept_of ps first ≡ as_decisions ps
-kept_none [] none e = refl
-kept_none [] (some d) e = cc
-kept_none (p ∷ ps) first e = cc
+-- Of the arms that were resolved the permits, or of an Any without them its first deny, which is the decision so far.
+module _ (T : Table) (W buf : List ℕ) (g : Option OutcomeTable) where
+  kept_permits : (d : Decision) (ps : List (Permit Outcome)) (first : Option (Denial Outcome)) → Decides T W buf (Some d) (value_by false g (kept_of ps first)) → d.permit ≡ true → as_decisions ps ≡ kept_of ps first
+  kept_permits d [] none s p = refl
+  kept_permits d [] (some c) s p = clash d.permit p (sym (decides_as W T buf d) ∙ ap decides s.decision_is)
+  kept_permits d (q ∷ ps) first s p = refl
 
-kept_permits : (g : Option OutcomeTable) (ps : List (Permit Outcome)) (first : Option (Denial Outcome)) → decides (any_value g ps first) ≡ true → kept_of ps first ≡ as_decisions ps
-kept_permits g [] none e = refl
-kept_permits g [] (some d) e = cc
-kept_permits g (p ∷ ps) first e = refl
+  kept_deny : (d : Decision) (ps : List (Permit Outcome)) (first : Option (Denial Outcome)) → Decides T W buf (Some d) (value_by false g (kept_of ps first)) → d.permit ≡ false →
+      (kept_of ps first ≡ decision_of W T buf d ∷ []) × (as_decisions ps ≡ []) × Sound W buf d
+  kept_deny d [] none s p = absurd s
+  kept_deny d [] (some c) s p = (ap (λ D. D ∷ []) (sym s.decision_is), refl, s.sound)
+  kept_deny d (q ∷ ps) first s p = clash d.permit (sym (decides_as W T buf d) ∙ ap decides s.decision_is ∙ some_permit g q ps) p
 
-kept_deny : (g : Option OutcomeTable) (ps : List (Permit Outcome)) (first : Option (Denial Outcome)) → is_begun ps first ≡ true → decides (any_value g ps first) ≡ false →
-    (kept_of ps first ≡ any_value g ps first ∷ []) × (as_decisions ps ≡ [])
-kept_deny g [] none b e = clash false b refl
-kept_deny g [] (some d) b e = (refl, refl)
-kept_deny g (p ∷ ps) first b e = clash (decides (any_of g true (permits p) (as_decisions ps))) (some_permit g p ps) e
-
-module _ {every : Bool} {T : Table} {W : List ℕ} {v : Sofar} {buf : List ℕ} (b : Bounded v) where
-  kept_so : (front : List ℕ) → ((g : Option OutcomeTable) (k : Walked) (out : List ℕ) → SofarIs every g T W k v buf front out → as_decisions k.permitted ≡ nodes_of every k) → NodesEnd every T W v buf front front v
+module _ {T : Table} {W : List ℕ} {v : Sofar} {buf : List ℕ} (b : Bounded v) where
+  kept_so : {every : Bool} (front : List ℕ) → ((g : Option OutcomeTable) (k : Walked) (out : List ℕ) → SofarIs every g T W k v buf front out → as_decisions k.permitted ≡ nodes_of every k) → NodesEnd every T W v buf front front v
   kept_so front f = record {
     bounds = b;
     size_is = refl;
@@ -62,39 +61,32 @@ module _ {every : Bool} {T : Table} {W : List ℕ} {v : Sofar} {buf : List ℕ} 
     };
   }
 
-  pub end_every : (front : List ℕ) → every ≡ true → NodesEnd every T W v buf front front v
-  end_every front e = kept_so front (λ g k out s. ap (λ x. nodes_of x k) (sym e))
+  pub end_every : (every : Bool) (front : List ℕ) → every ≡ true → NodesEnd every T W v buf front front v
+  end_every true front e = kept_so front (λ g k out s. refl)
+  end_every false front e = cc
 
-  pub end_unbegun : (front : List ℕ) → every ≡ false → v.begun ≡ false → NodesEnd every T W v buf front front v
-  end_unbegun front e n = kept_so front (λ g k out s. sym (kept_none k.permitted k.denied (sym s.begun_is ∙ n)) ∙ ap (λ x. nodes_of x k) (sym e))
+  pub end_permits : (every : Bool) (d : Decision) (front : List ℕ) → v.decision ≡ Some d → d.permit ≡ true → NodesEnd every T W v buf front front v
+  end_permits true d front n p = kept_so front (λ g k out s. refl)
+  end_permits false d front n p = kept_so front (λ g k out s. kept_permits T W buf g d k.permitted k.denied (rw n at s.decided) p)
 
-  value_any : every ≡ false → (g : Option OutcomeTable) (k : Walked) (front out : List ℕ) → SofarIs every g T W k v buf front out → decides (any_value g k.permitted k.denied) ≡ v.decision.permit
-  value_any e g k front out s = ap (λ x. decides (sofar_value x g k)) (sym e) ∙ ap decides (sym s.decision_is) ∙ decides_as W T buf v.decision
-
-  pub end_permits : (front : List ℕ) → every ≡ false → v.decision.permit ≡ true → NodesEnd every T W v buf front front v
-  end_permits front e p = kept_so front (λ g k out s. sym (kept_permits g k.permitted k.denied (value_any e g k front out s ∙ p)) ∙ ap (λ x. nodes_of x k) (sym e))
-
-  pub end_denies : (front front' buf' : List ℕ) (kept arms : ℕ) → every ≡ false → v.begun ≡ true → v.decision.permit ≡ false → arms ≡ v.arms + 1 → NodeLaid W T v.decision buf buf' front' kept →
-      NodesEnd every T W v buf front front' (sofar_of v.decision v.begun kept v.size arms v.pending)
-  end_denies front front' buf' kept arms e n p a l = record {
+  pub end_denies : (every : Bool) (d : Decision) (front front' buf' : List ℕ) (kept arms : ℕ) → every ≡ false → v.decision ≡ Some d → d.permit ≡ false → arms ≡ v.arms + 1 → NodeLaid W T d buf buf' front' kept →
+      NodesEnd every T W v buf front front' (sofar_of v.decision kept v.size arms v.pending)
+  end_denies true d front front' buf' kept arms e n p a l = cc
+  end_denies false d front front' buf' kept arms e n p a l = record {
     bounds = record { few = b.few; kept_most = l.bound; size_most = b.size_most; size_some = b.size_some };
     size_is = refl;
     arms_most = omega arith;
     nodes = λ g k out s.
-        let both = kept_deny g k.permitted k.denied (sym s.begun_is ∙ n) (value_any e g k front out s ∙ p) in
-        let one : decision_of W T buf v.decision ∷ [] ≡ nodes_of every k = ap (λ D. D ∷ []) (s.decision_is ∙ ap (λ x. sofar_value x g k) e) ∙ sym both.0 ∙ ap (λ x. nodes_of x k) (sym e) in
-        let D = decision_of W T buf v.decision in
+        let both = kept_deny T W buf g d k.permitted k.denied (rw n at s.decided) p in
+        let D = decision_of W T buf d in
         record {
-          laid = laid_as (let z : weight_d D ≡ weights_d (D ∷ []) = omega arith in z ∙ ap weights_d one) (sym (append-nil (encode_d D)) ∙ ap encodes_d one) (l.laid s.sound);
-          arms_are = omega (arith, s.arms_are, ap (λ (ds : List (Decided Outcome)). length ds) both.1, ap (λ (ds : List (Decided Outcome)). length ds) one);
+          laid = laid_as (let z : weight_d D ≡ weights_d (D ∷ []) = omega arith in z ∙ ap weights_d (sym both.0)) (sym (append-nil (encode_d D)) ∙ ap encodes_d (sym both.0)) (l.laid both.2);
+          arms_are = omega (arith, s.arms_are, ap (λ (ds : List (Decided Outcome)). length ds) both.1, ap (λ (ds : List (Decided Outcome)). length ds) both.0);
           more = omega (arith, s.nodes.size_is, ap weights_d both.1);
         };
   }
 
 -- ---- a list
-pub end_resolved : {every : Bool} {T : Table} {W : List ℕ} {v : Sofar} (buf front out : List ℕ) → Bounded v → v.pending ≡ false → ListEnds every T W v buf front out buf out (Resolved v.decision)
-end_resolved {v = v} buf front out b p = record { fit = b.few; resolved_is = λ _. (refl, refl); pending_is = λ q. clash v.pending q p }
-
 -- The words after the first.
 after_free : (out ws : List ℕ) (free n : ℕ) → take n out ≡ free ∷ ws → take (n - 1) (drop 1 out) ≡ ws
 after_free [] ws free zero e = cc

@@ -1,6 +1,6 @@
 -- What the list rule with its permits first keeps, and what its parts answer. Document 01, "Reducing".
-use Rattle.std.specs.Prelude.{◌≡◌, Bool, true, false, List, ◌∷◌, ◌++◌, ℕ, ◌+◌, ◌-◌, ◌≤◌, length, take, drop}
-use Rattle.std.proofs.Math.Option.{Option}
+use Rattle.std.specs.Prelude.{◌≡◌, Bool, true, false, Option as OptionOf, Some, None, is_some, IfSome, unwrap_or, List, ◌∷◌, ◌++◌, ℕ, ◌+◌, ◌-◌, ◌≤◌, length, take, drop}
+use Rattle.std.proofs.Math.Option.{Option, none, some}
 use Rattle.model.specs.Facts.{Table}
 use Rattle.model.specs.Levels.{OutcomeTable}
 use Rattle.model.specs.Decision.{Decision as Decided}
@@ -10,7 +10,6 @@ use Rattle.model.specs.Writing.{count}
 use Rattle.model.specs.Products.{Outcome, encode_d, encode, encodes}
 use Rattle.decision.specs.declared.Decision.{Decision}
 use Rattle.decision.specs.Meaning.{denied_at, decision_of, Sound}
-use Rattle.evaluate.specs.Evaluating.{Folds}
 use Rattle.sizes.specs.Laid.{too_many, capped, Laid}
 use Rattle.residual.specs.Weight.{weight, weights, weight_d}
 use Rattle.decision.specs.Room.{obligation_room, Few}
@@ -18,7 +17,7 @@ use Rattle.partial_list.specs.declared.Reduced.{Reduced}
 use Rattle.partial_list.specs.declared.ReducedPolicy.{ReducedPolicy}
 use Rattle.partial_list.specs.declared.Reduced.TheVariants.{Resolved, Pending}
 use Rattle.partial_list.specs.declared.Sofar.{Sofar}
-use Rattle.partial_list.specs.Keeping.{Walked, as_decisions, sofar_value, is_begun, is_open, arms_with, fold_of, fold_next, nodes_of, weights_d, encodes_d, list_of, with_nodes}
+use Rattle.partial_list.specs.Keeping.{Walked, as_decisions, sofar_value, fold_next, is_open, arms_with, nodes_of, weights_d, encodes_d, list_of, with_nodes}
 use Rattle.partial_list.specs.Within.{LaidWithin}
 
 -- Resolved: the decision. Pending: what is left, laid at the front of the output. `room` is the length of the scratch for nodes.
@@ -32,6 +31,13 @@ Result (resolved D) T W buf room out (Pending n) = ⊥
 Result (pending q) T W buf room out (Resolved d) = ⊥
 Result (pending q) T W buf room out (Pending n) = LaidWithin room (weight q) (encode q) out n
 
+-- The decision so far, if there is one, stands for what the resolved arms came to.
+abbrev pub Decides : Table → List ℕ → List ℕ → OptionOf Decision → Option (Decided Outcome) → Type 0
+Decides T W buf None none = Unit {0}
+Decides T W buf None (some D) = ⊥
+Decides T W buf (Some d) none = ⊥
+Decides T W buf (Some d) (some D) = Resolves T W D buf d
+
 -- The answer of a policy that is resolved.
 abbrev pub resolved_to : Decision → ℕ → ReducedPolicy
 resolved_to decision next = record { to = Resolved decision; next = next }
@@ -41,20 +47,20 @@ abbrev pub Fit : Reduced → Type 0
 Fit (Resolved d) = Few d
 Fit (Pending n) = n ≤ too_many
 
-abbrev pub sofar_of : Decision → Bool → ℕ → ℕ → ℕ → Bool → Sofar
-sofar_of decision begun kept size arms some = record { decision = decision; begun = begun; kept = kept; size = size; arms = arms; pending = some }
+abbrev pub sofar_of : OptionOf Decision → ℕ → ℕ → ℕ → Bool → Sofar
+sofar_of decision kept size arms left = record { decision = decision; kept = kept; size = size; arms = arms; pending = left }
 
 -- What is kept before the first arm.
-abbrev pub none_yet : ℕ → Sofar
-none_yet end = sofar_of (denied_at end end) false 0 1 0 false
+abbrev pub none_yet : Sofar
+none_yet = sofar_of None 0 1 0 false
 
 -- One pending arm more, of size n, laid behind those before it.
 abbrev pub with_pending : Sofar → ℕ → Sofar
-with_pending v n = sofar_of v.decision v.begun v.kept (capped (v.size + n)) (v.arms + 1) true
+with_pending v n = sofar_of v.decision v.kept (capped (v.size + n)) (v.arms + 1) true
 
 -- The bounds of what a list keeps so far.
 pub record Bounded (v : Sofar) : Type 0 where
-  pub few : Few v.decision
+  pub few : IfSome v.decision Few
   pub kept_most : v.kept ≤ too_many
   pub size_most : v.size ≤ too_many
   pub size_some : 1 ≤ v.size
@@ -62,9 +68,7 @@ pub record Bounded (v : Sofar) : Type 0 where
 -- What a list keeps so far stands for what its arms came to: the decision of those that were resolved, the nodes of the permits among them in `front`,
 -- and the pending ones behind a free word in `out`.
 pub record SofarIs (every : Bool) (g : Option OutcomeTable) (T : Table) (W : List ℕ) (k : Walked) (v : Sofar) (buf front out : List ℕ) : Type 0 where
-  pub sound : Sound W buf v.decision
-  pub decision_is : decision_of W T buf v.decision ≡ sofar_value every g k
-  pub begun_is : v.begun ≡ is_begun k.permitted k.denied
+  pub decided : Decides T W buf v.decision (sofar_value every g k)
   pub nodes : Laid (weights_d (as_decisions k.permitted)) (encodes_d (as_decisions k.permitted)) front v.kept
   pub free : ℕ
   pub left : LaidWithin (length front - v.kept) (1 + weights k.pend) (free ∷ encodes k.pend) out v.size
@@ -91,18 +95,24 @@ pub record NodeKept (T : Table) (W : List ℕ) (d : Decision) (kept : ℕ) (buf 
   pub front_bytes : take obligation_room buf' ≡ take obligation_room buf
   pub bytes : Sound W (drop obligation_room buf) d → take d.united (drop obligation_room buf') ≡ take d.united (drop obligation_room buf)
 
--- The two outcomes come to `outcome`.
-pub record DecisionAdded (every : Bool) (outcome : ℕ) (T : Table) (W : List ℕ) (v : Sofar) (d : Decision) (buf front buf' front' : List ℕ) (r : Sofar) : Type 0 where
+-- The decision so far, if there is one, and that of one more arm, whose buffer starts at the second room, come to r, with its buffer.
+pub record FoldsNext (every : Bool) (g : Option OutcomeTable) (W : List ℕ) (sofar : OptionOf Decision) (buf : List ℕ) (d r : Decision) (buf' : List ℕ) : Type 0 where
+  pub few : Few r
+  pub folds : (T : Table) (X : Option (Decided Outcome)) (D : Decided Outcome) → Decides T W buf sofar X → Resolves T W D (drop obligation_room buf) d → (every ≡ true → d.permit ≡ true) → Resolves T W (fold_next every g X D) buf' r
+
+-- One more arm that was resolved: its node is kept, where it permits, and its decision folded on.
+pub record DecisionAdded (every : Bool) (g : Option OutcomeTable) (T : Table) (W : List ℕ) (v : Sofar) (d : Decision) (buf front buf' front' : List ℕ) (r : Sofar) : Type 0 where
   pub bounds : Bounded r
   pub size_is : r.size ≡ v.size
   pub pending_is : r.pending ≡ v.pending
-  pub begun_is : r.begun ≡ true
+  pub begun : is_some r.decision ≡ true
   pub more : v.kept ≤ r.kept
   pub arms_are : r.arms ≡ arms_with d.permit v.arms
   pub none : d.permit ≡ false → (r.kept ≡ v.kept) × (front' ≡ front)
   pub node : d.permit ≡ true → (n : ℕ) (ws : List ℕ) → Sound W (drop obligation_room buf) d → Laid n ws front v.kept →
       Laid (n + weight_d (decision_of W T (drop obligation_room buf) d)) (ws ++ encode_d (decision_of W T (drop obligation_room buf) d)) front' r.kept
-  pub folds : (g : Option OutcomeTable) → outcome ≡ fold_of every g v.decision.outcome d.outcome → (every ≡ true → d.permit ≡ true) → Folds (fold_next every g v.begun) W v.decision buf d (drop obligation_room buf) r.decision buf'
+  pub folds : (P : Table) (X : Option (Decided Outcome)) (D : Decided Outcome) → Decides P W buf v.decision X → Resolves P W D (drop obligation_room buf) d → (every ≡ true → d.permit ≡ true) →
+      Decides P W buf' r.decision (some (fold_next every g X D))
 
 -- The nodes that a list with pending arms keeps, those that were kept so far or the first deny.
 pub record NodesAre (every : Bool) (k : Walked) (v : Sofar) (front : List ℕ) (r : Sofar) : Type 0 where
@@ -116,8 +126,8 @@ pub record NodesEnd (every : Bool) (T : Table) (W : List ℕ) (v : Sofar) (buf f
   pub arms_most : r.arms ≤ v.arms + 1
   pub nodes : (g : Option OutcomeTable) (k : Walked) (out : List ℕ) → SofarIs every g T W k v buf front out → NodesAre every k v front' r
 
--- A list whose arms are all read.
+-- A list whose arms are all read: without arms it denies.
 pub record ListEnds (every : Bool) (T : Table) (W : List ℕ) (v : Sofar) (buf front out buf' out' : List ℕ) (r : Reduced) : Type 0 where
   pub fit : Fit r
-  pub resolved_is : v.pending ≡ false → (r ≡ Resolved v.decision) × (buf' ≡ buf)
+  pub resolved_is : v.pending ≡ false → (r ≡ Resolved (unwrap_or v.decision (denied_at (length W) (length W)))) × (buf' ≡ buf)
   pub pending_is : v.pending ≡ true → (g : Option OutcomeTable) (k : Walked) → SofarIs every g T W k v buf front out → Result (pending (list_of every (with_nodes (nodes_of every k) k.pend))) T W buf' (length front) out' r

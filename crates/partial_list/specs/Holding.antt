@@ -3,12 +3,11 @@ use Rattle.std.specs.Prelude.{Bool, true, false, List, [], ◌∷◌, ◌++◌}
 use Rattle.std.proofs.Math.Option.{Option}
 use Rattle.model.specs.Facts.{Table}
 use Rattle.model.specs.Levels.{OutcomeTable}
-use Rattle.model.specs.Decision.{Decision, permits, denies, generic_deny}
+use Rattle.model.specs.Decision.{Decision, permits, denies}
 use Rattle.model.specs.Policy.{Policies}
 use Rattle.model.specs.Partial.{ReducedPolicy, resolved, pending, sheet_order, up_to_deny}
 use Rattle.model.specs.Products.{Outcome, end_in_order, reduce_arms}
-use Rattle.evaluate.specs.Folding.{all_of, any_of}
-use Rattle.partial_list.specs.Keeping.{list_of}
+use Rattle.partial_list.specs.Keeping.{list_of, value_by}
 
 -- The arms that a list holds, of those that are left.
 abbrev pub held_of : Bool → List (ReducedPolicy Outcome) → List (ReducedPolicy Outcome)
@@ -25,14 +24,9 @@ decisions_of [] = []
 decisions_of (resolved d ∷ k) = d ∷ decisions_of k
 decisions_of (pending q ∷ k) = decisions_of k
 
-abbrev pub is_begun : List (ReducedPolicy Outcome) → Bool
-is_begun [] = false
-is_begun (r ∷ k) = true
-
--- The decision of the arms so far, where none is pending.
-abbrev pub value_of : Bool → Option OutcomeTable → List (ReducedPolicy Outcome) → Decision Outcome
-value_of true g k = all_of g (denies generic_deny) (decisions_of k)
-value_of false g k = any_of g false (denies generic_deny) (decisions_of k)
+-- The decision of the arms so far, if there was one, where none is pending.
+abbrev pub value_of : Bool → Option OutcomeTable → List (ReducedPolicy Outcome) → Option (Decision Outcome)
+value_of every g k = value_by every g (decisions_of k)
 
 -- No arm so far is a deny, where the list is an All that goes on.
 abbrev pub NoDeny : Bool → List (ReducedPolicy Outcome) → Type 0

@@ -1,20 +1,21 @@
 -- Laws of the state that the list rule in sheet order carries: one arm more, an arm that ends the list, the end of the list, and words and sizes.
 use Rattle.std.specs.Prelude.{◌≡◌, refl, Bool, true, false, List, [], ◌∷◌, ◌++◌, ℕ, ◌+◌}
 use Rattle.std.proofs.Common.{sym, ◌∙◌, ap, append-nil, append_assoc, arith}
-use Rattle.std.proofs.Math.Option.{Option, none}
+use Rattle.std.proofs.Math.Option.{Option, none, some}
 use Rattle.std.proofs.Math.Seq.{append_snoc}
 use Rattle.model.specs.Facts.{Table}
 use Rattle.model.specs.Levels.{OutcomeTable}
-use Rattle.model.specs.Decision.{Denial, Decision, permits, denies, generic_deny}
+use Rattle.model.specs.Decision.{Denial, Decision, permits, denies}
 use Rattle.model.specs.Policy.{Policy, all, any, Policies, pnil, pcons}
 use Rattle.model.specs.Partial.{ReducedPolicy, resolved, pending, as_residual, sheet_order, in_order, any_pending}
 use Rattle.model.specs.Writing.{word, count}
 use Rattle.model.specs.Products.{Outcome, all_from, any_from, eval_policies, end_in_order, reduce_policy, reduce_arms, encode, encodes}
-use Rattle.evaluate.specs.Folding.{meet_next, all_of, join_next, any_of}
+use Rattle.evaluate.specs.Folding.{or_denied, meet_next, all_of, join_next, any_of}
 use Rattle.evaluate.specs.FoldingLaws.{all_is, any_is}
 use Rattle.residual.specs.Weight.{weight, weights}
-use Rattle.partial_list.specs.Keeping.{stops, list_of, list_kind, fold_next}
-use Rattle.partial_list.specs.Holding.{held_of, left_of, decisions_of, is_begun, value_of, NoDeny}
+use Rattle.partial_list.specs.Keeping.{stops, list_of, list_kind, value_by, fold_next}
+use Rattle.partial_list.specs.KeepingLaws.{deny_without}
+use Rattle.partial_list.specs.Holding.{held_of, left_of, decisions_of, value_of, NoDeny}
 
 -- A list of no arms yet is the list.
 pub left_start : (every : Bool) (g : Option OutcomeTable) (P : Table) (ts : Policies Outcome) → left_of every g P [] ts ≡ reduce_policy g sheet_order P (list_of every ts)
@@ -62,9 +63,9 @@ evals_are g T [] e = refl
 evals_are g T (resolved d ∷ k) e = ap (λ ds. d ∷ ds) (evals_are g T k e)
 evals_are g T (pending q ∷ k) e = cc
 
-pub end_value : (every : Bool) (g : Option OutcomeTable) (T : Table) (k : List (ReducedPolicy Outcome)) → any_pending k ≡ false → end_in_order g (list_of every) T k ≡ resolved (value_of every g k)
-end_value true g T k e = rw e (ap resolved (ap (all_from g none) (evals_are g T k e) ∙ all_is g (decisions_of k)))
-end_value false g T k e = rw e (ap resolved (ap (any_from g none none) (evals_are g T k e) ∙ any_is g (decisions_of k)))
+pub end_value : (every : Bool) (g : Option OutcomeTable) (T : Table) (k : List (ReducedPolicy Outcome)) → any_pending k ≡ false → end_in_order g (list_of every) T k ≡ resolved (or_denied (value_of every g k))
+end_value true g T k e = rw e (ap resolved (ap (all_from g none) (evals_are g T k e) ∙ all_is g (decisions_of k) ∙ deny_without true g (decisions_of k)))
+end_value false g T k e = rw e (ap resolved (ap (any_from g none none) (evals_are g T k e) ∙ any_is g (decisions_of k) ∙ deny_without false g (decisions_of k)))
 
 -- One decision more: the fold goes on while no arm is pending.
 decisions_more : (k : List (ReducedPolicy Outcome)) (d : Decision Outcome) → decisions_of (k ++ resolved d ∷ []) ≡ decisions_of k ++ d ∷ []
@@ -72,38 +73,43 @@ decisions_more [] d = refl
 decisions_more (resolved c ∷ k) d = ap (λ ds. c ∷ ds) (decisions_more k d)
 decisions_more (pending q ∷ k) d = decisions_more k d
 
-all_snoc : (g : Option OutcomeTable) (x : Decision Outcome) (k : List (ReducedPolicy Outcome)) (d : Decision Outcome) → NoDeny true k → any_pending k ≡ false → meet_next g (all_of g x (decisions_of k)) d ≡ all_of g x (decisions_of k ++ d ∷ [])
+all_snoc : (g : Option OutcomeTable) (x : Decision Outcome) (k : List (ReducedPolicy Outcome)) (d : Decision Outcome) → NoDeny true k → any_pending k ≡ false → meet_next g (some (all_of g (some x) (decisions_of k))) d ≡ all_of g (some x) (decisions_of k ++ d ∷ [])
 all_snoc g (permits p) [] (permits q) n e = refl
 all_snoc g (permits p) [] (denies d) n e = refl
 all_snoc g (denies c) [] (permits q) n e = refl
 all_snoc g (denies c) [] (denies d) n e = refl
-all_snoc g x (resolved (permits p) ∷ k) d n e = all_snoc g (meet_next g x (permits p)) k d n e
+all_snoc g x (resolved (permits p) ∷ k) d n e = all_snoc g (meet_next g (some x) (permits p)) k d n e
 all_snoc g x (resolved (denies c) ∷ k) d n e = absurd n
 all_snoc g x (pending q ∷ k) d n e = all_snoc g x k d n (cc)
 
-any_snoc : (g : Option OutcomeTable) (x : Decision Outcome) (ds : List (Decision Outcome)) (d : Decision Outcome) → join_next g true (any_of g true x ds) d ≡ any_of g true x (ds ++ d ∷ [])
+any_snoc : (g : Option OutcomeTable) (x : Decision Outcome) (ds : List (Decision Outcome)) (d : Decision Outcome) → join_next g (some (any_of g (some x) ds)) d ≡ any_of g (some x) (ds ++ d ∷ [])
 any_snoc g x [] d = refl
-any_snoc g x (c ∷ ds) d = any_snoc g (join_next g true x c) ds d
+any_snoc g x (c ∷ ds) d = any_snoc g (join_next g (some x) c) ds d
 
-any_more : (g : Option OutcomeTable) (k : List (ReducedPolicy Outcome)) (d : Decision Outcome) → any_pending k ≡ false →
-    join_next g (is_begun k) (any_of g false (denies generic_deny) (decisions_of k)) d ≡ any_of g false (denies generic_deny) (decisions_of k ++ d ∷ [])
+all_more : (g : Option OutcomeTable) (k : List (ReducedPolicy Outcome)) (d : Decision Outcome) → NoDeny true k → any_pending k ≡ false → some (fold_next true g (value_of true g k) d) ≡ value_by true g (decisions_of k ++ d ∷ [])
+all_more g [] (permits p) n e = refl
+all_more g [] (denies d) n e = refl
+all_more g (resolved (permits p) ∷ k) d n e = ap some (all_snoc g (permits p) k d n e)
+all_more g (resolved (denies c) ∷ k) d n e = absurd n
+all_more g (pending q ∷ k) d n e = cc
+
+any_more : (g : Option OutcomeTable) (k : List (ReducedPolicy Outcome)) (d : Decision Outcome) → any_pending k ≡ false → some (fold_next false g (value_of false g k) d) ≡ value_by false g (decisions_of k ++ d ∷ [])
 any_more g [] d e = refl
-any_more g (resolved c ∷ k) d e = any_snoc g c (decisions_of k) d
+any_more g (resolved c ∷ k) d e = ap some (any_snoc g c (decisions_of k) d)
 any_more g (pending q ∷ k) d e = cc
 
-pub value_more : (every : Bool) (g : Option OutcomeTable) (k : List (ReducedPolicy Outcome)) (d : Decision Outcome) → NoDeny every k → any_pending k ≡ false → fold_next every g (is_begun k) (value_of every g k) d ≡ value_of every g (k ++ resolved d ∷ [])
-value_more true g k d n e = all_snoc g (denies generic_deny) k d n e ∙ ap (all_of g (denies generic_deny)) (sym (decisions_more k d))
-value_more false g k d n e = any_more g k d e ∙ ap (any_of g false (denies generic_deny)) (sym (decisions_more k d))
+pub value_more : (every : Bool) (g : Option OutcomeTable) (k : List (ReducedPolicy Outcome)) (d : Decision Outcome) → NoDeny every k → any_pending k ≡ false → some (fold_next every g (value_of every g k) d) ≡ value_of every g (k ++ resolved d ∷ [])
+value_more true g k d n e = all_more g k d n e ∙ ap (value_by true g) (sym (decisions_more k d))
+value_more false g k d n e = any_more g k d e ∙ ap (value_by false g) (sym (decisions_more k d))
 
 -- A deny that ends an All of which no arm is pending is its answer.
-pub value_last : (g : Option OutcomeTable) (k : List (ReducedPolicy Outcome)) (d : Denial Outcome) → NoDeny true k → any_pending k ≡ false → value_of true g (k ++ resolved (denies d) ∷ []) ≡ denies d
-value_last g k d n e = ap (all_of g (denies generic_deny)) (decisions_more k (denies d)) ∙ sym (all_snoc g (denies generic_deny) k (denies d) n e) ∙ meets_deny (all_of g (denies generic_deny) (decisions_of k)) where
-  meets_deny : (x : Decision Outcome) → meet_next g x (denies d) ≡ denies d
-  meets_deny (permits p) = refl
-  meets_deny (denies c) = refl
+deny_last : (g : Option OutcomeTable) (x : Option (Decision Outcome)) (d : Denial Outcome) → fold_next true g x (denies d) ≡ denies d
+deny_last g none d = refl
+deny_last g (some (permits p)) d = refl
+deny_last g (some (denies c)) d = refl
 
-no : true ≡ false → ⊥
-no e = let z : ◌≡◌ {A = ℕ} 0 1 = cc in omega arith
+pub value_last : (g : Option OutcomeTable) (k : List (ReducedPolicy Outcome)) (d : Denial Outcome) → NoDeny true k → any_pending k ≡ false → value_of true g (k ++ resolved (denies d) ∷ []) ≡ some (denies d)
+value_last g k d n e = sym (value_more true g k (denies d) n e) ∙ ap some (deny_last g (value_of true g k) d)
 
 -- ---- whether an arm is pending, words and sizes, with one arm more
 pub pending_more : (k : List (ReducedPolicy Outcome)) (d : Decision Outcome) → any_pending (k ++ resolved d ∷ []) ≡ any_pending k
@@ -138,13 +144,9 @@ list_words false k n e = ap (λ m. word 10 m ∷ encodes (in_order k)) (sym e)
 -- An arm that does not end the list.
 pub going_more : (every : Bool) (k : List (ReducedPolicy Outcome)) (x : ReducedPolicy Outcome) → NoDeny every k → stops every x ≡ false → NoDeny every (k ++ x ∷ [])
 going_more true [] (resolved (permits p)) g e = tt
-going_more true [] (resolved (denies d)) g e = absurd (no e)
+going_more true [] (resolved (denies d)) g e = cc
 going_more true [] (pending q) g e = tt
 going_more true (resolved (permits p) ∷ k) x g e = going_more true k x g e
 going_more true (resolved (denies d) ∷ k) x g e = absurd g
 going_more true (pending q ∷ k) x g e = going_more true k x g e
 going_more false k x g e = tt
-
-pub begun_more : (k : List (ReducedPolicy Outcome)) (x : ReducedPolicy Outcome) → is_begun (k ++ x ∷ []) ≡ true
-begun_more [] x = refl
-begun_more (r ∷ k) x = refl

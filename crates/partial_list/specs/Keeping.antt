@@ -3,7 +3,7 @@ use Rattle.std.specs.Prelude.{Bool, true, false, List, [], ◌∷◌, ◌++◌, 
 use Rattle.std.proofs.Math.Option.{Option, none, some}
 use Rattle.model.specs.Facts.{Table}
 use Rattle.model.specs.Levels.{OutcomeTable, meet_of, join_of}
-use Rattle.model.specs.Decision.{Permit, Denial, Decision, permits, denies, generic_deny}
+use Rattle.model.specs.Decision.{Permit, Denial, Decision, permits, denies}
 use Rattle.model.specs.Policy.{Policy, all, any, stored, Policies, pnil, pcons}
 use Rattle.model.specs.Evaluate.{first_deny}
 use Rattle.model.specs.Partial.{ReducedPolicy, resolved, pending, Order, permits_first, AllWalk, stop, go, walked_all, AnyWalk, parts, walked_any}
@@ -68,42 +68,11 @@ abbrev pub list_kind : Bool → ℕ
 list_kind true = 9
 list_kind false = 10
 
--- ---- the decision of the resolved arms so far
+-- ---- the resolved parts that are kept: permits, or of an Any without permits its first deny
 abbrev pub as_decisions : List (Permit Outcome) → List (Decision Outcome)
 as_decisions [] = []
 as_decisions (p ∷ ps) = permits p ∷ as_decisions ps
 
-abbrev pub any_value : Option OutcomeTable → List (Permit Outcome) → Option (Denial Outcome) → Decision Outcome
-any_value g [] none = denies generic_deny
-any_value g [] (some d) = denies d
-any_value g (p ∷ ps) first = any_of g true (permits p) (as_decisions ps)
-
-abbrev pub sofar_value : Bool → Option OutcomeTable → Walked → Decision Outcome
-sofar_value true g k = all_of g (denies generic_deny) (as_decisions k.permitted)
-sofar_value false g k = any_value g k.permitted k.denied
-
--- Whether an arm was resolved.
-abbrev pub is_begun : List (Permit Outcome) → Option (Denial Outcome) → Bool
-is_begun [] none = false
-is_begun [] (some d) = true
-is_begun (p ∷ ps) first = true
-
--- What two outcomes come to: under All they meet, under Any they join; and two decisions.
-abbrev pub fold_of : Bool → Option OutcomeTable → ℕ → ℕ → ℕ
-fold_of true g = meet_of g
-fold_of false g = join_of g
-
-abbrev pub fold_next : Bool → Option OutcomeTable → Bool → Decision Outcome → Decision Outcome → Decision Outcome
-fold_next true g begun = meet_next g
-fold_next false g begun = join_next g begun
-
--- ---- the end of a list
--- Whether an arm is pending.
-abbrev pub is_open : Policies Outcome → Bool
-is_open pnil = false
-is_open (pcons q qs) = true
-
--- The resolved parts that are kept: permits, or of an Any without permits its first deny.
 abbrev pub kept_of : List (Permit Outcome) → Option (Denial Outcome) → List (Decision Outcome)
 kept_of [] none = []
 kept_of [] (some d) = denies d ∷ []
@@ -112,6 +81,33 @@ kept_of (p ∷ ps) first = as_decisions (p ∷ ps)
 abbrev pub nodes_of : Bool → Walked → List (Decision Outcome)
 nodes_of true k = as_decisions k.permitted
 nodes_of false k = kept_of k.permitted k.denied
+
+-- ---- the decision of the resolved arms so far, if there was one
+abbrev pub list_value : Bool → Option OutcomeTable → List (Decision Outcome) → Decision Outcome
+list_value true g ds = all_of g none ds
+list_value false g ds = any_of g none ds
+
+abbrev pub value_by : Bool → Option OutcomeTable → List (Decision Outcome) → Option (Decision Outcome)
+value_by every g [] = none
+value_by every g (d ∷ ds) = some (list_value every g (d ∷ ds))
+
+abbrev pub sofar_value : Bool → Option OutcomeTable → Walked → Option (Decision Outcome)
+sofar_value every g k = value_by every g (nodes_of every k)
+
+-- What two outcomes come to: under All they meet, under Any they join; and two decisions.
+abbrev pub fold_of : Bool → Option OutcomeTable → ℕ → ℕ → ℕ
+fold_of true g = meet_of g
+fold_of false g = join_of g
+
+abbrev pub fold_next : Bool → Option OutcomeTable → Option (Decision Outcome) → Decision Outcome → Decision Outcome
+fold_next true g = meet_next g
+fold_next false g = join_next g
+
+-- ---- the end of a list
+-- Whether an arm is pending.
+abbrev pub is_open : Policies Outcome → Bool
+is_open pnil = false
+is_open (pcons q qs) = true
 
 -- How many arms are kept with one more that was resolved: only a permit is.
 abbrev pub arms_with : Bool → ℕ → ℕ

@@ -5,17 +5,17 @@ use Rattle.std.proofs.Math.Option.{Option, none, some}
 use Rattle.std.proofs.Math.Seq.{append_snoc}
 use Rattle.model.specs.Facts.{Table}
 use Rattle.model.specs.Levels.{OutcomeTable}
-use Rattle.model.specs.Decision.{Permit, Denial, Decision, permits, denies, generic_deny}
+use Rattle.model.specs.Decision.{Permit, Denial, Decision, permits, denies}
 use Rattle.model.specs.Policy.{Policy, all, any, stored, Policies, pnil, pcons}
 use Rattle.model.specs.Evaluate.{first_deny}
 use Rattle.model.specs.Partial.{ReducedPolicy, resolved, pending, Order, permits_first, arms, kept, AllWalk, stop, go, step_all, walked_all, AnyWalk, parts, step_any, walked_any}
 use Rattle.model.specs.Consulted.{Consulted, unless_denied}
 use Rattle.model.specs.Writing.{word, count}
-use Rattle.model.specs.Products.{Outcome, join_permit, any_from, eval_policy, eval_policies, end_all, end_any, reduce_policy, reduce_arms, walk, walk_all, encode_d, encode, encodes}
-use Rattle.evaluate.specs.Folding.{meet_next, all_of, join_next, any_of}
+use Rattle.model.specs.Products.{Outcome, join_permit, eval_policy, eval_policies, end_all, end_any, reduce_policy, reduce_arms, walk, walk_all, encode_d, encode, encodes}
+use Rattle.evaluate.specs.Folding.{or_denied, meet_next, all_of, join_next, any_of}
 use Rattle.evaluate.specs.FoldingLaws.{all_is, any_is}
 use Rattle.residual.specs.Weight.{weight_d, weight, weights}
-use Rattle.partial_list.specs.Keeping.{Walked, walked, append, with_arm, stops, then_all, or_first, then_any, left_of, read_of, list_of, list_kind, as_decisions, any_value, sofar_value, is_begun, fold_next, is_open, kept_of, nodes_of, with_nodes, end_of, weights_d, encodes_d}
+use Rattle.partial_list.specs.Keeping.{Walked, walked, append, with_arm, stops, then_all, or_first, then_any, left_of, read_of, list_of, list_kind, as_decisions, kept_of, list_value, value_by, sofar_value, fold_next, is_open, nodes_of, with_nodes, end_of, weights_d, encodes_d}
 
 -- ---- the arms that are left
 append_one : (qs : Policies Outcome) (q : Policy Outcome) (rs : Policies Outcome) → append qs (pcons q rs) ≡ append (append qs (pcons q pnil)) rs
@@ -88,45 +88,43 @@ read_start true g o P ts l = refl
 read_start false g o P ts l = refl
 
 -- ---- the decision of the resolved arms so far
-all_snoc : (g : Option OutcomeTable) (x : Decision Outcome) (ps : List (Permit Outcome)) (p : Permit Outcome) → meet_next g (all_of g x (as_decisions ps)) (permits p) ≡ all_of g x (as_decisions (ps ++ p ∷ []))
+all_snoc : (g : Option OutcomeTable) (x : Decision Outcome) (ps : List (Permit Outcome)) (p : Permit Outcome) → meet_next g (some (all_of g (some x) (as_decisions ps))) (permits p) ≡ all_of g (some x) (as_decisions (ps ++ p ∷ []))
 all_snoc g x [] p = refl
-all_snoc g x (q ∷ ps) p = all_snoc g (meet_next g x (permits q)) ps p
+all_snoc g x (q ∷ ps) p = all_snoc g (meet_next g (some x) (permits q)) ps p
 
-any_snoc : (g : Option OutcomeTable) (x : Decision Outcome) (ps : List (Permit Outcome)) (p : Permit Outcome) → join_next g true (any_of g true x (as_decisions ps)) (permits p) ≡ any_of g true x (as_decisions (ps ++ p ∷ []))
+any_snoc : (g : Option OutcomeTable) (x : Decision Outcome) (ps : List (Permit Outcome)) (p : Permit Outcome) → join_next g (some (any_of g (some x) (as_decisions ps))) (permits p) ≡ any_of g (some x) (as_decisions (ps ++ p ∷ []))
 any_snoc g x [] p = refl
-any_snoc g x (q ∷ ps) p = any_snoc g (join_next g true x (permits q)) ps p
+any_snoc g x (q ∷ ps) p = any_snoc g (join_next g (some x) (permits q)) ps p
 
-any_denied : (g : Option OutcomeTable) (p : Permit Outcome) (ps : List (Permit Outcome)) (d : Denial Outcome) → join_next g true (any_of g true (permits p) (as_decisions ps)) (denies d) ≡ any_of g true (permits p) (as_decisions ps)
+any_denied : (g : Option OutcomeTable) (p : Permit Outcome) (ps : List (Permit Outcome)) (d : Denial Outcome) → join_next g (some (any_of g (some (permits p)) (as_decisions ps))) (denies d) ≡ any_of g (some (permits p)) (as_decisions ps)
 any_denied g p [] d = refl
 any_denied g p (q ∷ ps) d = any_denied g (join_permit g p q) ps d
 
-any_permit_more : (g : Option OutcomeTable) (ps : List (Permit Outcome)) (first : Option (Denial Outcome)) (p : Permit Outcome) → join_next g (is_begun ps first) (any_value g ps first) (permits p) ≡ any_value g (ps ++ p ∷ []) first
+all_more : (g : Option OutcomeTable) (ps : List (Permit Outcome)) (p : Permit Outcome) → some (fold_next true g (value_by true g (as_decisions ps)) (permits p)) ≡ value_by true g (as_decisions (ps ++ p ∷ []))
+all_more g [] p = refl
+all_more g (q ∷ ps) p = ap some (all_snoc g (permits q) ps p)
+
+any_permit_more : (g : Option OutcomeTable) (ps : List (Permit Outcome)) (first : Option (Denial Outcome)) (p : Permit Outcome) → some (fold_next false g (value_by false g (kept_of ps first)) (permits p)) ≡ value_by false g (kept_of (ps ++ p ∷ []) first)
 any_permit_more g [] none p = refl
 any_permit_more g [] (some d) p = refl
-any_permit_more g (q ∷ ps) first p = any_snoc g (permits q) ps p
+any_permit_more g (q ∷ ps) first p = ap some (any_snoc g (permits q) ps p)
 
-any_deny_more : (g : Option OutcomeTable) (ps : List (Permit Outcome)) (first : Option (Denial Outcome)) (d : Denial Outcome) → join_next g (is_begun ps first) (any_value g ps first) (denies d) ≡ any_value g ps (some (first_deny first d))
+any_deny_more : (g : Option OutcomeTable) (ps : List (Permit Outcome)) (first : Option (Denial Outcome)) (d : Denial Outcome) → some (fold_next false g (value_by false g (kept_of ps first)) (denies d)) ≡ value_by false g (kept_of ps (some (first_deny first d)))
 any_deny_more g [] none d = refl
 any_deny_more g [] (some c) d = refl
-any_deny_more g (q ∷ ps) first d = any_denied g q ps d
+any_deny_more g (q ∷ ps) first d = ap some (any_denied g q ps d)
 
-pub value_more : (b : Bool) (g : Option OutcomeTable) (k : Walked) (d : Decision Outcome) → stops b (resolved d) ≡ false → fold_next b g (is_begun k.permitted k.denied) (sofar_value b g k) d ≡ sofar_value b g (with_arm k (resolved d))
-value_more true g k (permits p) e = all_snoc g (denies generic_deny) k.permitted p
+pub value_more : (b : Bool) (g : Option OutcomeTable) (k : Walked) (d : Decision Outcome) → stops b (resolved d) ≡ false → some (fold_next b g (sofar_value b g k) d) ≡ sofar_value b g (with_arm k (resolved d))
+value_more true g k (permits p) e = all_more g k.permitted p
 value_more true g k (denies d) e = cc
 value_more false g k (permits p) e = any_permit_more g k.permitted k.denied p
 value_more false g k (denies d) e = any_deny_more g k.permitted k.denied d
 
-begun_some : (ps : List (Permit Outcome)) (p : Permit Outcome) (first : Option (Denial Outcome)) → is_begun (ps ++ p ∷ []) first ≡ true
-begun_some [] p first = refl
-begun_some (q ∷ ps) p first = refl
-
-begun_deny : (ps : List (Permit Outcome)) (d : Denial Outcome) → is_begun ps (some d) ≡ true
-begun_deny [] d = refl
-begun_deny (q ∷ ps) d = refl
-
-pub begun_more : (k : Walked) (d : Decision Outcome) → is_begun (with_arm k (resolved d)).permitted (with_arm k (resolved d)).denied ≡ true
-begun_more k (permits p) = begun_some k.permitted p k.denied
-begun_more k (denies d) = begun_deny k.permitted (first_deny k.denied d)
+-- What a list comes to is the decision of its arms, and without arms a deny.
+pub deny_without : (every : Bool) (g : Option OutcomeTable) (ds : List (Decision Outcome)) → list_value every g ds ≡ or_denied (value_by every g ds)
+deny_without true g [] = refl
+deny_without false g [] = refl
+deny_without every g (d ∷ ds) = refl
 
 -- ---- the end of a list
 pub open_more : (qs : Policies Outcome) (q : Policy Outcome) → is_open (append qs (pcons q pnil)) ≡ true
@@ -146,11 +144,6 @@ nodes_value : (g : Option OutcomeTable) (T : Table) (ds : List (Decision Outcome
 nodes_value g T [] = refl
 nodes_value g T (d ∷ ds) = ap (λ es. d ∷ es) (nodes_value g T ds)
 
-kept_value : (g : Option OutcomeTable) (ps : List (Permit Outcome)) (first : Option (Denial Outcome)) → any_from g none none (kept_of ps first) ≡ any_value g ps first
-kept_value g [] none = refl
-kept_value g [] (some d) = refl
-kept_value g (p ∷ ps) first = any_is g (as_decisions (p ∷ ps))
-
 first_last : (first : Option (Denial Outcome)) → or_first first none ≡ first
 first_last none = refl
 first_last (some d) = refl
@@ -162,16 +155,16 @@ left_none false g P k =
     ∙ ap (λ first. end_any g P (parts k.permitted first k.pend)) (first_last k.denied)
 
 none_at : (b : Bool) (g : Option OutcomeTable) (P : Table) (ps : List (Permit Outcome)) (first : Option (Denial Outcome)) (qs : Policies Outcome) → is_open qs ≡ false →
-    end_of b g P (walked ps first qs) ≡ resolved (sofar_value b g (walked ps first qs))
+    end_of b g P (walked ps first qs) ≡ resolved (or_denied (sofar_value b g (walked ps first qs)))
 none_at b g P ps first (pcons q qs) e = cc
 none_at true g P ps first pnil e =
     ap (λ ts. resolved (eval_policy g P (all ts))) (arms_are ps pnil)
-    ∙ ap resolved (all_is g (eval_policies g P (with_nodes (as_decisions ps) pnil)) ∙ ap (all_of g (denies generic_deny)) (nodes_value g P (as_decisions ps)))
+    ∙ ap resolved (all_is g (eval_policies g P (with_nodes (as_decisions ps) pnil)) ∙ ap (list_value true g) (nodes_value g P (as_decisions ps)) ∙ deny_without true g (as_decisions ps))
 none_at false g P ps first pnil e =
     ap (λ ts. resolved (eval_policy g P (any ts))) (kept_are ps first pnil)
-    ∙ ap resolved (ap (any_from g none none) (nodes_value g P (kept_of ps first)) ∙ kept_value g ps first)
+    ∙ ap resolved (any_is g (eval_policies g P (with_nodes (kept_of ps first) pnil)) ∙ ap (list_value false g) (nodes_value g P (kept_of ps first)) ∙ deny_without false g (kept_of ps first))
 
-pub end_none : (b : Bool) (g : Option OutcomeTable) (P : Table) (k : Walked) → is_open k.pend ≡ false → end_of b g P k ≡ resolved (sofar_value b g k)
+pub end_none : (b : Bool) (g : Option OutcomeTable) (P : Table) (k : Walked) → is_open k.pend ≡ false → end_of b g P k ≡ resolved (or_denied (sofar_value b g k))
 end_none b g P k e = none_at b g P k.permitted k.denied k.pend e
 
 some_at : (b : Bool) (g : Option OutcomeTable) (P : Table) (ps : List (Permit Outcome)) (first : Option (Denial Outcome)) (qs : Policies Outcome) → is_open qs ≡ true →

@@ -1,26 +1,28 @@
 // What a list of policies keeps of its arms while it is reduced, and what it comes to, after gatekeep's partial.rs: with its permits first, or in sheet order
 // (request 8). Lent: `buf`, for united obligations, `named`, for the facts of one clause, `out`, where pending arms are laid, and `front`, where a list with
 // its permits first keeps their nodes until it knows that an arm is pending. A slice may be too short for what is laid in it: then only its size is right.
+// Each is a parameter of its own: a list rule lends its arms other tails of `buf`, `front` and `out`, so a struct of them would be taken apart and made anew
+// for each arm. Of one resolved arm more, and of the end, each order has a function of its own:
+// where a node is laid, which arms have one, and what stands before the pending ones at the end all differ.
 #![tactic(auto)]
 
-ghost use Rattle.std.specs.Prelude.{◌≡◌, true, List, ℕ, ◌+◌, ◌^◌, ◌≤◌, ◌<◌, drop};
-ghost use Rattle.std.proofs.Math.Option.{Option};
+ghost use Rattle.std.specs.Prelude.{◌≡◌, IfSome, List, ℕ, ◌^◌, ◌≤◌, ◌<◌};
 ghost use Rattle.model.specs.Facts.{Table, table_of};
-ghost use Rattle.model.specs.Levels as levels;
 ghost use Rattle.outcome.specs.Carried.{carried};
 ghost use Rattle.model.specs.Writing.{count_bits, word};
-ghost use Rattle.evaluate.specs.Evaluating.{Folds};
 ghost use Rattle.sizes.specs.Laid.{too_many};
-ghost use Rattle.decision.specs.Room.{obligation_room, RoomToUnite, Few};
+ghost use Rattle.decision.specs.Room.{RoomToUnite, Few};
 ghost use Rattle.clause.specs.Room.{RoomToName};
-ghost use Rattle.partial_list.specs.Keeping.{list_kind, arms_with, fold_of, fold_next};
-ghost use Rattle.partial_list.specs.Answers.{none_yet, with_pending, Bounded, NodeBehind, NodeKept, DecisionAdded, NodesEnd, ListEnds};
+ghost use Rattle.partial_list.specs.Keeping.{list_kind, fold_of};
+ghost use Rattle.partial_list.specs.Answers.{none_yet, with_pending, Bounded, NodeBehind, NodeKept, FoldsNext, DecisionAdded, NodesEnd, ListEnds};
 ghost use Rattle.partial_list.specs.InOrder.{DecisionHeld, OrderEnds};
 
+use condition::Walk;
 use decision::{Decision, OBLIGATION_ROOM};
-use outcome::{OutcomeTable, Products};
+use outcome::OutcomeTable;
 
-// What a policy came to: its decision, or the size of what is left of it.
+// What a policy came to: its decision, or the size of what is left of it. After gatekeep's `ReducedPolicy`, beside its `ReducedCondition`, whose cases have
+// other names.
 #[derive(Clone, Copy)]
 pub enum Reduced {
     Resolved(Decision),
@@ -37,25 +39,23 @@ pub struct ReducedPolicy {
 // What the arms of a list came to so far.
 #[derive(Clone, Copy)]
 pub struct Sofar {
-    // of the resolved arms, if there was one; a flag beside it, as a list without arms answers with this decision too, where an Option would be unwrapped
-    pub decision: Decision,
-    pub begun: bool,
+    // of the resolved arms, if there was one
+    pub decision: Option<Decision>,
     // the size of the nodes that are kept, in `front`; in sheet order none is
     pub kept: usize,
     // the size of the pending arms, in sheet order of all arms, in `out` behind one free word, and of that word
     pub size: usize,
-    // how many nodes and pending arms there are, and whether there is a pending one
+    // how many nodes and pending arms there are, and whether there is a pending one, which in sheet order `size` doesn't tell
     pub arms: u32,
     pub pending: bool,
 }
 
-// What a list has before its first arm: a deny with nothing named, and the free word.
-pub fn none_yet(end: usize) -> Sofar
-    ensures { result ≡ none_yet end }
+// What a list has before its first arm: the free word.
+pub fn none_yet() -> Sofar
+    ensures { result ≡ none_yet }
 {
     Sofar {
-        decision: decision::denied(end),
-        begun: false,
+        decision: None,
         kept: 0,
         size: 1,
         arms: 0,
@@ -65,22 +65,20 @@ pub fn none_yet(end: usize) -> Sofar
 
 // Lays the node of a resolved arm behind the words that are kept, and returns the size of all. The arm's buffer starts at the second room.
 fn lay_node(
-    words: &[u32],
-    facts: &[u8],
+    walk: &Walk<'_>,
     incoming: Decision,
     kept: usize,
     buf: &mut [u8],
     named: &mut [u16],
     out: &mut [u32],
 ) -> usize
-    requires { Few incoming × (kept ≤ too_many) × RoomToUnite 2 buf.old × RoomToName words.now named.old }
-    ensures { NodeBehind (table_of facts.now) words.now incoming kept buf.old out.old buf.new out.new result }
+    requires { Few incoming × (kept ≤ too_many) × RoomToUnite 2 buf.old × RoomToName walk.now.words.now named.old }
+    ensures { NodeBehind (table_of walk.now.facts.now) walk.now.words.now incoming kept buf.old out.old buf.new out.new result }
 {
     let from = sizes::tail_from(kept, out.len());
     let size = residual::policy_from_decision(
-        words,
+        walk,
         incoming,
-        facts,
         &mut buf[OBLIGATION_ROOM..],
         named,
         &mut out[from..],
@@ -90,35 +88,34 @@ fn lay_node(
 
 // The same for a list with its permits first, which keeps no deny.
 fn keep_node(
-    words: &[u32],
-    facts: &[u8],
+    walk: &Walk<'_>,
     incoming: Decision,
     kept: usize,
     buf: &mut [u8],
     named: &mut [u16],
     front: &mut [u32],
 ) -> usize
-    requires { Few incoming × (kept ≤ too_many) × RoomToUnite 2 buf.old × RoomToName words.now named.old }
-    ensures { NodeKept (table_of facts.now) words.now incoming kept buf.old front.old buf.new front.new result }
+    requires { Few incoming × (kept ≤ too_many) × RoomToUnite 2 buf.old × RoomToName walk.now.words.now named.old }
+    ensures { NodeKept (table_of walk.now.facts.now) walk.now.words.now incoming kept buf.old front.old buf.new front.new result }
 {
     if !incoming.permit {
         return kept;
     }
-    lay_node(words, facts, incoming, kept, buf, named, front)
+    lay_node(walk, incoming, kept, buf, named, front)
 }
 
-// What two outcomes come to: under All they meet, under Any they join. `every` says All; each definition of a list rule is told by that flag, so an enum
-// would be turned into it at each use.
-pub fn outcome_next(
+// What the outcomes of two decisions come to: under All they meet, under Any they join. `every` says All; each definition of a list rule is told by that
+// flag, so an enum would be turned into it at each use.
+fn outcome_next(
     every: bool,
-    sofar: u16,
-    incoming: u16,
+    sofar: Decision,
+    incoming: Decision,
     outcomes: Option<OutcomeTable<'_>>,
 ) -> u16
-    ensures { result ≡ fold_of every (carried outcomes.entry) sofar incoming }
+    ensures { result ≡ fold_of every (carried outcomes.entry) sofar.outcome incoming.outcome }
 {
-    let earlier = Products { bits: sofar };
-    let later = Products { bits: incoming };
+    let earlier = sofar.products();
+    let later = incoming.products();
     let both = if every {
         earlier.meet_by(later, outcomes)
     } else {
@@ -127,39 +124,36 @@ pub fn outcome_next(
     both.bits
 }
 
-// The decision so far and one more, under All or Any, whose outcomes come to `outcome`.
+// The decision so far, if there is one, and one more, under All or Any. It is compiled into the list rules: with a call for each arm, wide lists with their
+// permits first took 1.4 to 1.9 times as long. Beside evaluation's two folds, since an `Evaluation` bounds its words, and no function here asks for that.
+#[inline(always)]
 fn fold_next(
     words: &[u32],
-    outcome: u16,
+    outcomes: Option<OutcomeTable<'_>>,
     every: bool,
-    sofar: Decision,
-    begun: bool,
+    sofar: Option<Decision>,
     incoming: Decision,
     buf: &mut [u8],
 ) -> Decision
-    requires { Few sofar × Few incoming × RoomToUnite 2 buf.old }
-    ensures few { Few result }
-    ensures folds { (g : Option levels.OutcomeTable) → outcome ≡ fold_of every g sofar.outcome incoming.outcome → (every ≡ true → incoming.permit ≡ true) → Folds (fold_next every g begun) words.now sofar buf.old incoming (drop obligation_room buf.old) result buf.new }
+    requires { IfSome sofar Few × Few incoming × RoomToUnite 2 buf.old }
+    ensures { FoldsNext every (carried outcomes.entry) words.now sofar buf.old incoming result buf.new }
 {
-    if every {
-        return evaluate::met(words, outcome, sofar, incoming, buf);
+    match sofar {
+        None => decision::keep(incoming, buf),
+        Some(earlier) => {
+            let outcome = outcome_next(every, earlier, incoming, outcomes);
+            if every {
+                return evaluate::met(words, outcome, earlier, incoming, buf);
+            }
+            evaluate::joined(words, outcome, earlier, incoming, buf)
+        }
     }
-    evaluate::joined(words, outcome, sofar, begun, incoming, buf)
 }
 
-// How many arms are kept with one more that was resolved: only a permit is.
-fn arms_with(arms: u32, permit: bool) -> u32
-    requires { arms < 2 ^ count_bits }
-    ensures { result ≡ arms_with permit arms }
-{
-    if permit { arms + 1 } else { arms }
-}
-
-// One more arm that was resolved.
+// One more arm that was resolved: of a list with its permits first, only a permit is kept.
 pub fn with_decision(
-    words: &[u32],
-    facts: &[u8],
-    outcome: u16,
+    walk: &Walk<'_>,
+    outcomes: Option<OutcomeTable<'_>>,
     every: bool,
     sofar: Sofar,
     incoming: Decision,
@@ -167,25 +161,15 @@ pub fn with_decision(
     named: &mut [u16],
     front: &mut [u32],
 ) -> Sofar
-    requires { Bounded sofar × (sofar.arms < 2 ^ count_bits) × Few incoming × RoomToUnite 2 buf.old × RoomToName words.now named.old }
-    ensures { DecisionAdded every outcome (table_of facts.now) words.now sofar incoming buf.old front.old buf.new front.new result }
+    requires { Bounded sofar × (sofar.arms < 2 ^ count_bits) × Few incoming × RoomToUnite 2 buf.old × RoomToName walk.now.words.now named.old }
+    ensures { DecisionAdded every (carried outcomes.entry) (table_of walk.now.facts.now) walk.now.words.now sofar incoming buf.old front.old buf.new front.new result }
 {
-    let kept = keep_node(words, facts, incoming, sofar.kept, buf, named, front);
-    let decision = fold_next(
-        words,
-        outcome,
-        every,
-        sofar.decision,
-        sofar.begun,
-        incoming,
-        buf,
-    );
-    let arms = arms_with(sofar.arms, incoming.permit);
+    let kept = keep_node(walk, incoming, sofar.kept, buf, named, front);
+    let decision = fold_next(walk.words, outcomes, every, sofar.decision, incoming, buf);
     Sofar {
-        decision,
-        begun: true,
+        decision: Some(decision),
         kept,
-        arms,
+        arms: sofar.arms + incoming.permit as u32,
         ..sofar
     }
 }
@@ -205,9 +189,8 @@ pub fn with_pending(sofar: Sofar, size: usize) -> Sofar
 
 // One more arm of a list in sheet order that was resolved, whose node is laid behind the arms before it. Once an arm is pending the list has no decision.
 pub fn with_decision_in_order(
-    words: &[u32],
-    facts: &[u8],
-    outcome: u16,
+    walk: &Walk<'_>,
+    outcomes: Option<OutcomeTable<'_>>,
     every: bool,
     sofar: Sofar,
     incoming: Decision,
@@ -215,11 +198,10 @@ pub fn with_decision_in_order(
     named: &mut [u16],
     out: &mut [u32],
 ) -> Sofar
-    requires { Bounded sofar × (sofar.arms < 2 ^ count_bits) × Few incoming × RoomToUnite 2 buf.old × RoomToName words.now named.old }
-    ensures { DecisionHeld every outcome (table_of facts.now) words.now sofar incoming buf.old out.old buf.new out.new result }
+    requires { Bounded sofar × (sofar.arms < 2 ^ count_bits) × Few incoming × RoomToUnite 2 buf.old × RoomToName walk.now.words.now named.old }
+    ensures { DecisionHeld every (carried outcomes.entry) (table_of walk.now.facts.now) walk.now.words.now sofar incoming buf.old out.old buf.new out.new result }
 {
-    let decision = sofar.decision;
-    let size = lay_node(words, facts, incoming, sofar.size, buf, named, out);
+    let size = lay_node(walk, incoming, sofar.size, buf, named, out);
     let arms = sofar.arms + 1;
     if sofar.pending {
         return Sofar {
@@ -228,17 +210,16 @@ pub fn with_decision_in_order(
             ..sofar
         };
     }
-    let folded = fold_next(words, outcome, every, decision, sofar.begun, incoming, buf);
+    let decision = fold_next(walk.words, outcomes, every, sofar.decision, incoming, buf);
     Sofar {
-        decision: folded,
-        begun: true,
+        decision: Some(decision),
         size,
         arms,
         ..sofar
     }
 }
 
-// The lead of a list.
+// The lead of a list of policies; `partial_condition` has that of conditions, with their kinds.
 fn lead(every: bool, arms: u32) -> u32
     requires { arms ≤ 2 ^ count_bits }
     ensures { result ≡ word (list_kind every) arms }
@@ -251,22 +232,23 @@ fn lead(every: bool, arms: u32) -> u32
 
 // The nodes that a list with pending arms keeps: an Any without permits holds its first deny first.
 fn with_first_deny(
-    words: &[u32],
-    facts: &[u8],
+    walk: &Walk<'_>,
     every: bool,
     sofar: Sofar,
     buf: &mut [u8],
     named: &mut [u16],
     front: &mut [u32],
 ) -> Sofar
-    requires { Bounded sofar × (sofar.arms < 2 ^ count_bits) × RoomToUnite 1 buf.old × RoomToName words.now named.old }
-    ensures { NodesEnd every (table_of facts.now) words.now sofar buf.old front.old front.new result }
+    requires { Bounded sofar × (sofar.arms < 2 ^ count_bits) × RoomToUnite 1 buf.old × RoomToName walk.now.words.now named.old }
+    ensures { NodesEnd every (table_of walk.now.facts.now) walk.now.words.now sofar buf.old front.old front.new result }
 {
-    let decision = sofar.decision;
-    if every || !sofar.begun || decision.permit {
+    let Some(decision) = sofar.decision else {
+        return sofar;
+    };
+    if every || decision.permit {
         return sofar;
     }
-    let kept = residual::policy_from_decision(words, decision, facts, buf, named, front);
+    let kept = residual::policy_from_decision(walk, decision, buf, named, front);
     Sofar {
         kept,
         arms: sofar.arms + 1,
@@ -276,8 +258,7 @@ fn with_first_deny(
 
 // A list whose arms are all read: without pending arms it is resolved, else its nodes are put before them.
 pub fn end_list(
-    words: &[u32],
-    facts: &[u8],
+    walk: &Walk<'_>,
     every: bool,
     sofar: Sofar,
     buf: &mut [u8],
@@ -285,25 +266,27 @@ pub fn end_list(
     front: &mut [u32],
     out: &mut [u32],
 ) -> Reduced
-    requires { Bounded sofar × (sofar.arms < 2 ^ count_bits) × RoomToUnite 1 buf.old × RoomToName words.now named.old }
-    ensures { ListEnds every (table_of facts.now) words.now sofar buf.old front.old out.old buf.new out.new result }
+    requires { Bounded sofar × (sofar.arms < 2 ^ count_bits) × RoomToUnite 1 buf.old × RoomToName walk.now.words.now named.old }
+    ensures { ListEnds every (table_of walk.now.facts.now) walk.now.words.now sofar buf.old front.old out.old buf.new out.new result }
 {
     if !sofar.pending {
-        return Reduced::Resolved(sofar.decision);
+        let without_arms = decision::denied(walk.words.len());
+        return Reduced::Resolved(sofar.decision.unwrap_or(without_arms));
     }
-    let whole = with_first_deny(words, facts, every, sofar, buf, named, front);
+    let whole = with_first_deny(walk, every, sofar, buf, named, front);
     let first = lead(every, whole.arms);
     let size = residual::put_list(first, front, whole.kept, out, whole.size);
     Reduced::Pending(size)
 }
 
-// A list in sheet order whose arms are all read: without pending arms it is resolved, else its lead is put before them.
-pub fn end_in_order(every: bool, sofar: Sofar, out: &mut [u32]) -> Reduced
+// A list in sheet order whose arms are all read: without pending arms it is resolved, else its lead is put before them. `end` is the number of words.
+pub fn end_in_order(end: usize, every: bool, sofar: Sofar, out: &mut [u32]) -> Reduced
     requires { Bounded sofar × (sofar.arms ≤ 2 ^ count_bits) }
-    ensures { (T : Table) (W buf : List ℕ) → OrderEnds every T W sofar buf out.old out.new result }
+    ensures { (T : Table) (W buf : List ℕ) → OrderEnds every end T W sofar buf out.old out.new result }
 {
     if !sofar.pending {
-        return Reduced::Resolved(sofar.decision);
+        let without_arms = decision::denied(end);
+        return Reduced::Resolved(sofar.decision.unwrap_or(without_arms));
     }
     partial_condition::put_first(lead(every, sofar.arms), out);
     Reduced::Pending(sofar.size)

@@ -1,7 +1,8 @@
 -- A list rule by its first arm and the others, and an OrElse by its two policies. Assumes nothing.
-use mathlib.Core.Path.{◌≡◌, refl, sym, ◌∙◌, ap, ap₂, subst}
+use mathlib.Core.Path.{◌≡◌, refl, sym, ◌∙◌, ap, subst}
 use mathlib.Core.Bool.{Bool, true, false, not, ◌&&◌}
 use mathlib.Core.Option.{Option, none}
+use Rattle.std.specs.Prelude.{None}
 use mathlib.Core.List.{List, [], ◌∷◌, ◌++◌, append-nil}
 use Prim.Native.Nat.{ℕ, ◌+◌, ◌-◌, ◌≤◌, ◌<◌, min}
 use native.Mathlib.Omega.{arith}
@@ -9,7 +10,7 @@ use lib.ListN.{length, take, drop, get_or, length-append, length-take, length-dr
 use lib.Seq.{drop-drop, drop_at, length-take-le}
 use Rattle.model.specs.Facts.{Table}
 use Rattle.model.specs.Levels.{OutcomeTable}
-use Rattle.model.specs.Decision.{permits, denies, generic_deny}
+use Rattle.model.specs.Decision.{permits, denies}
 use Rattle.model.specs.Decision.{Decision as Decided}
 use Rattle.model.specs.Policy.{Policy, or_else, Policies, pnil, pcons}
 use Rattle.model.specs.Partial.{resolved, pending, Order, permits_first, AllWalk, stop, go, walked_all, AnyWalk, parts, walked_any, reduce_or_else}
@@ -26,12 +27,9 @@ use Rattle.policy_model.specs.Span.{Skipped}
 use Rattle.policy_model.proofs.Policies.{policy_leaves}
 use Rattle.consulted.specs.Listing.{Lent}
 use Rattle.consulted.proofs.Listing.{consults_none, consults_then, consults_as}
-use Rattle.decision.specs.Meaning.{decision_of, past}
-use Rattle.decision.proofs.Standing.{denied_is, sound_denied}
-use Rattle.decision.proofs.Buffers.{same_decision, same_sound, deny_decision, deny_sound, lent_front, lent_back}
-use Rattle.evaluate.proofs.Folds.{lent_folds}
-use Rattle.evaluate.proofs.Nodes.{node_holds}
-use Rattle.evaluate.proofs.Arms.{decides, decides_as, arms_more, skipped, one_passed}
+use Rattle.decision.proofs.Buffers.{deny_decision, deny_sound}
+use Rattle.evaluate.proofs.Nodes.{node_holds, skipped, one_passed}
+use Rattle.evaluate.proofs.Arms.{decides, decides_as, arms_more}
 use Rattle.sizes.specs.Laid.{capped, Laid}
 use Rattle.sizes.specs.LaidLaws.{laid_as, laid_none}
 use Rattle.residual.specs.Weight.{weight_d, weight, weights}
@@ -40,13 +38,13 @@ use Rattle.partial_list.specs.declared.Reduced.{Reduced}
 use Rattle.partial_list.specs.declared.Reduced.TheVariants.{Resolved, Pending}
 use Rattle.partial_list.specs.declared.ReducedPolicy.{ReducedPolicy}
 use Rattle.partial_list.specs.declared.Sofar.{Sofar}
-use Rattle.partial_list.specs.Keeping.{Walked, walked, append, with_arm, stops, then_all, then_any, left_of, read_of, list_of, as_decisions, sofar_value, fold_of, fold_next, is_open, arms_with, end_of, weights_d, encodes_d}
-use Rattle.partial_list.specs.KeepingLaws.{left_more, read_more, left_stop, read_stop, read_none, read_start, value_more, begun_more, open_more, left_none, end_none, end_some, nodes_more, node_words_more, node_count_more, pend_more, pend_words_more, pend_count_more}
+use Rattle.partial_list.specs.Keeping.{Walked, walked, append, with_arm, stops, then_all, then_any, left_of, read_of, list_of, as_decisions, sofar_value, is_open, arms_with, end_of, weights_d, encodes_d}
+use Rattle.partial_list.specs.KeepingLaws.{left_more, read_more, left_stop, read_stop, read_none, read_start, value_more, open_more, left_none, end_none, end_some, nodes_more, node_words_more, node_count_more, pend_more, pend_words_more, pend_count_more}
 use Rattle.partial_list.specs.Within.{LaidWithin}
 use Rattle.partial_list.specs.WithinLaws.{within, within_less, within_as, within_then, within_still, laid_still}
-use Rattle.partial_list.specs.Answers.{resolved_to, Resolves, Result, Fit, none_yet, with_pending, Bounded, SofarIs, DecisionAdded, ListEnds}
+use Rattle.partial_list.specs.Answers.{resolved_to, Resolves, Decides, Result, Fit, none_yet, with_pending, Bounded, SofarIs, DecisionAdded, ListEnds}
 use Rattle.partial_policy.specs.Reducing.{ReducedTo, ReducesP, ReducesBy, list_head, OrElsePut}
-use Rattle.partial_list.proofs.Adding.{clash}
+use Rattle.partial_list.proofs.Adding.{clash, lent_decides, lent_resolves, resolves_or_denied}
 use Rattle.decision.specs.Room.{obligation_room}
 
 -- ---- what comes back of a slice whose tail was lent
@@ -89,17 +87,15 @@ value_open false g k q = refl
 module _ (every : Bool) (g : Option OutcomeTable) (T : Table) (W : List ℕ) (v : Sofar) (buf part front fpart out opart : List ℕ) (behind from room : ℕ)
     (f : behind ≡ min v.kept (length front)) (o : from ≡ min v.size (length out)) (bounds : Bounded v) (wide : obligation_room ≤ length buf)
     (long : length fpart ≡ length front - behind) (rooms : room ≡ length front - behind) (olong : length opart ≡ length out - from) where
-  abbrev bytes : take v.decision.united (back obligation_room buf part) ≡ take v.decision.united buf
-  bytes = lent_front buf part (drop (length buf - obligation_room) (drop obligation_room buf)) wide v.decision.united bounds.few
+  abbrev beyond : List ℕ
+  beyond = drop (length buf - obligation_room) (drop obligation_room buf)
 
   -- What was kept so far, with one arm more: a pending one,
   pub sofar_open : (n : ℕ) (k : Walked) (x : model.ReducedPolicy Outcome) → SofarIs every g T W k v buf front out → Result x T W part room opart (Pending n) →
       SofarIs every g T W (with_arm k x) (with_pending v n) (back obligation_room buf part) (back behind front fpart) (back from out opart)
   sofar_open n k (resolved D) s x = absurd x
   sofar_open n k (pending q) s x = record {
-    sound = same_sound W buf (back obligation_room buf part) v.decision bytes s.sound;
-    decision_is = same_decision W buf (back obligation_room buf part) v.decision bytes T ∙ s.decision_is ∙ value_open every g k q;
-    begun_is = s.begun_is;
+    decided = lent_decides T W buf part beyond v.decision (sofar_value every g (with_arm k (pending q))) wide bounds.few (subst (Decides T W buf v.decision) (value_open every g k q) s.decided);
     nodes = laid_still fpart s.nodes f long;
     free = s.free;
     left = within_as (let z : 1 + weights k.pend + weight q ≡ 1 + weights (append k.pend (pcons q pnil)) = omega (arith, pend_more k.pend q) in z)
@@ -110,23 +106,17 @@ module _ (every : Bool) (g : Option OutcomeTable) (T : Table) (W : List ℕ) (v 
   }
 
   -- or a resolved one.
-  module _ (d : Decision) (outcome : ℕ) (buf' front' : List ℕ) (v' : Sofar) (is : outcome ≡ fold_of every g v.decision.outcome d.outcome)
-      (added : DecisionAdded every outcome T W v d (back obligation_room buf part) (back behind front fpart) buf' front' v') (few : d.united ≤ length part) where
+  module _ (d : Decision) (buf' front' : List ℕ) (v' : Sofar)
+      (added : DecisionAdded every g T W v d (back obligation_room buf part) (back behind front fpart) buf' front' v') (few : d.united ≤ length part) where
     known_more_arm : (k : Walked) (D : Decided Outcome) → SofarIs every g T W k v buf front out → Resolves T W D part d → stops every (resolved D) ≡ false → length front' ≡ length front →
         Laid (weights_d (as_decisions (with_arm k (resolved D)).permitted)) (encodes_d (as_decisions (with_arm k (resolved D)).permitted)) front' v'.kept →
         v'.arms ≡ length (as_decisions (with_arm k (resolved D)).permitted) + count k.pend →
         (every ≡ true → d.permit ≡ true) → (with_arm k (resolved D)).pend ≡ k.pend →
         SofarIs every g T W (with_arm k (resolved D)) v' buf' front' (back from out opart)
     known_more_arm k D s x e flong nodes arms q p =
-        let folds = lent_folds W buf part (drop (length buf - obligation_room) (drop obligation_room buf)) buf' v.decision d v'.decision wide bounds.few few (fold_next every g v.begun) (added.folds g is q) in
         record {
-          sound = folds.sound s.sound x.sound;
-          decision_is =
-              folds.folded s.sound x.sound T
-              ∙ ap₂ (fold_next every g v.begun) s.decision_is x.decision_is
-              ∙ ap (λ b. fold_next every g b (sofar_value every g k) D) s.begun_is
-              ∙ value_more every g k D e;
-          begun_is = added.begun_is ∙ sym (begun_more k D);
+          decided = subst (Decides T W buf' v'.decision) (value_more every g k D e)
+              (added.folds T (sofar_value every g k) D (lent_decides T W buf part beyond v.decision (sofar_value every g k) wide bounds.few s.decided) (lent_resolves buf part beyond wide few x) q);
           nodes = nodes;
           free = s.free;
           left = rw (p, added.size_is) (within_less (omega (arith, added.more)) (within_still opart s.left o olong));
@@ -138,11 +128,11 @@ module _ (every : Bool) (g : Option OutcomeTable) (T : Table) (W : List ℕ) (v 
         SofarIs every g T W (with_arm k (resolved (permits p))) v' buf' front' (back from out opart)
     permit_arm k p s x flong =
         let permit = decided_as T W part d (permits p) x in
-        let tail = lent_back buf part (drop (length buf - obligation_room) (drop obligation_room buf)) wide d.united few in
-        let D : decision_of W T (drop obligation_room (back obligation_room buf part)) d ≡ permits p = same_decision W part (drop obligation_room (back obligation_room buf part)) d tail T ∙ x.decision_is in
+        let y = lent_resolves buf part beyond wide few x in
+        let D = y.decision_is in
         known_more_arm k (permits p) s x (no_stop every p) flong
         (laid_as (ap (λ y. weights_d (as_decisions k.permitted) + weight_d y) D ∙ sym (nodes_more k.permitted p)) (ap (λ y. encodes_d (as_decisions k.permitted) ++ encode_d y) D ∙ sym (node_words_more k.permitted p))
-        (added.node permit (weights_d (as_decisions k.permitted)) (encodes_d (as_decisions k.permitted)) (same_sound W part (drop obligation_room (back obligation_room buf part)) d tail x.sound) (laid_still fpart s.nodes f long)))
+        (added.node permit (weights_d (as_decisions k.permitted)) (encodes_d (as_decisions k.permitted)) y.sound (laid_still fpart s.nodes f long)))
         (omega (arith, added.arms_are, ap (λ b. arms_with b v.arms) permit, s.arms_are, node_count_more k.permitted p)) (λ _. permit) refl
       where
         no_stop : (b : Bool) (p : _) → stops b (resolved (permits p)) ≡ false
@@ -247,7 +237,7 @@ ended_as every g P W v buf front out buf' out' r k true p s e =
 ended_as every g P W v buf front out buf' out' r k false p s e =
     let is = e.resolved_is p in
     subst (λ y. Result y P W buf' (length front) out' r) (sym (end_none every g P k (sym s.pending_is ∙ p)))
-    (rw (is.0, is.1) (record { decision_is = s.decision_is; sound = s.sound }))
+    (rw (is.0, is.1) (resolves_or_denied P W buf (length W) v.decision (sofar_value every g k) (omega arith) s.decided))
 
 pub arms_end : (every : Bool) (g : Option OutcomeTable) (P : Table) (W : List ℕ) (v : Sofar) (buf front out : List ℕ) (at depth arms : ℕ) (s : Lent) (r : Reduced) (buf' out' : List ℕ) → arms ≡ 0 →
     ListEnds every P W v buf front out buf' out' r → ArmsLeft every g P W v buf front out at depth arms s (record { to = r; next = at }) s buf' out'
@@ -281,21 +271,19 @@ pub start_words : (every : Bool) (ts : Policies Outcome) → words (list_of ever
 start_words true ts = refl
 start_words false ts = refl
 
-start_value : (every : Bool) (g : Option OutcomeTable) → sofar_value every g (walked [] none pnil) ≡ denies generic_deny
-start_value true g = refl
-start_value false g = refl
+start_decides : (every : Bool) (g : Option OutcomeTable) (T : Table) (W buf : List ℕ) → Decides T W buf None (sofar_value every g (walked [] none pnil))
+start_decides true g T W buf = tt
+start_decides false g T W buf = tt
 
 pub list_reads : (every : Bool) (pc : _) (p : List ℕ → Parsed (Policy Outcome)) (n : ℕ) (ws : List ℕ) → policy_node pc p (list_head every n) ws ≡ next (many pnil pcons p n ws) (λ ts vs. got (list_of every ts) vs)
 unfolding policy_node
 list_reads true pc p n ws = refl
 list_reads false pc p n ws = refl
 
-module _ (every : Bool) (g : Option OutcomeTable) (P : Table) (W : List ℕ) (at depth n : ℕ) (s : Lent) (r : ReducedPolicy) (t : Lent) (buf front out buf' out' : List ℕ) (end : ℕ) (is : end ≡ length W) (lt : at < length W) where
-  none_kept : SofarIs every g P W (walked [] none pnil) (none_yet end) buf front out
+module _ (every : Bool) (g : Option OutcomeTable) (P : Table) (W : List ℕ) (at depth n : ℕ) (s : Lent) (r : ReducedPolicy) (t : Lent) (buf front out buf' out' : List ℕ) (lt : at < length W) where
+  none_kept : SofarIs every g P W (walked [] none pnil) none_yet buf front out
   none_kept = record {
-    sound = sound_denied W buf end end (past (omega arith)) (omega arith);
-    decision_is = denied_is W P buf end (omega arith) ∙ sym (start_value every g);
-    begun_is = refl;
+    decided = start_decides every g P W buf;
     nodes = laid_none front;
     free = get_or out 0 0;
     left = first_word out;
@@ -303,7 +291,7 @@ module _ (every : Bool) (g : Option OutcomeTable) (P : Table) (W : List ℕ) (at
     pending_is = refl;
   }
 
-  pub list_node_lem : ArmsLeft every g P W (none_yet end) buf front out (at + 1) depth n s r t buf' out' → ReducesBy g permits_first (list_head every n) P W at depth s r t buf' (length front) out'
+  pub list_node_lem : ArmsLeft every g P W none_yet buf front out (at + 1) depth n s r t buf' out' → ReducesBy g permits_first (list_head every n) P W at depth s r t buf' (length front) out'
   list_node_lem a = record {
     fit = a.fit;
     says = λ e. node_holds W at depth (list_head every n) lt e (rw (list_reads every _ (read_policy true depth) n (drop (at + 1) W))
@@ -320,13 +308,27 @@ pub record Going (Left Whole : ReducedPolicy → Lent → List ℕ → List ℕ 
   pub arms_left : v.arms + left ≤ arms
   pub goes : (r : ReducedPolicy) (t : Lent) (buf' out' : List ℕ) → Left r t buf' out' → Whole r t buf' out'
 
+-- Before the first arm,
+pub going_first : {Left Whole : ReducedPolicy → Lent → List ℕ → List ℕ → Type 0} {arms : ℕ} (left : ℕ) → left ≤ arms → ((r : ReducedPolicy) (t : Lent) (buf' out' : List ℕ) → Left r t buf' out' → Whole r t buf' out') → Going Left Whole none_yet arms left
+going_first left h f = record { bounds = record { few = tt; kept_most = omega arith; size_most = omega arith; size_some = omega arith }; arms_left = omega arith; goes = f }
+
+-- after a pending one,
+pub going_open : {Left Left' Whole : ReducedPolicy → Lent → List ℕ → List ℕ → Type 0} {v : Sofar} {arms left : ℕ} (n : ℕ) → Going Left Whole v arms left → (left ≡ 0 → ⊥) → ((r : ReducedPolicy) (t : Lent) (buf' out' : List ℕ) → Left' r t buf' out' → Left r t buf' out') →
+    Going Left' Whole (with_pending v n) arms (left - 1)
+going_open n g some f = record {
+  bounds = record { few = g.bounds.few; kept_most = g.bounds.kept_most; size_most = omega arith; size_some = omega (arith, g.bounds.size_some) };
+  arms_left = omega (arith, g.arms_left);
+  goes = λ r t buf out e. g.goes r t buf out (f r t buf out e);
+}
+
+-- and after a resolved one, which has been bounded.
+pub going_known : {Left Left' Whole : ReducedPolicy → Lent → List ℕ → List ℕ → Type 0} {v v' : Sofar} {arms left : ℕ} → Going Left Whole v arms left → (left ≡ 0 → ⊥) → Bounded v' → v'.arms ≤ v.arms + 1 → ((r : ReducedPolicy) (t : Lent) (buf' out' : List ℕ) → Left' r t buf' out' → Left r t buf' out') →
+    Going Left' Whole v' arms (left - 1)
+going_known g some b more f = record { bounds = b; arms_left = omega (arith, g.arms_left); goes = λ r t buf out e. g.goes r t buf out (f r t buf out e) }
+
 pub arms_with_most : (permit : Bool) (n : ℕ) → arms_with permit n ≤ n + 1
 arms_with_most true n = omega arith
 arms_with_most false n = omega arith
-
--- A pending arm leaves the bounds.
-pub bounded_open : {v : Sofar} (n : ℕ) → Bounded v → Bounded (with_pending v n)
-bounded_open n b = record { few = b.few; kept_most = b.kept_most; size_most = omega arith; size_some = omega (arith, b.size_some) }
 
 -- ---- OrElse
 module _ {g : Option OutcomeTable} {order : Order} (P : Table) (W : List ℕ) (at depth : ℕ) (s m : Lent) (a : ReducedPolicy) (mid : List ℕ) (room : ℕ) (opart : List ℕ) (lt : at < length W) (first : ReducesP g order P W (at + 1) depth s a m mid room opart) where
@@ -375,7 +377,7 @@ module _ {g : Option OutcomeTable} {order : Order} (P : Table) (W : List ℕ) (a
           next_is = omega (arith, h.next_is, i);
           log = consults_as (λ l. permits_read (reduce_policy g order P x) (walk g order P x l) (walk g order P y (walk g order P x l)) result q) h.log;
         })
-        (one_passed a.next end (one (drop a.next W)) (skipped wordss a.next end (many pnil pcons one 1 (drop a.next W)) (k depth true))))
+        (one_passed a.next end (one (drop a.next W)) (k depth true)))
 
     -- After a resolved deny the fallback is the answer.
     denies_first : (b : Reduced) (buf : List ℕ) (x y : model.ReducedPolicy Outcome) (n : ℕ) (out : List ℕ) → First x → d.permit ≡ false → Result y P W buf n out b → Result (reduce_or_else x y) P W buf n out b

@@ -1,5 +1,5 @@
 -- The list rule in sheet order by its first arm and the others. Assumes nothing.
-use mathlib.Core.Path.{◌≡◌, refl, sym, ◌∙◌, ap, ap₂, subst}
+use mathlib.Core.Path.{◌≡◌, refl, sym, ◌∙◌, ap, subst}
 use mathlib.Core.Bool.{Bool, true, false}
 use mathlib.Core.Option.{Option}
 use mathlib.Core.List.{List, [], ◌∷◌, ◌++◌}
@@ -9,7 +9,7 @@ use lib.ListN.{length, drop, get_or}
 use lib.Seq.{drop-drop}
 use Rattle.model.specs.Facts.{Table}
 use Rattle.model.specs.Levels.{OutcomeTable}
-use Rattle.model.specs.Decision.{permits, denies, generic_deny}
+use Rattle.model.specs.Decision.{permits, denies}
 use Rattle.model.specs.Decision.{Decision as Decided}
 use Rattle.model.specs.Policy.{Policy, Policies, pnil, pcons}
 use Rattle.model.specs.Partial.{resolved, pending, sheet_order, in_order, any_pending}
@@ -22,14 +22,12 @@ use Rattle.policy_model.specs.Span.{Skipped}
 use Rattle.policy_model.proofs.Policies.{policy_leaves}
 use Rattle.consulted.specs.Listing.{Lent}
 use Rattle.consulted.proofs.Listing.{consults_none, consults_then, consults_as}
-use Rattle.decision.specs.Meaning.{decision_of, past, Sound}
+use Rattle.decision.specs.Meaning.{decision_of}
 use Rattle.decision.specs.Room.{obligation_room}
-use Rattle.decision.proofs.Standing.{denied_is, sound_denied}
-use Rattle.decision.proofs.Buffers.{same_decision, same_sound, deny_decision, deny_sound, lent_back}
-use Rattle.evaluate.specs.Evaluating.{Folds}
-use Rattle.evaluate.proofs.Folds.{lent_folds}
-use Rattle.evaluate.proofs.Nodes.{node_holds}
-use Rattle.evaluate.proofs.Arms.{decides, arms_more, skipped}
+use Rattle.decision.proofs.Buffers.{deny_decision, deny_sound}
+use Rattle.evaluate.specs.Folding.{or_denied}
+use Rattle.evaluate.proofs.Nodes.{node_holds, skipped}
+use Rattle.evaluate.proofs.Arms.{decides, arms_more}
 use Rattle.sizes.specs.Laid.{capped}
 use Rattle.sizes.specs.LaidLaws.{laid_as}
 use Rattle.residual.specs.Weight.{weight_d, weight, weights}
@@ -38,15 +36,15 @@ use Rattle.partial_list.specs.declared.Reduced.{Reduced}
 use Rattle.partial_list.specs.declared.Reduced.TheVariants.{Resolved, Pending}
 use Rattle.partial_list.specs.declared.ReducedPolicy.{ReducedPolicy}
 use Rattle.partial_list.specs.declared.Sofar.{Sofar}
-use Rattle.partial_list.specs.Keeping.{stops, list_of, fold_of, fold_next, read_of}
+use Rattle.partial_list.specs.Keeping.{stops, list_of, read_of}
 use Rattle.partial_list.specs.KeepingLaws.{read_more, read_stop, read_none, read_start}
 use Rattle.partial_list.specs.Holding.{left_of, value_of, NoDeny}
-use Rattle.partial_list.specs.HoldingLaws.{left_start, left_more, left_last, left_none, end_pending, end_value, value_more, value_last, pending_more, pending_open, weights_more, words_more, count_more, going_more, begun_more}
+use Rattle.partial_list.specs.HoldingLaws.{left_start, left_more, left_last, left_none, end_pending, end_value, value_more, value_last, pending_more, pending_open, weights_more, words_more, count_more, going_more}
 use Rattle.partial_list.specs.WithinLaws.{within_as, within_then, within_still}
-use Rattle.partial_list.specs.Answers.{resolved_to, Resolves, Result, Fit, none_yet, with_pending, Bounded}
+use Rattle.partial_list.specs.Answers.{resolved_to, Resolves, Decides, Result, Fit, none_yet, with_pending, Bounded}
 use Rattle.partial_policy.specs.Reducing.{ReducedTo, ReducesP, ReducesBy, list_head}
 use Rattle.partial_list.specs.InOrder.{InOrderIs, DecisionHeld, OrderEnds}
-use Rattle.partial_list.proofs.Adding.{clash}
+use Rattle.partial_list.proofs.Adding.{clash, lent_decides, lent_resolves, resolves_or_denied}
 use Rattle.partial_policy.proofs.Arms.{back, decided_as, stops_list, settled_as, first_word, list_reads, start_words}
 
 -- ---- one more arm
@@ -58,9 +56,7 @@ module _ (every : Bool) (g : Option OutcomeTable) (T : Table) (W : List ℕ) (v 
   order_open n k (resolved D) s x = absurd x
   order_open n k (pending q) s x = record {
     pending_is = sym (pending_open k q);
-    begun_is = λ w. clash (any_pending (k ++ pending q ∷ [])) (pending_open k q) w;
-    sound = λ w. clash (any_pending (k ++ pending q ∷ [])) (pending_open k q) w;
-    decision_is = λ w. clash (any_pending (k ++ pending q ∷ [])) (pending_open k q) w;
+    decided = λ w. clash (any_pending (k ++ pending q ∷ [])) (pending_open k q) w;
     free = s.free;
     left = within_as (let z : 1 + weights (in_order k) + weight q ≡ 1 + weights (in_order (k ++ pending q ∷ [])) = omega (arith, weights_more k (pending q)) in z)
         (ap (λ us. s.free ∷ us) (sym (words_more k (pending q)))) (within_then s.left x o olong refl);
@@ -68,36 +64,29 @@ module _ (every : Bool) (g : Option OutcomeTable) (T : Table) (W : List ℕ) (v 
   }
 
   -- or a resolved one.
-  module _ (d : Decision) (outcome : ℕ) (buf' out' : List ℕ) (v' : Sofar) (is : outcome ≡ fold_of every g v.decision.outcome d.outcome)
-      (h : DecisionHeld every outcome T W v d (back obligation_room buf part) (back from out opart) buf' out' v') (few : d.united ≤ length part) where
+  module _ (d : Decision) (buf' out' : List ℕ) (v' : Sofar)
+      (h : DecisionHeld every g T W v d (back obligation_room buf part) (back from out opart) buf' out' v') (few : d.united ≤ length part) where
     known_more : (k : List (model.ReducedPolicy Outcome)) (D : Decided Outcome) → InOrderIs every g T W k v buf room out → Resolves T W D part d → (any_pending k ≡ false → NoDeny every k × (stops every (resolved D) ≡ false)) →
         InOrderIs every g T W (k ++ resolved D ∷ []) v' buf' room out'
     known_more k D s x going =
         let rest = drop (length buf - obligation_room) (drop obligation_room buf) in
-        let tail = lent_back buf part rest wide d.united few in
-        let same : decision_of W T (drop obligation_room (back obligation_room buf part)) d ≡ D = same_decision W part (drop obligation_room (back obligation_room buf part)) d tail T ∙ x.decision_is in
-        let sound : Sound W (drop obligation_room (back obligation_room buf part)) d = same_sound W part (drop obligation_room (back obligation_room buf part)) d tail x.sound in
+        let y = lent_resolves buf part rest wide few x in
+        let same : decision_of W T (drop obligation_room (back obligation_room buf part)) d ≡ D = y.decision_is in
         let before : any_pending (k ++ resolved D ∷ []) ≡ false → any_pending k ≡ false = λ w. sym (pending_more k D) ∙ w in
         let permit : stops every (resolved D) ≡ false → every ≡ true → d.permit ≡ true = λ e t. decided_as T W part d D x ∙ no_stop D (sym (ap (λ b. stops b (resolved D)) t) ∙ e) in
-        let folds : (w : any_pending k ≡ false) → Folds (fold_next every g v.begun) W v.decision buf d part v'.decision buf' = λ w.
-        lent_folds W buf part rest buf' v.decision d v'.decision wide bounds.few few (fold_next every g v.begun) (h.folds (s.pending_is ∙ w) g is (permit (going w).1)) in
-        let size : v'.size ≡ capped (1 + weights (in_order (k ++ resolved D ∷ []))) = omega (arith, h.size_is sound, ap weight_d same, s.left.size_is, weights_more k (resolved D)) in
+        let size : v'.size ≡ capped (1 + weights (in_order (k ++ resolved D ∷ []))) = omega (arith, h.size_is y.sound, ap weight_d same, s.left.size_is, weights_more k (resolved D)) in
         record {
           pending_is = h.pending_is ∙ s.pending_is ∙ sym (pending_more k D);
-          begun_is = λ w. h.begun_is (s.pending_is ∙ before w) ∙ sym (begun_more k (resolved D));
-          sound = λ w. (folds (before w)).sound (s.sound (before w)) x.sound;
-          decision_is = λ w.
+          decided = λ w.
               let z = before w in
-              (folds z).folded (s.sound z) x.sound T
-              ∙ ap₂ (fold_next every g v.begun) (s.decision_is z) x.decision_is
-              ∙ ap (λ b. fold_next every g b (value_of every g k) D) (s.begun_is z)
-              ∙ value_more every g k D (going z).0 z;
+              subst (Decides T W buf' v'.decision) (value_more every g k D (going z).0 z)
+              (h.folds (s.pending_is ∙ z) T (value_of every g k) D (lent_decides T W buf part rest v.decision (value_of every g k) wide bounds.few (s.decided z)) y (permit (going z).1));
           free = s.free;
           left = record {
             size_is = size;
             laid = λ fits. laid_as (let z : 1 + weights (in_order k) + weight_d (decision_of W T (drop obligation_room (back obligation_room buf part)) d) ≡ 1 + weights (in_order (k ++ resolved D ∷ [])) = omega (arith, ap weight_d same, weights_more k (resolved D)) in z)
                 (ap (λ e. s.free ∷ (encodes (in_order k) ++ encode_d e)) same ∙ ap (λ us. s.free ∷ us) (sym (words_more k (resolved D))))
-                (h.node (1 + weights (in_order k)) (s.free ∷ encodes (in_order k)) sound ((within_still opart s.left o olong).laid (omega (arith, h.more))));
+                (h.node (1 + weights (in_order k)) (s.free ∷ encodes (in_order k)) y.sound ((within_still opart s.left o olong).laid (omega (arith, h.more))));
           };
           arms_are = omega (arith, h.arms_are, s.arms_are, count_more k (resolved D));
         }
@@ -187,7 +176,7 @@ module _ (every : Bool) (g : Option OutcomeTable) (P : Table) (W : List ℕ) (de
   answers_with true k (resolved (permits p)) n w h q = clash true refl (sym q)
   answers_with true k (resolved (denies c)) n w h q =
       let denied = decided_as P W part d (denies c) h in
-      subst (λ y. Result y P W mid room out' (Resolved d)) (sym (end_value true g P (k ++ resolved (denies c) ∷ []) (pending_more k (denies c) ∙ w) ∙ ap resolved (value_last g k c n w)))
+      subst (λ y. Result y P W mid room out' (Resolved d)) (sym (end_value true g P (k ++ resolved (denies c) ∷ []) (pending_more k (denies c) ∙ w) ∙ ap (λ x. resolved (or_denied x)) (value_last g k c n w)))
       (record {
         decision_is = deny_decision W part mid d denied h.sound P ∙ h.decision_is;
         sound = deny_sound W part mid d denied h.sound;
@@ -204,7 +193,7 @@ module _ (every : Bool) (g : Option OutcomeTable) (P : Table) (W : List ℕ) (de
 
   pub held_last : (v' : Sofar) (omid : List ℕ) (r : Reduced) → v.pending ≡ true →
       ((k : List (model.ReducedPolicy Outcome)) (x : model.ReducedPolicy Outcome) → InOrderIs every g P W k v buf room out → Last x → (any_pending k ≡ false → NoDeny every k × (stops every x ≡ false)) → InOrderIs every g P W (k ++ x ∷ []) v' mid room omid) →
-      OrderEnds every P W v' mid omid out' r → HeldLeft every g P W v buf room out at depth arms s (record { to = r; next = end }) m mid out'
+      OrderEnds every (length W) P W v' mid omid out' r → HeldLeft every g P W v buf room out at depth arms s (record { to = r; next = end }) m mid out'
   held_last v' omid r p more ends =
       held_by_lem r ends.fit (λ k x n z h stop-here.
       let w : any_pending k ≡ true = sym z.pending_is ∙ p in
@@ -214,15 +203,15 @@ module _ (every : Bool) (g : Option OutcomeTable) (P : Table) (W : List ℕ) (de
 
 -- No arm is left.
 ended_as : (every : Bool) (g : Option OutcomeTable) (P : Table) (W : List ℕ) (v : Sofar) (buf out out' : List ℕ) (room : ℕ) (r : Reduced) (k : List (model.ReducedPolicy Outcome)) (b : Bool) → v.pending ≡ b → InOrderIs every g P W k v buf room out →
-    OrderEnds every P W v buf out out' r → Result (end_in_order g (list_of every) P k) P W buf room out' r
+    OrderEnds every (length W) P W v buf out out' r → Result (end_in_order g (list_of every) P k) P W buf room out' r
 ended_as every g P W v buf out out' room r k true p s e =
     subst (λ y. Result y P W buf room out' r) (sym (end_pending every g P k (sym s.pending_is ∙ p))) (e.pending_is p g k room s)
 ended_as every g P W v buf out out' room r k false p s e =
     let w = sym s.pending_is ∙ p in
-    subst (λ y. Result y P W buf room out' r) (sym (end_value every g P k w)) (rw (e.resolved_is p) (record { decision_is = s.decision_is w; sound = s.sound w }))
+    subst (λ y. Result y P W buf room out' r) (sym (end_value every g P k w)) (rw (e.resolved_is p) (resolves_or_denied P W buf (length W) v.decision (value_of every g k) (omega arith) (s.decided w)))
 
 pub held_end : (every : Bool) (g : Option OutcomeTable) (P : Table) (W : List ℕ) (v : Sofar) (buf : List ℕ) (room : ℕ) (out : List ℕ) (at depth arms : ℕ) (s : Lent) (r : Reduced) (out' : List ℕ) → arms ≡ 0 →
-    OrderEnds every P W v buf out out' r → HeldLeft every g P W v buf room out at depth arms s (record { to = r; next = at }) s buf out'
+    OrderEnds every (length W) P W v buf out out' r → HeldLeft every g P W v buf room out at depth arms s (record { to = r; next = at }) s buf out'
 held_end every g P W v buf room out at depth arms s r out' z e =
     rw z (record {
       fit = e.fit;
@@ -234,27 +223,21 @@ held_end every g P W v buf room out at depth arms s r out' z e =
     })
 
 -- ---- the node that has the arms
-start_value : (every : Bool) (g : Option OutcomeTable) → value_of every g [] ≡ denies generic_deny
-start_value true g = refl
-start_value false g = refl
-
 start_going : (every : Bool) → NoDeny every []
 start_going true = tt
 start_going false = tt
 
-module _ (every : Bool) (g : Option OutcomeTable) (P : Table) (W : List ℕ) (at depth n : ℕ) (s : Lent) (r : ReducedPolicy) (t : Lent) (buf : List ℕ) (room : ℕ) (out buf' out' : List ℕ) (end : ℕ) (is : end ≡ length W) (lt : at < length W) where
-  none_held : InOrderIs every g P W [] (none_yet end) buf room out
+module _ (every : Bool) (g : Option OutcomeTable) (P : Table) (W : List ℕ) (at depth n : ℕ) (s : Lent) (r : ReducedPolicy) (t : Lent) (buf : List ℕ) (room : ℕ) (out buf' out' : List ℕ) (lt : at < length W) where
+  none_held : InOrderIs every g P W [] none_yet buf room out
   none_held = record {
     pending_is = refl;
-    begun_is = λ _. refl;
-    sound = λ _. sound_denied W buf end end (past (omega arith)) (omega arith);
-    decision_is = λ _. denied_is W P buf end (omega arith) ∙ sym (start_value every g);
+    decided = λ _. tt;
     free = get_or out 0 0;
     left = first_word out;
     arms_are = refl;
   }
 
-  pub order_node : HeldLeft every g P W (none_yet end) buf room out (at + 1) depth n s r t buf' out' → ReducesBy g sheet_order (list_head every n) P W at depth s r t buf' room out'
+  pub order_node : HeldLeft every g P W none_yet buf room out (at + 1) depth n s r t buf' out' → ReducesBy g sheet_order (list_head every n) P W at depth s r t buf' room out'
   order_node a = record {
     fit = a.fit;
     says = λ e. node_holds W at depth (list_head every n) lt e (rw (list_reads every _ (read_policy true depth) n (drop (at + 1) W))

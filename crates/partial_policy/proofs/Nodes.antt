@@ -1,17 +1,15 @@
 -- What a policy reduces to and consults, by its head: grants, and what is evaluated. Assumes nothing.
 use mathlib.Core.Path.{◌≡◌, refl, sym, ◌∙◌, ap, ap₂, subst}
-use mathlib.Core.Bool.{Bool, true, false, cond}
+use mathlib.Core.Bool.{Bool, true}
 use mathlib.Core.Option.{Option}
 use mathlib.Core.List.{List, [], ◌∷◌, ◌++◌, append_assoc}
 use Prim.Native.Nat.{ℕ, zero, suc, ◌+◌, ◌-◌, ◌/◌, ◌%◌, ◌≤◌, ◌<◌, min}
 use native.Mathlib.Omega.{arith}
-use borrow.Author.Tests.{ltb-true}
 use denote.Enum.Declared.{tag_of}
 use types.Run.{OneOf, miss}
-use lib.Dec.{eqb, ltb, leb}
 use lib.ListN.{length, take, drop, get_or, length-drop}
 use lib.Seq.{take_at, drop-drop}
-use Rattle.model.specs.Fields.{bits, pack}
+use Rattle.model.specs.Fields.{pack}
 use Rattle.model.specs.Facts.{Table}
 use Rattle.model.specs.Outcome.{product_sets}
 use Rattle.model.specs.Levels.{OutcomeTable}
@@ -22,7 +20,7 @@ use Rattle.model.specs.Policy.{Policy, Grant as Clause, grant}
 use Rattle.model.specs.Partial.{known, pending_c, reduce_condition, resolved, pending, Order, reduce_grant}
 use Rattle.model.specs.Partial as model
 use Rattle.model.specs.Writing.{obligation_bits, encode_c}
-use Rattle.model.specs.Reading.{Parsed, refuse, got, kind_of, rest_of, few_obligations, read_condition}
+use Rattle.model.specs.Reading.{Parsed, refuse, got, read_condition}
 use Rattle.model.specs.Products.{Outcome, read, walk, eval_policy, reduce_policy, encode, read_policy, policy_at}
 use Rattle.laws.proofs.FieldLaws.{Holds, fine, nothing, weaker, then_holds, both_hold}
 use Rattle.laws.specs.Size.{words_c, words}
@@ -33,24 +31,25 @@ use Rattle.staging.proofs.ConditionLaws as staging
 use Rattle.staging.proofs.ConditionLaws.{known_again}
 use Rattle.facts.specs.AnswerLaws.{settled_known, settled_consulted}
 use Rattle.policy_model.specs.contracts.PolicyHead.{the_type}
+use Rattle.policy_model.specs.declared.DenyShape.{DenyShape}
 use Rattle.policy_model.specs.declared.PolicyHead.{PolicyHead}
 use Rattle.policy_model.specs.declared.PolicyHead.TheVariants.{Permit, Deny, Grant, All, Any, OrElse, PermitWithTrace, DenyWithTrace, BadKind, BadField}
-use Rattle.policy_model.specs.Heads.{policy_head, policy_heads, permit_head, grant_head, permit_trace_head, deny_trace_head, permit_trace_node, deny_trace_node, policy_node}
-use Rattle.policy_model.specs.HeadLaws.{permit_word}
+use Rattle.policy_model.specs.Heads.{policy_head, permit_trace_node, deny_trace_node, policy_node}
+use Rattle.policy_model.specs.HeadLaws.{head_cases, permit_word}
 use Rattle.policy_model.specs.PlainLaws.{plain_reads}
 use Rattle.policy_model.proofs.Checking.{no_word}
+use Rattle.policy_model.proofs.Skipping.{grant_says}
 use Rattle.grant.specs.Fields.{outcome_at, obligations_at}
 use Rattle.condition.specs.Evaluating.{is_satisfied, EvaluatesHas}
 use Rattle.consulted.specs.Listing.{Lent}
 use Rattle.consulted.proofs.Listing.{consults_as}
 use Rattle.decision.specs.Nodes.{node_at}
-use Rattle.decision.specs.Meaning.{permitted_at}
+use Rattle.decision.specs.Meaning.{permitted_at, granted_at}
 use Rattle.decision.proofs.Standing.{node_reads}
 use Rattle.evaluate.specs.declared.PolicyEval.{PolicyEval}
-use Rattle.evaluate.specs.Evaluating.{granted_at, EvaluatesP}
+use Rattle.evaluate.specs.Evaluating.{EvaluatesP}
 use Rattle.evaluate.proofs.Nodes.{held_at, in_fewer, in_sheet, node_holds, node_knows, grant_reads}
 use Rattle.evaluate.proofs.Evaluating.{nothing_there, no_levels, one_level, eval_permit_word, granted_is, granted_sound, granted_few}
-use Rattle.evaluate.proofs.Grants.{grant_fields}
 use Rattle.sizes.specs.Laid.{capped, Laid}
 use Rattle.sizes.specs.LaidLaws.{laid_then, laid_as}
 use Rattle.partial_condition.specs.declared.Reduced.TheVariants.{Known, Pending}
@@ -92,13 +91,13 @@ constant_there : {g : Option OutcomeTable} {order : Order} (pc : List ℕ → Pa
 unfolding policy_node
 constant_there pc p P (Permit o) ws k = fine (record { value_is = refl; read_is = λ l. refl })
 constant_there pc p P Deny ws k = fine (record { value_is = refl; read_is = λ l. refl })
-constant_there pc p P (Grant hidden n o) ws k = absurd (miss constants 2 tt k)
+constant_there pc p P (Grant shape n o) ws k = absurd (miss constants 2 tt k)
 constant_there pc p P (All n) ws k = absurd (miss constants 3 tt k)
 constant_there pc p P (Any n) ws k = absurd (miss constants 4 tt k)
 constant_there pc p P OrElse ws k = absurd (miss constants 5 tt k)
 constant_there pc p P (PermitWithTrace n o) ws k = then_holds (permit_trace_node n o ws) _ (whatever (permit_trace_node n o ws)) (λ d vs _. fine (record { value_is = refl; read_is = λ l. refl }))
-constant_there pc p P (DenyWithTrace hidden denied o) ws k =
-    then_holds (deny_trace_node hidden denied o ws) _ (whatever (deny_trace_node hidden denied o ws)) (λ d vs _. fine (record { value_is = refl; read_is = λ l. refl }))
+constant_there pc p P (DenyWithTrace shape denied) ws k =
+    then_holds (deny_trace_node shape denied ws) _ (whatever (deny_trace_node shape denied ws)) (λ d vs _. fine (record { value_is = refl; read_is = λ l. refl }))
 constant_there pc p P BadKind ws k = nothing
 constant_there pc p P BadField ws k = nothing
 
@@ -128,44 +127,29 @@ reduce_constant P W at depth s r t buf room out h lt f e k c =
 abbrev FewArms : PolicyHead → Type 0
 FewArms (Permit o) = Unit {0}
 FewArms Deny = Unit {0}
-FewArms (Grant hidden n o) = Unit {0}
+FewArms (Grant shape n o) = Unit {0}
 FewArms (All n) = n < 4096
 FewArms (Any n) = n < 4096
 FewArms OrElse = Unit {0}
 FewArms (PermitWithTrace n o) = Unit {0}
-FewArms (DenyWithTrace hidden denied o) = Unit {0}
+FewArms (DenyWithTrace shape denied) = Unit {0}
 FewArms BadKind = Unit {0}
 FewArms BadField = Unit {0}
 
-few_field : (b : Bool) (h g : PolicyHead) → (b ≡ true → FewArms h) → FewArms g → FewArms (cond b h g)
-few_field true h g f k = f refl
-few_field false h g f k = k
-
-few_kind : (k r : ℕ) → FewArms (get_or (policy_heads true r) k BadKind)
-unfolding permit_head grant_head permit_trace_head deny_trace_head
-few_kind zero r = few_field (eqb (r / 65536) 0) (Permit (r % 65536)) BadField (λ _. tt) tt
-few_kind (suc zero) r = few_field (eqb r 0) Deny BadField (λ _. tt) tt
-few_kind (suc (suc zero)) r =
-    let h = Grant (eqb (r / 134217728) 1) (bits 20 7 r) (r % 65536) in
-    few_field (few_obligations (bits 20 7 r)) (cond (eqb (bits 16 4 r) 0) h BadField) BadField (λ _. few_field (eqb (bits 16 4 r) 0) h BadField (λ _. tt) tt) tt
-few_kind (suc (suc (suc zero))) r = few_field (ltb r 4096) (All r) BadField (λ e. ltb-true r 4096 e) tt
-few_kind (suc (suc (suc (suc zero)))) r = few_field (ltb r 4096) (Any r) BadField (λ e. ltb-true r 4096 e) tt
-few_kind (suc (suc (suc (suc (suc zero))))) r = few_field (eqb r 0) OrElse BadField (λ _. tt) tt
-few_kind (suc (suc (suc (suc (suc (suc zero)))))) r =
-    let h = PermitWithTrace (bits 20 7 r) (r % 65536) in
-    let g = cond (eqb (bits 16 4 r) 0) h BadField in
-    few_field (eqb (r / 134217728) 0) g BadField (λ _. few_field (eqb (bits 16 4 r) 0) h BadField (λ _. tt) tt) tt
-few_kind (suc (suc (suc (suc (suc (suc (suc zero))))))) r =
-    let h = DenyWithTrace (eqb (r / 134217728) 1) true (r % 65536) in
-    let i = DenyWithTrace (eqb (r / 134217728) 1) false (r % 65536) in
-    let g = cond (eqb (r % 65536) 0) i BadField in
-    few_field (eqb (bits 16 10 r) 0) (cond (eqb (bits 26 1 r) 1) h g) BadField
-    (λ _. few_field (eqb (bits 26 1 r) 1) h g (λ _. tt) (few_field (eqb (r % 65536) 0) i BadField (λ _. tt) tt)) tt
-few_kind (suc (suc (suc (suc (suc (suc (suc (suc k)))))))) r = tt
-
 few_arms : (w : ℕ) (h : PolicyHead) → h ≡ policy_head w true → FewArms h
-unfolding policy_head
-few_arms w h e = subst FewArms (sym e) (few_field (leb 6 (kind_of w)) (get_or (policy_heads true (rest_of w)) (kind_of w - 6) BadKind) BadKind (λ _. few_kind (kind_of w - 6) (rest_of w)) tt)
+few_arms w h e =
+    subst FewArms (sym e) (head_cases FewArms w true (record {
+      bad_kind_is = tt;
+      bad_field_is = tt;
+      permit_is = λ _. tt;
+      deny_is = λ _. tt;
+      grant_is = λ _. tt;
+      all_is = λ _ few. few;
+      any_is = λ _ few. few;
+      or_else_is = λ _. tt;
+      permit_trace_is = λ _ _. tt;
+      deny_trace_is = λ _ _ _ _. tt;
+    }))
 
 pub all_below : (w n : ℕ) → All n ≡ policy_head w true → n < 4096
 all_below w n e = few_arms w (All n) e
@@ -176,7 +160,7 @@ any_below w n e = few_arms w (Any n) e
 -- ---- a grant
 -- No answer to a condition is both known and left, and a known one has one value.
 not_both : {v : Bool} {n : ℕ} {A : Type 0} → Known v ≡ Pending n → A
-not_both e = let z : ◌≡◌ {A = ℕ} 0 1 = cc in absurd (omega arith)
+not_both e = cc
 
 same_known : {v b : Bool} → Known v ≡ Known b → v ≡ b
 same_known e = cc
@@ -197,14 +181,14 @@ own_words : (g : Clause Outcome) (c d : Condition) (rest : List ℕ) (n : ℕ) �
 own_words g c d rest n long =
     own_front _ _ ((n + 3) / 4) (pack obligation_bits g.obligations) (encode_c c) rest (encode_c d) (length_pack obligation_bits g.obligations ∙ ap (λ m. (m + 3) / 4) long)
 
-module _ (P : Table) (W : List ℕ) (at depth : ℕ) (hidden : Bool) (n o own : ℕ) (lt : at < length W) (deep : depth < 32) (own_is : own ≡ 2 + (n + 3) / 4) where
+module _ (P : Table) (W : List ℕ) (at depth : ℕ) (shape : DenyShape) (n o own : ℕ) (lt : at < length W) (deep : depth < 32) (own_is : own ≡ 2 + (n + 3) / 4) where
   -- A grant that ends early.
-  pub grant_short : {g : Option OutcomeTable} {order : Order} (s : Lent) (r : ReducedPolicy) (buf : List ℕ) (room : ℕ) (out : List ℕ) → Fit r.to → length W - at < own → ReducesBy g order (Grant hidden n o) P W at depth s r s buf room out
+  pub grant_short : {g : Option OutcomeTable} {order : Order} (s : Lent) (r : ReducedPolicy) (buf : List ℕ) (room : ℕ) (out : List ℕ) → Fit r.to → length W - at < own → ReducesBy g order (Grant shape n o) P W at depth s r s buf room out
   unfolding policy_node
   grant_short s r buf room out fit h = record {
     fit = fit;
-    says = λ e. node_holds W at depth (Grant hidden n o) lt e
-        (weaker _ (λ p rest g. absurd (omega (arith, g.fits, length-drop (at + 1) W))) (grant_reads depth hidden n o (drop (at + 1) W)));
+    says = λ e. node_holds W at depth (Grant shape n o) lt e
+        (weaker _ (λ p rest g. absurd (omega (arith, g.fits, length-drop (at + 1) W))) (grant_reads depth shape n o (drop (at + 1) W)));
   }
 
   -- What is known of the grant, given the answer to its condition.
@@ -219,7 +203,7 @@ module _ (P : Table) (W : List ℕ) (at depth : ℕ) (hidden : Bool) (n o own : 
     words_are : at + words (grant clause inner) ≡ at + own + words_c inner
     answer : condition.ReducedTo (reduce_condition P inner) (at + own + words_c inner) (walk_c P inner) s a t part
 
-  grant_known : (a : ReducedCondition) (s t : Lent) (part : List ℕ) → condition.ReducesC P W (at + own) depth s a t part → Grant hidden n o ≡ policy_head (get_or W at 0) true →
+  grant_known : (a : ReducedCondition) (s t : Lent) (part : List ℕ) → condition.ReducesC P W (at + own) depth s a t part → Grant shape n o ≡ policy_head (get_or W at 0) true →
       Holds (Granted a s t part) (policy_at W at (suc depth))
   unfolding policy_node
   grant_known a s t part c e =
@@ -239,7 +223,7 @@ module _ (P : Table) (W : List ℕ) (at depth : ℕ) (hidden : Bool) (n o own : 
         words_are = omega (arith, g.long);
         answer = held_at c.says (ap (read_condition depth) (sym from) ∙ g.below);
       })
-      (node_knows W at depth (Grant hidden n o) lt e (grant_reads depth hidden n o (drop (at + 1) W)))
+      (node_knows W at depth (Grant shape n o) lt e (grant_reads depth shape n o (drop (at + 1) W)))
 
   module _ (buf : List ℕ) (room : ℕ) (out part : List ℕ) (a : ReducedCondition) (c : Condition) (g : Clause Outcome) (rest : List ℕ) (node : node_at W at ≡ got (grant g c) rest) (is : g.outcome ≡ o) where
     -- The value that the reduction found is that of evaluation.
@@ -267,7 +251,7 @@ module _ (P : Table) (W : List ℕ) (at depth : ℕ) (hidden : Bool) (n o own : 
     granted : {g : Option OutcomeTable} {order : Order} (r : ReducedPolicy) → Fit r.to → r.next ≡ a.next →
         ((d : Condition) (k : Clause Outcome) (rest : List ℕ) → node_at W at ≡ got (grant k d) rest → k.outcome ≡ o → length k.obligations ≡ n → encode (grant k d) ++ rest ≡ drop at W → condition.Left (reduce_condition P d) a.to part →
         Result (reduce_policy g order P (grant k d)) P W buf room out r.to) →
-        ReducesBy g order (Grant hidden n o) P W at depth s r t buf room out
+        ReducesBy g order (Grant shape n o) P W at depth s r t buf room out
     granted {g} {order} r fit e f = record {
       fit = fit;
       says = λ h. weaker (policy_at W at (suc depth)) (λ p rest k.
@@ -278,22 +262,22 @@ module _ (P : Table) (W : List ℕ) (at depth : ℕ) (hidden : Bool) (n o own : 
           })) (grant_known a s t part c h);
     }
 
-    pub grant_decides : {g : Option OutcomeTable} {order : Order} (v : Bool) → a.to ≡ Known v → ReducesBy g order (Grant hidden n o) P W at depth s (resolved_to (granted_at v o at (length W)) a.next) t buf room out
+    pub grant_decides : {g : Option OutcomeTable} {order : Order} (v : Bool) → a.to ≡ Known v → ReducesBy g order (Grant shape n o) P W at depth s (resolved_to (granted_at v o at (length W)) a.next) t buf room out
     grant_decides v p =
         granted (resolved_to (granted_at v o at (length W)) a.next) (granted_few v o at (length W)) refl (λ d k rest node is long were l.
         decides_at buf room out part a d k rest node is (reduce_condition P d) v refl l p)
 
     pub grant_pending : {g : Option OutcomeTable} {order : Order} (mid : List ℕ) (from size n' : ℕ) → a.to ≡ Pending n' → Laid own (take own (drop at W)) mid own → from ≡ min own (length mid) → length part ≡ length mid - from → size ≡ capped (own + n') →
-        out ≡ take from mid ++ (part ++ drop (length mid - from) (drop from mid)) → ReducesBy g order (Grant hidden n o) P W at depth s (record { to = list.Pending size; next = a.next }) t buf room out
+        out ≡ take from mid ++ (part ++ drop (length mid - from) (drop from mid)) → ReducesBy g order (Grant shape n o) P W at depth s (record { to = list.Pending size; next = a.next }) t buf room out
     grant_pending mid from size n' p l f m e z =
         granted (record { to = list.Pending size; next = a.next }) (omega arith) refl (λ d k rest node is long were x. open_at buf room out part a d k rest node is mid from size n' long were l f m e z (reduce_condition P d) x p)
 
 -- The answer to a grant by its first word is the answer to it by its head.
-pub grant_by_word : {g : Option OutcomeTable} {order : Order} {P : Table} {W : List ℕ} {at depth : ℕ} {s : Lent} {r : ReducedPolicy} {t : Lent} {buf : List ℕ} {room : ℕ} {out : List ℕ} (hidden : Bool) (n o : ℕ) →
-    ReducesBy g order (Grant hidden (obligations_at W at) (outcome_at W at)) P W at depth s r t buf room out → ReducesBy g order (Grant hidden n o) P W at depth s r t buf room out
-grant_by_word {W = W} {at} hidden n o a = record {
+pub grant_by_word : {g : Option OutcomeTable} {order : Order} {P : Table} {W : List ℕ} {at depth : ℕ} {s : Lent} {r : ReducedPolicy} {t : Lent} {buf : List ℕ} {room : ℕ} {out : List ℕ} (shape : DenyShape) (n o : ℕ) →
+    ReducesBy g order (Grant shape (obligations_at W at) (outcome_at W at)) P W at depth s r t buf room out → ReducesBy g order (Grant shape n o) P W at depth s r t buf room out
+grant_by_word {W = W} {at} shape n o a = record {
   fit = a.fit;
-  says = λ e. let f = grant_fields (get_or W at 0) hidden n o e in a.says (sym (ap₂ (λ i j. Grant hidden i j) f.0 f.1) ∙ e);
+  says = λ e. let f = grant_says true (get_or W at 0) shape n o e in a.says (sym (ap₂ (λ i j. Grant shape i j) f.0 f.1) ∙ e);
 }
 
 -- ---- arms that a list rule answers by itself

@@ -1,4 +1,4 @@
--- What stands for the parts of an OrElse in a residual, and words that are laid as they stand. Assumes nothing.
+-- What stands for the parts of an OrElse in a residual. Assumes nothing.
 use mathlib.Core.Path.{◌≡◌, sym, ◌∙◌, ap, subst}
 use mathlib.Core.List.{List, ◌∷◌, ◌++◌}
 use Prim.Native.Nat.{ℕ, ◌+◌, ◌-◌, ◌≤◌, ◌<◌, min}
@@ -10,9 +10,7 @@ use Rattle.model.specs.Partial.{resolved, pending, as_residual}
 use Rattle.model.specs.Partial as model
 use Rattle.model.specs.Writing.{word}
 use Rattle.model.specs.Products.{Outcome, encode_d, encode}
-use Rattle.packing.specs.Written as packing
-use Rattle.packing.specs.WrittenLaws.{written_front}
-use Rattle.sizes.specs.Laid.{most_words, too_many, capped, Laid}
+use Rattle.sizes.specs.Laid.{too_many, capped}
 use Rattle.sizes.specs.LaidLaws.{laid_as, laid_lead}
 use Rattle.residual.specs.Weight.{weight_d, weight}
 use Rattle.residual.specs.Answers.{NodeLaid}
@@ -55,12 +53,3 @@ or_else_put {T} {W} {used} {b} {buf} {out} {from} {size} {r} part f long l e = r
       within_lead (word 11 0) (take from out ++ (part ++ drop (length out - from) (drop from out))) (omega arith)
       (within_then p (l.laid y room (subst (λ us. Result y T W buf room us b) tail x)) f long e);
 }
-
--- ---- words that are laid as they stand
-pub words_laid : {ws out out' : List ℕ} {n m : ℕ} → m ≡ n → n ≤ most_words → packing.Written ws out out' m → Laid n ws out' n
-words_laid {ws} {out} {out'} {n} {m} e few w =
-    let w₁ : packing.Written ws out out' n = subst (packing.Written ws out out') e w in
-    record { size_is = omega arith; front = λ h k. written_front w₁ }
-
-pub words_not_laid : {ws : List ℕ} (out : List ℕ) {n : ℕ} → n ≤ most_words → length out < n → Laid n ws out n
-words_not_laid out few h = record { size_is = omega arith; front = λ _ k. absurd (omega arith) }

@@ -24,6 +24,8 @@ use Rattle.partial_list.specs.declared.Reduced.{Reduced}
 use Rattle.partial_list.specs.declared.ReducedPolicy.{ReducedPolicy}
 use Rattle.partial_list.specs.Within.{LaidWithin}
 use Rattle.partial_list.specs.Answers.{resolved_to, Result, Fit}
+use Rattle.partial_policy.specs.declared.Order as declared
+use Rattle.partial_policy.specs.declared.Order.TheVariants.{PermitsFirst, SheetOrder}
 
 -- The answer to what reduces to x, takes the words up to `end` and consults as `reads` does. `buf` and `out` are as they stand afterwards.
 pub record ReducedTo (x : model.ReducedPolicy Outcome) (end : ℕ) (reads : Consulted → Consulted) (T : Table) (W : List ℕ) (s : Lent) (r : ReducedPolicy) (t : Lent) (buf : List ℕ) (room : ℕ) (out : List ℕ) : Type 0 where
@@ -31,10 +33,10 @@ pub record ReducedTo (x : model.ReducedPolicy Outcome) (end : ℕ) (reads : Cons
   pub next_is : r.next ≡ end
   pub log : Consults reads s t
 
--- The order of a residual's lists, by whether it is the sheet's.
-abbrev pub order_of : Bool → Order
-order_of false = permits_first
-order_of true = sheet_order
+-- The order of a residual's lists, as the model names it.
+abbrev pub order_of : declared.Order → Order
+order_of PermitsFirst = permits_first
+order_of SheetOrder = sheet_order
 
 -- The answer to a policy at `at`, of at most `depth` levels, in a sheet or a residual. Of words that don't read only the bounds are said.
 pub record ReducesP (g : Option OutcomeTable) (o : Order) (P : Table) (W : List ℕ) (at depth : ℕ) (s : Lent) (r : ReducedPolicy) (t : Lent) (buf : List ℕ) (room : ℕ) (out : List ℕ) : Type 0 where

@@ -40,10 +40,6 @@ pub step_refused : (ws : List ℕ) (at depth : ℕ) (asked : Result ℕ ℕ) (ar
 step_refused ws at depth asked arms (Ok s) e h f = absurd h
 step_refused ws at depth asked arms (Err d) e h f = ap (λ x. Err (number_of x)) h ∙ f
 
--- A check does not both go on and refuse.
-pub clash : {A : Type 0} (after number : ℕ) → ◌≡◌ {A = Result ℕ ℕ} (Ok after) (Err number) → A
-clash after number e = let z : ◌≡◌ {A = ℕ} 0 1 = cc in absurd (omega arith)
-
 -- What reading leaves is what stands after what was read.
 abbrev pub Leaves : {A : Type 0} → (A → ℕ) → List ℕ → Parsed A → Type 0
 Leaves size us q = Holds (λ a vs. drop (size a) us ≡ vs) q
@@ -56,7 +52,7 @@ module _ {A C : Type 0} (size_a : A → ℕ) (size_c : C → ℕ) (words : List 
   pub go_on : (after : ℕ) (q : Parsed A) (k : A → List ℕ → Parsed C) (r : Result ℕ ℕ) → Leaves size_a (drop from words) q → Ok after ≡ checked size_a from q →
       ((a : A) → after ≡ from + size_a a → r ≡ checked size_c at (k a (drop after words))) → r ≡ checked size_c at (next q k)
   unfolding checked
-  go_on after (refuse n) k r l e f = clash after n e
+  go_on after (refuse n) k r l e f = absurd cc
   go_on after (got a vs) k r l e f =
       let ends : after ≡ from + size_a a = cc in
       let rest : drop after words ≡ vs = ap (λ n. drop n words) ends ∙ sym (drop-drop (size_a a) from words) ∙ l.it in
@@ -65,7 +61,7 @@ module _ {A C : Type 0} (size_a : A → ℕ) (size_c : C → ℕ) (words : List 
   pub give_up : (n : ℕ) (q : Parsed A) (k : A → List ℕ → Parsed C) → Err n ≡ checked size_a from q → Err n ≡ checked size_c at (next q k)
   unfolding checked
   give_up n (refuse m) k e = e
-  give_up n (got a vs) k e = clash (from + size_a a) n (sym e)
+  give_up n (got a vs) k e = absurd cc
 
 -- The last part.
 module _ {A C : Type 0} (size_a : A → ℕ) (size_c : C → ℕ) (from at : ℕ) where

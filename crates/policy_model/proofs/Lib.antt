@@ -1,4 +1,3 @@
-pub mod Words
 pub mod Checking
 pub mod Levels
 pub mod Fields

@@ -1,7 +1,9 @@
 -- The checks of what follows the first word of a Grant, a PermitWithTrace and a DenyWithTrace. Assumes nothing.
+use Rattle.std.specs.Prelude as prelude
 use Rattle.std.specs.Prelude.{Result, Ok, Err}
+use Rattle.std.proofs.Common.{Fits, w32}
 use mathlib.Core.Path.{◌≡◌, refl, sym, ◌∙◌, ap, subst}
-use mathlib.Core.Bool.{Bool, true, false, cond, ◌||◌, or-false, or-true}
+use mathlib.Core.Bool.{Bool, true, false, cond, ◌&&◌, ◌||◌, or-false, or-true}
 use mathlib.Core.Option.{Option, none, some}
 use mathlib.Core.List.{List, []}
 use Prim.Native.Nat.{ℕ, ◌+◌, ◌-◌, ◌/◌, ◌%◌, ◌≤◌, ◌<◌}
@@ -17,6 +19,7 @@ use Rattle.model.specs.Products.{Outcome, grant_more, more12, more13}
 use Rattle.laws.specs.Size.{quads, pairs, words_c, words_d, words}
 use Rattle.policy_model.specs.Answers.{checked}
 use Rattle.policy_model.specs.Lists.{mark_fits, marks_fit}
+use Rattle.policy_model.specs.declared.DenyShape.{DenyShape}
 use Rattle.policy_model.specs.Heads.{bit_of, denied_by, grant_node, permit_trace_node, deny_trace_node}
 use Rattle.policy_model.proofs.Checking.{word_at, no_word, go_on, give_up, end_with}
 use Rattle.policy_model.proofs.Quads.{obligations_leave}
@@ -62,7 +65,7 @@ module _ {C : Type 0} (size : C → ℕ) (at : ℕ) (r : Result ℕ ℕ) where
   mark_fails : (h : ℕ) (k : Option ℕ → List ℕ → Parsed C) → h < 65536 → mark_fits h ≡ false → r ≡ Err 8 → r ≡ checked size at (next (mark h) k)
   mark_fails h k lt e f = judged_fails (mark_fits h) (mark h) k (judge_mark h lt) e f
 
-  both_true : (t u : Bool) → cond t u false ≡ true → (t ≡ true) × (u ≡ true)
+  both_true : (t u : Bool) → (t && u) ≡ true → (t ≡ true) × (u ≡ true)
   both_true true u e = (refl, e)
   both_true false u e = (e, cc)
 
@@ -75,7 +78,7 @@ module _ {C : Type 0} (size : C → ℕ) (at : ℕ) (r : Result ℕ ℕ) where
       mark_passes (w / 65536) (λ l _. next (mark (w % 65536)) (λ m _. k l m)) (omega arith) both.0 (λ l _.
       mark_passes (w % 65536) (λ m _. k l m) (omega arith) both.1 (λ m _. f l m))
 
-  marks_at : (w : ℕ) (k : Option ℕ → Option ℕ → Parsed C) → w < 4294967296 → (t : Bool) → mark_fits (w / 65536) ≡ t → cond t (mark_fits (w % 65536)) false ≡ false → r ≡ Err 8 →
+  marks_at : (w : ℕ) (k : Option ℕ → Option ℕ → Parsed C) → w < 4294967296 → (t : Bool) → mark_fits (w / 65536) ≡ t → (t && mark_fits (w % 65536)) ≡ false → r ≡ Err 8 →
       r ≡ checked size at (next (mark (w / 65536)) (λ l _. next (mark (w % 65536)) (λ m _. k l m)))
   marks_at w k lt true g e h =
       mark_passes (w / 65536) (λ l _. next (mark (w % 65536)) (λ m _. k l m)) (omega arith) g (λ l _.
@@ -96,43 +99,47 @@ module _ {C : Type 0} (size : C → ℕ) (at : ℕ) (r : Result ℕ ℕ) where
   unfolding checked
   word_missing words from k lt h = h ∙ ap (λ us. checked size at (another us k)) (sym (no_word words from lt))
 
+-- A word after the first one has 32 bits.
+second_fits : (ws : List ℕ) (at : ℕ) → ((i : ℕ) → Fits w32 (get_or ws i 0)) → get_or ws (at + 1) 0 < 4294967296
+second_fits ws at of_32 = omega (arith, of_32 (at + 1))
+
 -- ---- Grant
-module _ (ws : List ℕ) (at depth n : ℕ) (hidden : Bool) (o : ℕ) where
+module _ (ws : List ℕ) (at depth n : ℕ) (shape : DenyShape) (o : ℕ) where
   abbrev pub GrantAt : Result ℕ ℕ
-  GrantAt = checked words at (grant_node (read_condition depth) hidden n o (drop (at + 1) ws))
+  GrantAt = checked words at (grant_node (read_condition depth) shape n o (drop (at + 1) ws))
 
   pub grant_short : length ws ≤ at + 1 → Err 6 ≡ GrantAt
   unfolding grant_node
-  grant_short lt = word_missing words at (Err 6) ws (at + 1) (λ w vs. grant_more (read_condition depth) (bit_of hidden) n o (w / 65536) (w % 65536) vs) lt refl
+  grant_short lt = word_missing words at (Err 6) ws (at + 1) (λ w vs. grant_more (read_condition depth) (bit_of shape) n o (w / 65536) (w % 65536) vs) lt refl
 
-  module _ (lt : at + 1 < length ws) (fits : get_or ws (at + 1) 0 < 4294967296) where
+  module _ (lt : at + 1 < length ws) (of_32 : (i : ℕ) → Fits w32 (get_or ws i 0)) where
     abbrev more : Option ℕ → Option ℕ → Parsed (Policy Outcome)
     more l m =
         next (read_list obligation obligation_bits n (drop (at + 1 + 1) ws)) (λ os vs.
-        next (read_condition depth vs) (λ c us. got (grant (record { outcome = o; obligations = os; label = l; reason = m; shape = shape_of (bit_of hidden) }) c) us))
+        next (read_condition depth vs) (λ c us. got (grant (record { outcome = o; obligations = os; label = l; reason = m; shape = shape_of (bit_of shape) }) c) us))
 
     pub grant_marks : marks_fit (get_or ws (at + 1) 0) ≡ false → Err 8 ≡ GrantAt
     unfolding grant_node
     grant_marks e =
-        word_there words at (Err 8) ws (at + 1) (λ w vs. grant_more (read_condition depth) (bit_of hidden) n o (w / 65536) (w % 65536) vs) lt
-        (marks_fail words at (Err 8) (get_or ws (at + 1) 0) more fits e refl)
+        word_there words at (Err 8) ws (at + 1) (λ w vs. grant_more (read_condition depth) (bit_of shape) n o (w / 65536) (w % 65536) vs) lt
+        (marks_fail words at (Err 8) (get_or ws (at + 1) 0) more (second_fits ws at of_32) e refl)
 
     then_list : (r : Result ℕ ℕ) → marks_fit (get_or ws (at + 1) 0) ≡ true → ((l m : Option ℕ) → r ≡ checked words at (more l m)) → r ≡ GrantAt
     unfolding grant_node
     then_list r e f =
-        word_there words at r ws (at + 1) (λ w vs. grant_more (read_condition depth) (bit_of hidden) n o (w / 65536) (w % 65536) vs) lt
-        (marks_pass words at r (get_or ws (at + 1) 0) more fits e f)
+        word_there words at r ws (at + 1) (λ w vs. grant_more (read_condition depth) (bit_of shape) n o (w / 65536) (w % 65536) vs) lt
+        (marks_pass words at r (get_or ws (at + 1) 0) more (second_fits ws at of_32) e f)
 
     pub grant_refused : (number : ℕ) → marks_fit (get_or ws (at + 1) 0) ≡ true → Err number ≡ checked quads (at + 1 + 1) (read_list obligation obligation_bits n (drop (at + 1 + 1) ws)) → Err number ≡ GrantAt
-    grant_refused number e g = then_list (Err number) e (λ l m. give_up quads words ws (at + 1 + 1) at number (read_list obligation obligation_bits n (drop (at + 1 + 1) ws)) (λ os vs. next (read_condition depth vs) (λ c us. got (grant (record { outcome = o; obligations = os; label = l; reason = m; shape = shape_of (bit_of hidden) }) c) us)) g)
+    grant_refused number e g = then_list (Err number) e (λ l m. give_up quads words ws (at + 1 + 1) at number (read_list obligation obligation_bits n (drop (at + 1 + 1) ws)) (λ os vs. next (read_condition depth vs) (λ c us. got (grant (record { outcome = o; obligations = os; label = l; reason = m; shape = shape_of (bit_of shape) }) c) us)) g)
 
     pub grant_goes_on : (r : Result ℕ ℕ) (after : ℕ) → marks_fit (get_or ws (at + 1) 0) ≡ true → Ok after ≡ checked quads (at + 1 + 1) (read_list obligation obligation_bits n (drop (at + 1 + 1) ws)) →
         r ≡ checked words_c after (read_condition depth (drop after ws)) → r ≡ GrantAt
     grant_goes_on r after e g h =
         then_list r e (λ l m.
-        go_on quads words ws (at + 1 + 1) at after (read_list obligation obligation_bits n (drop (at + 1 + 1) ws)) (λ os vs. next (read_condition depth vs) (λ c us. got (grant (record { outcome = o; obligations = os; label = l; reason = m; shape = shape_of (bit_of hidden) }) c) us)) r
+        go_on quads words ws (at + 1 + 1) at after (read_list obligation obligation_bits n (drop (at + 1 + 1) ws)) (λ os vs. next (read_condition depth vs) (λ c us. got (grant (record { outcome = o; obligations = os; label = l; reason = m; shape = shape_of (bit_of shape) }) c) us)) r
         (obligations_leave n (drop (at + 1 + 1) ws)) g (λ os ends.
-        h ∙ end_with words_c words after at (λ c. grant (record { outcome = o; obligations = os; label = l; reason = m; shape = shape_of (bit_of hidden) }) c) (read_condition depth (drop after ws)) (λ c. omega arith)))
+        h ∙ end_with words_c words after at (λ c. grant (record { outcome = o; obligations = os; label = l; reason = m; shape = shape_of (bit_of shape) }) c) (read_condition depth (drop after ws)) (λ c. omega arith)))
 
 -- ---- PermitWithTrace
 module _ (ws : List ℕ) (at n o : ℕ) where
@@ -152,18 +159,18 @@ module _ (ws : List ℕ) (at n o : ℕ) where
   unfolding permit_trace_node
   permit_short lt = word_missing words_d at (Err 6) ws (at + 1) (λ w vs. more12 n o (w / 65536) (w % 65536) vs) lt refl
 
-  module _ (lt : at + 1 < length ws) (fits : w₂ < 4294967296) where
+  module _ (lt : at + 1 < length ws) (of_32 : (i : ℕ) → Fits w32 (get_or ws i 0)) where
     pub permit_mark : mark_fits (w₂ / 65536) ≡ false → Err 8 ≡ PermitAt
     unfolding permit_trace_node
     permit_mark e =
         word_there words_d at (Err 8) ws (at + 1) (λ w vs. more12 n o (w / 65536) (w % 65536) vs) lt
-        (mark_fails words_d at (Err 8) (w₂ / 65536) (λ l _. unless (ltb (w₂ % 65536) 4096) 8 (permit_more l)) (omega arith) e refl)
+        (mark_fails words_d at (Err 8) (w₂ / 65536) (λ l _. unless (ltb (w₂ % 65536) 4096) 8 (permit_more l)) (omega (arith, second_fits ws at of_32)) e refl)
 
     permit_marked : (r : Result ℕ ℕ) → mark_fits (w₂ / 65536) ≡ true → ((l : Option ℕ) → r ≡ checked words_d at (unless (ltb (w₂ % 65536) 4096) 8 (permit_more l))) → r ≡ PermitAt
     unfolding permit_trace_node
     permit_marked r e f =
         word_there words_d at r ws (at + 1) (λ w vs. more12 n o (w / 65536) (w % 65536) vs) lt
-        (mark_passes words_d at r (w₂ / 65536) (λ l _. unless (ltb (w₂ % 65536) 4096) 8 (permit_more l)) (omega arith) e (λ l _. f l))
+        (mark_passes words_d at r (w₂ / 65536) (λ l _. unless (ltb (w₂ % 65536) 4096) 8 (permit_more l)) (omega (arith, second_fits ws at of_32)) e (λ l _. f l))
 
     pub permit_count : mark_fits (w₂ / 65536) ≡ true → 4096 ≤ w₂ % 65536 → Err 8 ≡ PermitAt
     permit_count e h = permit_marked (Err 8) e (λ l. test_fails words_d at (Err 8) (ltb (w₂ % 65536) 4096) 8 (permit_more l) (le-ltb (w₂ % 65536) 4096 h) refl)
@@ -185,12 +192,12 @@ module _ (ws : List ℕ) (at n o : ℕ) where
         f ∙ end_with pairs words_d after at (λ fs. permits (record { outcome = o; obligations = os; label = l; facts = fs })) (read_list listed entry_bits (w₂ % 65536) (drop after ws)) (λ fs. omega arith)))
 
 -- ---- DenyWithTrace
-module _ (ws : List ℕ) (at : ℕ) (hidden denied : Bool) (o : ℕ) where
+module _ (ws : List ℕ) (at : ℕ) (shape : DenyShape) (denied : prelude.Option ℕ) where
   abbrev pub DenyAt : Result ℕ ℕ
-  DenyAt = checked words_d at (deny_trace_node hidden denied o (drop (at + 1) ws))
+  DenyAt = checked words_d at (deny_trace_node shape denied (drop (at + 1) ws))
 
   abbrev denial : Option ℕ → Option ℕ → List ℕ → Decision Outcome
-  denial l m fs = denies (record { denied = denied_by denied o; facts = fs; label = l; reason = m; shape = shape_of (bit_of hidden) })
+  denial l m fs = denies (record { denied = denied_by denied; facts = fs; label = l; reason = m; shape = shape_of (bit_of shape) })
 
   abbrev deny_list : Option ℕ → Option ℕ → ℕ → List ℕ → Parsed (Decision Outcome)
   deny_list l m n vs = unless (ltb n 4096) 8 (next (read_list listed entry_bits n vs) (λ fs us. got (denial l m fs) us))
@@ -206,20 +213,20 @@ module _ (ws : List ℕ) (at : ℕ) (hidden denied : Bool) (o : ℕ) where
 
   pub deny_short : length ws ≤ at + 1 → Err 6 ≡ DenyAt
   unfolding deny_trace_node
-  deny_short lt = word_missing words_d at (Err 6) ws (at + 1) (λ w vs. more13 (bit_of hidden) (denied_by denied o) (w / 65536) (w % 65536) vs) lt refl
+  deny_short lt = word_missing words_d at (Err 6) ws (at + 1) (λ w vs. more13 (bit_of shape) (denied_by denied) (w / 65536) (w % 65536) vs) lt refl
 
-  module _ (lt : at + 1 < length ws) (fits : u₂ < 4294967296) where
+  module _ (lt : at + 1 < length ws) (of_32 : (i : ℕ) → Fits w32 (get_or ws i 0)) where
     pub deny_marks : marks_fit u₂ ≡ false → Err 8 ≡ DenyAt
     unfolding deny_trace_node
     deny_marks e =
-        word_there words_d at (Err 8) ws (at + 1) (λ w vs. more13 (bit_of hidden) (denied_by denied o) (w / 65536) (w % 65536) vs) lt
-        (marks_fail words_d at (Err 8) u₂ deny_more fits e refl)
+        word_there words_d at (Err 8) ws (at + 1) (λ w vs. more13 (bit_of shape) (denied_by denied) (w / 65536) (w % 65536) vs) lt
+        (marks_fail words_d at (Err 8) u₂ deny_more (second_fits ws at of_32) e refl)
 
     deny_marked : (r : Result ℕ ℕ) → marks_fit u₂ ≡ true → ((l m : Option ℕ) → r ≡ checked words_d at (deny_more l m)) → r ≡ DenyAt
     unfolding deny_trace_node
     deny_marked r e f =
-        word_there words_d at r ws (at + 1) (λ w vs. more13 (bit_of hidden) (denied_by denied o) (w / 65536) (w % 65536) vs) lt
-        (marks_pass words_d at r u₂ deny_more fits e f)
+        word_there words_d at r ws (at + 1) (λ w vs. more13 (bit_of shape) (denied_by denied) (w / 65536) (w % 65536) vs) lt
+        (marks_pass words_d at r u₂ deny_more (second_fits ws at of_32) e f)
 
     pub deny_short_third : marks_fit u₂ ≡ true → length ws ≤ at + 1 + 1 → Err 6 ≡ DenyAt
     deny_short_third e h = deny_marked (Err 6) e (λ l m. word_missing words_d at (Err 6) ws (at + 1 + 1) (deny_list l m) h refl)

@@ -11,7 +11,7 @@ use borrow.Author.Tests.{le-ltb, ltb-true, ltb-false}
 use lib.Dec.{eqb, ltb, eqb-suc-zero, eqb-suc-suc}
 use lib.ListN.{length, drop, get_or}
 use Rattle.model.specs.Fields.{split, words_for}
-use Rattle.model.specs.Consulted.{Entry, Consulted}
+use Rattle.model.specs.Consulted.{Consulted}
 use Rattle.model.specs.Writing.{entry_bits, seen_in, entry_field}
 use Rattle.model.specs.Reading.{Parsed, refuse, got, unless, bad, ok, put, take_field, take_fields, read_words, read_list, listed, presence_count, consulted}
 use Rattle.laws.specs.Size.{pairs}
@@ -56,19 +56,19 @@ module _ {A : Type 0} (presences : ℕ) (chk : List A → ℕ → Parsed A) (jud
   -- the first field, and then the second: an entry, or 0 after the last one
   first_field : (end k : ℕ) (ws : List ℕ) (xs : List A) (t u : Bool) (b : ℕ) (q : Parsed A) (r : Result ℕ ℕ) → Judged t q →
       ((ys : List A) → cond u r (Err 8) ≡ up_to end (read_words chk entry_bits 2 ws (take_field chk (ok ys k) b))) →
-      cond (cond t u false) r (Err 8) ≡ up_to end (read_words chk entry_bits 2 ws (take_field chk (put xs k q) b))
+      cond (t && u) r (Err 8) ≡ up_to end (read_words chk entry_bits 2 ws (take_field chk (put xs k q) b))
   first_field end k ws xs true u b (got a vs) r j h = h (xs ++ a ∷ [])
   first_field end k ws xs true u b (refuse e) r j h = absurd j.it
   first_field end k ws xs false u b (got a vs) r j h = absurd j.it
   first_field end k ws xs false u b (refuse e) r j h = refused_here end ws e j.it
 
   both_fields : (end k a b : ℕ) (ws : List ℕ) (xs : List A) (r : Result ℕ ℕ) → ((ys : List A) → r ≡ up_to end (read_words chk entry_bits 2 ws (ok ys (k - 1)))) →
-      cond (cond (entry_fits presences a) (cond (eqb (suc k) 1) (eqb b 0) (entry_fits presences b)) false) r (Err 8)
+      cond (entry_fits presences a && cond (eqb (suc k) 1) (eqb b 0) (entry_fits presences b)) r (Err 8)
       ≡ up_to end (read_words chk entry_bits 2 ws (take_fields chk (ok xs (suc k)) (a ∷ b ∷ [])))
   both_fields end zero a b ws xs r h =
       first_field end zero ws xs (entry_fits presences a) (eqb b 0) b (chk xs a) r (judge xs a) (λ ys. last_field end ws ys (eqb b 0) r (h ys))
   both_fields end (suc k) a b ws xs r h =
-      ap (λ t. cond (cond (entry_fits presences a) (cond t (eqb b 0) (entry_fits presences b)) false) r (Err 8)) (eqb-suc-suc (suc k) 0 ∙ eqb-suc-zero k)
+      ap (λ t. cond (entry_fits presences a && cond t (eqb b 0) (entry_fits presences b)) r (Err 8)) (eqb-suc-suc (suc k) 0 ∙ eqb-suc-zero k)
       ∙ first_field end (suc k) ws xs (entry_fits presences a) (entry_fits presences b) b (chk xs a) r (judge xs a)
       (λ ys. second_field end k ws ys (entry_fits presences b) (chk ys b) r (judge ys b) (λ zs. h zs ∙ ap (λ n. up_to end (read_words chk entry_bits 2 ws (ok zs n))) (sub-one (suc k))))
 
@@ -94,7 +94,7 @@ fits_one : (b : ℕ) → ltb b 1024 ≡ entry_fits 1 b
 unfolding entry_fits
 fits_one b = by_presence (ltb (b / 16384) 1) refl
   where
-    by_presence : (t : Bool) → ltb (b / 16384) 1 ≡ t → ltb b 1024 ≡ cond t (ltb (b % 16384) 1024) false
+    by_presence : (t : Bool) → ltb (b / 16384) 1 ≡ t → ltb b 1024 ≡ (t && ltb (b % 16384) 1024)
     by_presence true e =
         let z : b / 16384 < 1 = ltb-true (b / 16384) 1 e in
         ap (λ n. ltb n 1024) (let same : b ≡ b % 16384 = omega arith in same)
@@ -105,14 +105,9 @@ fits_one b = by_presence (ltb (b / 16384) 1) refl
 judge_listed : (fs : List ℕ) (b : ℕ) → Judged (entry_fits 1 b) (listed fs b)
 judge_listed fs b = subst (λ t. Judged t (listed fs b)) (fits_one b) (judge_unless (ltb b 1024) b [])
 
-judge_both : (a c : Bool) (e : Entry) → Judged (cond a c false) (unless (a && c) 8 (got e []))
-judge_both true true e = record { it = tt }
-judge_both true false e = record { it = refl }
-judge_both false c e = record { it = refl }
-
 judge_consulted : (es : Consulted) (b : ℕ) → Judged (entry_fits presence_count b) (consulted es b)
 unfolding entry_fits
-judge_consulted es b = judge_both (ltb (b / 16384) 4) (ltb (b % 16384) 1024) (record { fact = b % 16384; seen = seen_in (b / 16384) })
+judge_consulted es b = judge_unless (ltb (b / 16384) 4 && ltb (b % 16384) 1024) (record { fact = b % 16384; seen = seen_in (b / 16384) }) []
 
 pub facts_checked : (at k : ℕ) (us : List ℕ) → checked_pairs 1 at us k ≡ checked pairs at (read_list listed entry_bits k us)
 facts_checked at k us = pairs_are 1 listed judge_listed us at k [] ∙ sym (list_ends (λ f. f) listed same_listed entry_bits 1 refl at k us)
@@ -157,14 +152,10 @@ module _ (words : List ℕ) (at left presences : ℕ) where
   pub pair_refused : at < length words → (left ≡ 0 → ⊥) → pair_fits presences left (get_or words at 0) ≡ false → Err 8 ≡ checked_pairs presences at (drop at words) left
   pair_refused h f e = by_word h f false e
 
-  pub last_pair : at < length words → left ≡ 1 → pair_fits presences left (get_or words at 0) ≡ true → Ok (at + 1) ≡ checked_pairs presences at (drop at words) left
-  last_pair h f e =
-      all_there presences (at + 1) (drop (at + 1) words)
-      ∙ ap (checked_pairs presences (at + 1) (drop (at + 1) words)) (let z : 0 ≡ left - 2 = omega arith in z)
-      ∙ by_word h (λ z. let c : ⊥ = omega arith in c) true e
-
   pub pairs_short : length words ≤ at → (left ≡ 0 → ⊥) → Err 6 ≡ checked_pairs presences at (drop at words) left
   pairs_short h f = no_word_left presences at left f ∙ ap (λ us. checked_pairs presences at us left) (sym (no_word words at h))
 
   pub pairs_done : left ≡ 0 → Ok at ≡ checked_pairs presences at (drop at words) left
   pairs_done e = all_there presences at (drop at words) ∙ ap (checked_pairs presences at (drop at words)) (sym e)
+
+pub ruleset pair_walks = (pair_fits_lem, pair_refused, pairs_short, pairs_done)

@@ -1,4 +1,5 @@
 -- The check of a policy by its first word. Assumes nothing.
+use Rattle.std.specs.Prelude as prelude
 use Rattle.std.specs.Prelude.{Result, Ok, Err}
 use mathlib.Core.Path.{◌≡◌, refl, sym, ◌∙◌, ap}
 use mathlib.Core.Bool.{Bool, true, false, cond}
@@ -21,6 +22,7 @@ use Rattle.laws.specs.Size.{words_d, words, wordss}
 use Rattle.laws.specs.Form.{IfThere}
 use Rattle.laws.proofs.Lengths.{length_encode}
 use Rattle.laws.proofs.Canon.{same_t}
+use Rattle.policy_model.specs.declared.DenyShape.{DenyShape}
 use Rattle.policy_model.specs.declared.PolicyHead.{PolicyHead}
 use Rattle.policy_model.specs.declared.PolicyHead.TheVariants.{All, Any, OrElse, PermitWithTrace, DenyWithTrace}
 use Rattle.policy_model.specs.declared.Step.TheVariants.{Leaf}
@@ -29,7 +31,7 @@ use Rattle.policy_model.specs.Heads.{policy_head, within_most, policy_node, perm
 use Rattle.policy_model.specs.HeadLaws.{policy_node_by, policy_deep_by}
 use Rattle.policy_model.specs.Plain.{plain_grant}
 use Rattle.policy_model.specs.PlainLaws.{plain_reads_by}
-use Rattle.policy_model.proofs.Checking.{word_at, no_word, clash, Leaves, leaves_of, end_with, many_first, many_none}
+use Rattle.policy_model.proofs.Checking.{word_at, no_word, Leaves, leaves_of, end_with, many_first, many_none}
 
 -- A number that stands for an outcome is its number.
 only_at : (v : ℕ) (t : Bool) → IfThere (λ o. o ≡ v) (cond t (some v) none)
@@ -126,9 +128,9 @@ module _ (pc : List ℕ → Parsed Condition) (p : List ℕ → Parsed (Policy O
   unfolding policy_node
   after_permit_lem n o = end_with words_d words at at stored (permit_trace_node n o us) (λ d. refl)
 
-  pub after_deny_lem : (hidden denied : Bool) (o : ℕ) → checked words_d at (deny_trace_node hidden denied o us) ≡ checked words at (policy_node pc p (DenyWithTrace hidden denied o) us)
+  pub after_deny_lem : (shape : DenyShape) (denied : prelude.Option ℕ) → checked words_d at (deny_trace_node shape denied us) ≡ checked words at (policy_node pc p (DenyWithTrace shape denied) us)
   unfolding policy_node
-  after_deny_lem hidden denied o = end_with words_d words at at stored (deny_trace_node hidden denied o us) (λ d. refl)
+  after_deny_lem shape denied = end_with words_d words at at stored (deny_trace_node shape denied us) (λ d. refl)
 
 -- The list rule.
 module _ (most : ℕ) (ws : List ℕ) (depth : ℕ) (res : Bool) where
@@ -155,7 +157,7 @@ some_words (stored (denies d)) = omega arith
 
 ends_later : (at after : ℕ) (q : Parsed (Policy Outcome)) → Ok after ≡ checked words at q → at < after
 unfolding checked
-ends_later at after (refuse n) e = clash after n e
+ends_later at after (refuse n) e = absurd cc
 ends_later at after (got t vs) e =
     let long = some_words t in
     let ends : after ≡ at + words t = cc in

@@ -18,7 +18,7 @@ use Rattle.laws.proofs.WordLaws.{words_for_none, words_for_more}
 use Rattle.laws.proofs.ReadForm.{same_obligation}
 use Rattle.policy_model.specs.Answers.{checked}
 use Rattle.policy_model.specs.Lists.{seen_one, seen_all}
-use Rattle.policy_model.proofs.Checking.{word_at, no_word, Leaves}
+use Rattle.policy_model.proofs.Checking.{word_at, no_word, passed_on, Leaves}
 use Rattle.policy_model.proofs.Fields.{up_to, left, list_ends, list_leaves}
 use Rattle.policy_model.proofs.Fields.{Left as ToCome}
 
@@ -145,3 +145,6 @@ unfolding seen_all
 four_seen w s s₁ s₂ s₃ r e₁ e₂ e₃ e₄ =
     let all : r ≡ seen_one (seen_one (seen_one (seen_one s (w / 16777216)) (w % 16777216 / 65536)) (w % 65536 / 256)) (w % 256) = cc in
     all ∙ ap (seen_all s) (sym (four_fields w))
+
+-- What the loop over the words asks.
+pub ruleset walks = (passed_on, walk_word, walk_refused, walk_short, walk_done, walk_list)

@@ -20,14 +20,9 @@ use Rattle.policy_model.specs.Answers.{refusal, Lead, lead_of}
 use Rattle.policy_model.proofs.Pairs.{entries_leave, entries_long}
 
 -- A part that was read, with the equation.
-next_is : {A B : Type 0} {R : B → List ℕ → Type 0} (q : Parsed A) (k : A → List ℕ → Parsed B) → ((a : A) (vs : List ℕ) → q ≡ got a vs → Holds R (k a vs)) → Holds R (next q k)
+pub next_is : {A B : Type 0} {R : B → List ℕ → Type 0} (q : Parsed A) (k : A → List ℕ → Parsed B) → ((a : A) (vs : List ℕ) → q ≡ got a vs → Holds R (k a vs)) → Holds R (next q k)
 next_is (refuse n) k f = nothing
 next_is (got a vs) k f = f a vs refl
-
-whole_is : {A : Type 0} {R : A → List ℕ → Type 0} (q : Parsed A) → Holds R q → Holds R (whole q)
-whole_is (refuse n) h = nothing
-whole_is (got a []) h = h
-whole_is (got a (w ∷ vs)) h = nothing
 
 -- ---- sheets
 pub sheet_tree : (ws : List ℕ) → Holds (λ t vs. read_policy false 32 ws ≡ got t []) (read_sheet ws)
@@ -41,7 +36,7 @@ sheet_tree ws =
 
 -- What was not refused was read.
 pub was_read : {A X : Type 0} (q : Parsed A) → none ≡ refusal q → ((a : A) (vs : List ℕ) → q ≡ got a vs → X) → X
-was_read (refuse n) e f = let z : ◌≡◌ {A = ℕ} 0 1 = cc in absurd (omega arith)
+was_read (refuse n) e f = absurd cc
 was_read (got a vs) e f = f a vs refl
 
 -- ---- the tree of a record: of a residual, under Resolved one node of it
@@ -112,7 +107,7 @@ record_parts ws =
 pub lead_is_lem : {X : Type 0} (q : Parsed (Record Outcome)) (l : Lead) → got l [] ≡ lead_of q →
     ((r : Record Outcome) (vs : List ℕ) → q ≡ got r vs → l.kind ≡ lead_kind r.body → l.consulted ≡ length r.log → l.tree ≡ 1 + pairs r.log → X) → X
 unfolding lead_of
-lead_is_lem (refuse n) l e f = let z : ◌≡◌ {A = ℕ} 0 1 = cc in absurd (omega arith)
+lead_is_lem (refuse n) l e f = absurd cc
 lead_is_lem (got r vs) l e f =
     let same : l ≡ record { kind = lead_kind r.body; consulted = length r.log; tree = 1 + pairs r.log } = cc in
     f r vs refl (ap (λ x. x.kind) same) (ap (λ x. x.consulted) same) (ap (λ x. x.tree) same)

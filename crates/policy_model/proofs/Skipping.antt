@@ -1,20 +1,22 @@
 -- The span of words is what the trees take that are read of them. Assumes nothing.
+use Rattle.std.specs.Prelude as prelude
+use Rattle.std.specs.Prelude.{Some, None}
 use mathlib.Core.Path.{◌≡◌, refl, sym, ◌∙◌, ap, ap₂, subst}
 use mathlib.Core.Bool.{Bool, true, false, cond}
 use mathlib.Core.Option.{Option}
 use mathlib.Core.List.{List, [], ◌∷◌, ◌++◌, map}
 use Prim.Native.Nat.{ℕ, zero, suc, ◌+◌, ◌-◌, ◌/◌, ◌%◌, ◌≤◌, ◌<◌}
 use native.Mathlib.Omega.{arith}
-use borrow.Author.Tests.{ltb-true, leb-true}
-use lib.Dec.{eqb, ltb, leb}
+use borrow.Author.Tests.{ltb-true}
+use lib.Dec.{eqb, ltb}
 use lib.ListN.{length, drop, get_or, length-map, length-drop}
-use lib.Seq.{drop-drop, get_or-drop}
+use lib.Seq.{drop-drop}
 use Rattle.model.specs.Fields.{words_for, per_word, pack}
 use Rattle.model.specs.Condition.{Condition, not_c, all_c, any_c, cnil, ccons}
 use Rattle.model.specs.Decision.{Decision, permits, denies}
 use Rattle.model.specs.Policy.{Policy, grant, all, any, or_else, stored, pnil, pcons}
 use Rattle.model.specs.Writing.{obligation_bits, entry_bits}
-use Rattle.model.specs.Reading.{Parsed, refuse, got, next, unless, many, read_list, obligation, listed, mark, shape_of, read_condition, most_obligations}
+use Rattle.model.specs.Reading.{Parsed, refuse, got, next, unless, many, read_list, obligation, listed, mark, shape_of, read_condition}
 use Rattle.model.specs.Products.{Outcome, read_policy}
 use Rattle.laws.specs.Size.{quads, pairs, words_c, words_cs, words_d, words, wordss}
 use Rattle.laws.proofs.FieldLaws.{Holds, fine, nothing, if_holds, weaker, then_holds, same_list_lem}
@@ -23,11 +25,12 @@ use Rattle.laws.proofs.ReadForm.{same_obligation, same_listed}
 use Rattle.policy_model.specs.declared.ConditionHead.{ConditionHead}
 use Rattle.policy_model.specs.declared.ConditionHead.TheVariants.{Always, Never, Has, Not}
 use Rattle.policy_model.specs.declared.ConditionHead.TheVariants as condition
+use Rattle.policy_model.specs.declared.DenyShape.{DenyShape}
 use Rattle.policy_model.specs.declared.PolicyHead.{PolicyHead}
 use Rattle.policy_model.specs.declared.PolicyHead.TheVariants.{Permit, Deny, Grant, OrElse, PermitWithTrace, DenyWithTrace}
 use Rattle.policy_model.specs.declared.PolicyHead.TheVariants as policy
-use Rattle.policy_model.specs.Heads.{condition_heads, condition_head, condition_node, permit_head, grant_head, permit_trace_head, deny_trace_head, policy_heads, policy_head, bit_of, denied_by, permit_trace_node, deny_trace_node, grant_node, policy_node}
-use Rattle.policy_model.specs.HeadLaws.{condition_node_lem, condition_deep, policy_node_lem, policy_deep}
+use Rattle.policy_model.specs.Heads.{condition_heads, condition_head, condition_node, policy_head, bit_of, denied_by, permit_trace_node, deny_trace_node, grant_node, policy_node}
+use Rattle.policy_model.specs.HeadLaws.{head_cases, condition_node_lem, condition_deep, policy_node_lem, policy_deep}
 use Rattle.policy_model.specs.Span.{arms_by, arms_of, own_by, own_of, span, Skipped, SkippedConditions}
 use Rattle.policy_model.proofs.Checking.{word_at, no_word}
 
@@ -85,83 +88,37 @@ Says w n o = (n ≡ w / 1048576 % 128) × (o ≡ w % 65536)
 abbrev OpensP : ℕ → PolicyHead → Type 0
 OpensP w (Permit o) = Opens w 0 none_own
 OpensP w Deny = Opens w 0 none_own
-OpensP w (Grant hidden n o) = Opens w 1 (λ ws. suc (words_for 4 n)) × Says w n o
+OpensP w (Grant shape n o) = Opens w 1 (λ ws. suc (words_for 4 n)) × Says w n o
 OpensP w (policy.All n) = Opens w n none_own
 OpensP w (policy.Any n) = Opens w n none_own
 OpensP w OrElse = Opens w 2 none_own
 OpensP w (PermitWithTrace n o) = Opens w 0 (λ ws. suc (words_for 4 n + words_for 2 (get_or ws 0 0 % 4096))) × Says w n o
-OpensP w (DenyWithTrace hidden denied o) = Opens w 0 (λ ws. suc (suc (words_for 2 (get_or ws 1 0 % 4096))))
+OpensP w (DenyWithTrace shape denied) = Opens w 0 (λ ws. suc (suc (words_for 2 (get_or ws 1 0 % 4096))))
 OpensP w policy.BadKind = Unit {0}
 OpensP w policy.BadField = Unit {0}
-
-when_p : (w : ℕ) (b : Bool) (h : PolicyHead) → (b ≡ true → OpensP w h) → OpensP w (cond b h policy.BadField)
-when_p w true h f = f refl
-when_p w false h f = tt
-
-if_p : (w : ℕ) (b : Bool) (h : PolicyHead) → OpensP w h → OpensP w (cond b h policy.BadKind)
-if_p w true h f = f
-if_p w false h f = tt
-
-either_p : (w : ℕ) (b : Bool) (g h : PolicyHead) → OpensP w g → OpensP w h → OpensP w (cond b g h)
-either_p w true g h e f = e
-either_p w false g h e f = f
 
 -- The obligation count is the same of the word and of its 28 bits.
 count_of : (w : ℕ) → w / 1048576 % 128 ≡ w % 268435456 / 1048576 % 128
 count_of w = omega arith
 
-opens_permit : (w : ℕ) → w / 268435456 ≡ 6 → OpensP w (permit_head (w % 268435456))
-unfolding permit_head
-opens_permit w e = when_p w (eqb (w % 268435456 / 65536) 0) (Permit (w % 268435456 % 65536)) (λ _. opens_at w 6 e)
-
-opens_grant : (w : ℕ) → w / 268435456 ≡ 8 → OpensP w (grant_head (w % 268435456))
-unfolding grant_head
-opens_grant w e =
-    let r = w % 268435456 in
-    let n = r / 1048576 % 128 in
-    let h = Grant (eqb (r / 134217728) 1) n (r % 65536) in
-    when_p w (leb n most_obligations) (cond (eqb (r / 65536 % 16) 0) h policy.BadField) (λ _. when_p w (eqb (r / 65536 % 16) 0) h (λ _.
-    (subst (λ m. Opens w 1 (λ ws. suc (words_for 4 m))) (count_of w) (opens_at w 8 e), (sym (count_of w), omega arith))))
-
-opens_permit_trace : (w : ℕ) → w / 268435456 ≡ 12 → OpensP w (permit_trace_head (w % 268435456))
-unfolding permit_trace_head
-opens_permit_trace w e =
-    let r = w % 268435456 in
-    let n = r / 1048576 % 128 in
-    let h = PermitWithTrace n (r % 65536) in
-    when_p w (eqb (r / 134217728) 0) (cond (eqb (r / 65536 % 16) 0) h policy.BadField) (λ _. when_p w (eqb (r / 65536 % 16) 0) h (λ _.
-    (subst (λ m. Opens w 0 (λ ws. suc (words_for 4 m + words_for 2 (get_or ws 0 0 % 4096)))) (count_of w) (opens_at w 12 e), (sym (count_of w), omega arith))))
-
-opens_deny_trace : (w : ℕ) → w / 268435456 ≡ 13 → OpensP w (deny_trace_head (w % 268435456))
-unfolding deny_trace_head
-opens_deny_trace w e =
-    let r = w % 268435456 in
-    let g = DenyWithTrace (eqb (r / 134217728) 1) true (r % 65536) in
-    let h = DenyWithTrace (eqb (r / 134217728) 1) false (r % 65536) in
-    when_p w (eqb (r / 65536 % 1024) 0) (cond (eqb (r / 67108864 % 2) 1) g (cond (eqb (r % 65536) 0) h policy.BadField)) (λ _.
-    either_p w (eqb (r / 67108864 % 2) 1) g (cond (eqb (r % 65536) 0) h policy.BadField) (opens_at w 13 e) (when_p w (eqb (r % 65536) 0) h (λ _. opens_at w 13 e)))
-
-opens_kind_p : (res : Bool) (w j : ℕ) → w / 268435456 ≡ 6 + j → OpensP w (get_or (policy_heads res (w % 268435456)) j policy.BadKind)
-opens_kind_p res w zero e = opens_permit w e
-opens_kind_p res w (suc zero) e = when_p w (eqb (w % 268435456) 0) Deny (λ _. opens_at w 7 e)
-opens_kind_p res w (suc (suc zero)) e = opens_grant w e
-opens_kind_p res w (suc (suc (suc zero))) e = when_p w (ltb (w % 268435456) 4096) (policy.All (w % 268435456)) (λ t. opens_as w (w % 4096) (w % 268435456) none_own (small_count w t) (opens_at w 9 e))
-opens_kind_p res w (suc (suc (suc (suc zero)))) e = when_p w (ltb (w % 268435456) 4096) (policy.Any (w % 268435456)) (λ t. opens_as w (w % 4096) (w % 268435456) none_own (small_count w t) (opens_at w 10 e))
-opens_kind_p res w (suc (suc (suc (suc (suc zero))))) e = when_p w (eqb (w % 268435456) 0) OrElse (λ _. opens_at w 11 e)
-opens_kind_p res w (suc (suc (suc (suc (suc (suc zero)))))) e = if_p w res (permit_trace_head (w % 268435456)) (opens_permit_trace w e)
-opens_kind_p res w (suc (suc (suc (suc (suc (suc (suc zero))))))) e = if_p w res (deny_trace_head (w % 268435456)) (opens_deny_trace w e)
-opens_kind_p res w (suc (suc (suc (suc (suc (suc (suc (suc j)))))))) e = tt
-
-opens_p_at : (res : Bool) (w : ℕ) (b : Bool) → leb 6 (w / 268435456) ≡ b → OpensP w (cond b (get_or (policy_heads res (w % 268435456)) (w / 268435456 - 6) policy.BadKind) policy.BadKind)
-opens_p_at res w true e = let h : 6 ≤ w / 268435456 = leb-true 6 (w / 268435456) e in opens_kind_p res w (w / 268435456 - 6) (omega arith)
-opens_p_at res w false e = tt
-
 opens_p : (res : Bool) (w : ℕ) → OpensP w (policy_head w res)
-unfolding policy_head
-opens_p res w = opens_p_at res w (leb 6 (w / 268435456)) refl
+opens_p res w =
+    let says : Says w (w % 268435456 / 1048576 % 128) (w % 268435456 % 65536) = (sym (count_of w), omega arith) in
+    head_cases (OpensP w) w res (record {
+      bad_kind_is = tt;
+      bad_field_is = tt;
+      permit_is = λ e. opens_at w 6 e;
+      deny_is = λ e. opens_at w 7 e;
+      grant_is = λ e. (subst (λ m. Opens w 1 (λ ws. suc (words_for 4 m))) (count_of w) (opens_at w 8 e), says);
+      all_is = λ e h. opens_as w (w % 4096) (w % 268435456) none_own (omega arith) (opens_at w 9 e);
+      any_is = λ e h. opens_as w (w % 4096) (w % 268435456) none_own (omega arith) (opens_at w 10 e);
+      or_else_is = λ e. opens_at w 11 e;
+      permit_trace_is = λ e _. (subst (λ m. Opens w 0 (λ ws. suc (words_for 4 m + words_for 2 (get_or ws 0 0 % 4096)))) (count_of w) (opens_at w 12 e), says);
+      deny_trace_is = λ e _ _ _. opens_at w 13 e;
+    })
 
-pub grant_says : (res : Bool) (w : ℕ) (hidden : Bool) (n o : ℕ) → Grant hidden n o ≡ policy_head w res → Says w n o
-grant_says res w hidden n o e = (subst (OpensP w) (sym e) (opens_p res w)).1
+pub grant_says : (res : Bool) (w : ℕ) (shape : DenyShape) (n o : ℕ) → Grant shape n o ≡ policy_head w res → Says w n o
+grant_says res w shape n o e = (subst (OpensP w) (sym e) (opens_p res w)).1
 
 pub permit_says : (res : Bool) (w n o : ℕ) → PermitWithTrace n o ≡ policy_head w res → Says w n o
 permit_says res w n o e = (subst (OpensP w) (sym e) (opens_p res w)).1
@@ -283,10 +240,10 @@ anything (refuse n) = nothing
 anything (got a vs) = fine tt
 
 module _ (pc : List ℕ → Parsed Condition) (spans-C : (us : List ℕ) → Holds (SpanC us) (pc us)) where
-  span_grant : (w : ℕ) (ws : List ℕ) (hidden : Bool) (n o : ℕ) → Opens w 1 (λ us. suc (words_for 4 n)) → Holds (SpanP (w ∷ ws)) (grant_node pc hidden n o ws)
+  span_grant : (w : ℕ) (ws : List ℕ) (shape : DenyShape) (n o : ℕ) → Opens w 1 (λ us. suc (words_for 4 n)) → Holds (SpanP (w ∷ ws)) (grant_node pc shape n o ws)
   unfolding grant_node
-  span_grant w [] hidden n o op = nothing
-  span_grant w (w₂ ∷ ws) hidden n o op =
+  span_grant w [] shape n o op = nothing
+  span_grant w (w₂ ∷ ws) shape n o op =
       then_holds (mark (w₂ / 65536)) (λ l _. next (mark (w₂ % 65536)) (λ m _. next (read_list obligation obligation_bits n ws) (λ os vs. next (pc vs) (λ c us. got (made l m os c) us)))) (anything (mark (w₂ / 65536))) (λ l _ _.
       then_holds (mark (w₂ % 65536)) (λ m _. next (read_list obligation obligation_bits n ws) (λ os vs. next (pc vs) (λ c us. got (made l m os c) us))) (anything (mark (w₂ % 65536))) (λ m _ _.
       then_holds (read_list obligation obligation_bits n ws) (λ os vs. next (pc vs) (λ c us. got (made l m os c) us)) (span_obligations n ws) (λ os vs h.
@@ -300,7 +257,7 @@ module _ (pc : List ℕ → Parsed Condition) (spans-C : (us : List ℕ) → Hol
       omega (arith, e₁, e₂, e₀, h.1 0 (1 + nodes), e₃, g nodes, e₄))))))
     where
       made : Option ℕ → Option ℕ → List ℕ → Condition → Policy Outcome
-      made l m os c = grant (record { outcome = o; obligations = os; label = l; reason = m; shape = shape_of (bit_of hidden) }) c
+      made l m os c = grant (record { outcome = o; obligations = os; label = l; reason = m; shape = shape_of (bit_of shape) }) c
 
 span_permit_trace : (w : ℕ) (ws : List ℕ) (n o : ℕ) → Opens w 0 (λ us. suc (words_for 4 n + words_for 2 (get_or us 0 0 % 4096))) → Holds (SpanD (w ∷ ws)) (permit_trace_node n o ws)
 unfolding permit_trace_node
@@ -329,13 +286,13 @@ span_permit_trace w (w₂ ∷ ws) n o op =
     made : Option ℕ → List ℕ → List ℕ → Decision Outcome
     made l os fs = permits (record { outcome = o; obligations = os; label = l; facts = fs })
 
-span_deny_trace : (w : ℕ) (ws : List ℕ) (hidden denied : Bool) (o : ℕ) → Opens w 0 (λ us. suc (suc (words_for 2 (get_or us 1 0 % 4096)))) → Holds (SpanD (w ∷ ws)) (deny_trace_node hidden denied o ws)
+span_deny_trace : (w : ℕ) (ws : List ℕ) (shape : DenyShape) (denied : prelude.Option ℕ) → Opens w 0 (λ us. suc (suc (words_for 2 (get_or us 1 0 % 4096)))) → Holds (SpanD (w ∷ ws)) (deny_trace_node shape denied ws)
 unfolding deny_trace_node
-span_deny_trace w [] hidden denied o op = nothing
-span_deny_trace w (w₂ ∷ []) hidden denied o op =
+span_deny_trace w [] shape denied op = nothing
+span_deny_trace w (w₂ ∷ []) shape denied op =
     then_holds (mark (w₂ / 65536)) (λ l _. next (mark (w₂ % 65536)) (λ m _. refuse 6)) (anything (mark (w₂ / 65536))) (λ l _ _.
     then_holds (mark (w₂ % 65536)) (λ m _. refuse 6) (anything (mark (w₂ % 65536))) (λ m _ _. nothing))
-span_deny_trace w (w₂ ∷ (w₃ ∷ ws)) hidden denied o op =
+span_deny_trace w (w₂ ∷ (w₃ ∷ ws)) shape denied op =
     then_holds (mark (w₂ / 65536)) (λ l _. next (mark (w₂ % 65536)) (λ m _. unless (ltb w₃ 4096) 8 (next (read_list listed entry_bits w₃ ws) (λ fs us. got (made l m fs) us)))) (anything (mark (w₂ / 65536))) (λ l _ _.
     then_holds (mark (w₂ % 65536)) (λ m _. unless (ltb w₃ 4096) 8 (next (read_list listed entry_bits w₃ ws) (λ fs us. got (made l m fs) us))) (anything (mark (w₂ % 65536))) (λ m _ _.
     if_holds (ltb w₃ 4096) 8 (next (read_list listed entry_bits w₃ ws) (λ fs us. got (made l m fs) us)) (λ t.
@@ -353,7 +310,7 @@ span_deny_trace w (w₂ ∷ (w₃ ∷ ws)) hidden denied o op =
     omega (arith, e₁, e₂, e₃, e₄, e₅, e₆))))))
   where
     made : Option ℕ → Option ℕ → List ℕ → Decision Outcome
-    made l m fs = denies (record { denied = denied_by denied o; facts = fs; label = l; reason = m; shape = shape_of (bit_of hidden) })
+    made l m fs = denies (record { denied = denied_by denied; facts = fs; label = l; reason = m; shape = shape_of (bit_of shape) })
 
 module _ (pc : List ℕ → Parsed Condition) (spans-C : (us : List ℕ) → Holds (SpanC us) (pc us)) (p : List ℕ → Parsed (Policy Outcome)) (spans : (us : List ℕ) → Holds (SpanP us) (p us)) where
   spans_p : (count : ℕ) (us : List ℕ) → Holds (λ ts vs. (nodes : ℕ) → span us 0 (count + nodes) ≡ wordss ts + span vs 0 nodes) (many pnil pcons p count us)
@@ -363,7 +320,7 @@ module _ (pc : List ℕ → Parsed Condition) (spans-C : (us : List ℕ) → Hol
   unfolding policy_node
   span_node_p w ws (Permit o) op = fine (λ nodes. span_leaf w ws nodes op)
   span_node_p w ws Deny op = fine (λ nodes. span_leaf w ws nodes op)
-  span_node_p w ws (Grant hidden n o) op = span_grant pc spans-C w ws hidden n o op.0
+  span_node_p w ws (Grant shape n o) op = span_grant pc spans-C w ws shape n o op.0
   span_node_p w ws (policy.All n) op =
       then_holds (many pnil pcons p n ws) (λ ts vs. got (all ts) vs) (spans_p n ws) (λ ts vs h. fine (λ nodes. omega (arith, span_word w ws nodes n none_own op, h nodes)))
   span_node_p w ws (policy.Any n) op =
@@ -374,7 +331,7 @@ module _ (pc : List ℕ → Parsed Condition) (spans-C : (us : List ℕ) → Hol
       let e : span ws 0 (2 + nodes) ≡ span ws 0 (suc (suc nodes)) = ap (span ws 0) (omega arith) in
       omega (arith, span_word w ws nodes 2 none_own op, e, h (suc nodes), g nodes))))
   span_node_p w ws (PermitWithTrace n o) op = then_holds (permit_trace_node n o ws) (λ d vs. got (stored d) vs) (span_permit_trace w ws n o op.0) (λ d vs h. fine h)
-  span_node_p w ws (DenyWithTrace hidden denied o) op = then_holds (deny_trace_node hidden denied o ws) (λ d vs. got (stored d) vs) (span_deny_trace w ws hidden denied o op) (λ d vs h. fine h)
+  span_node_p w ws (DenyWithTrace shape denied) op = then_holds (deny_trace_node shape denied ws) (λ d vs. got (stored d) vs) (span_deny_trace w ws shape denied op) (λ d vs h. fine h)
   span_node_p w ws policy.BadKind op = nothing
   span_node_p w ws policy.BadField op = nothing
 
@@ -398,74 +355,6 @@ skipped_conditions words at count r e = record {
 
 pub skipped_policies : (depth : ℕ) (res : Bool) (count at r : ℕ) (us : List ℕ) → r ≡ at + span us 0 count → Skipped wordss at (many pnil pcons (read_policy res depth) count us) r
 skipped_policies depth res = skipped_many words wordss pnil pcons (read_policy res depth) refl (λ a b. refl) (span_p res depth)
-
--- ---- the code's counts, by the kind
-pub arms_by_lem : (w k : ℕ) → w / 268435456 ≡ k → get_or (arms_by (w % 4096)) k 0 ≡ arms_of w
-arms_by_lem w k e = sym (opens_at w k e).arms_are
-
-own_by_lem : (w k : ℕ) (ws : List ℕ) → w / 268435456 ≡ k → get_or (own_by (w / 1048576 % 128) ws) k 0 ≡ own_of w ws
-own_by_lem w k ws e = sym ((opens_at w k e).own_are ws)
-
-no_arms : (n k : ℕ) → (k ≡ 3 → ⊥) → (k ≡ 4 → ⊥) → (k ≡ 5 → ⊥) → (k ≡ 8 → ⊥) → (k ≡ 9 → ⊥) → (k ≡ 10 → ⊥) → (k ≡ 11 → ⊥) → 0 ≡ get_or (arms_by n) k 0
-no_arms n zero a b c d e f g = refl
-no_arms n (suc zero) a b c d e f g = refl
-no_arms n (suc (suc zero)) a b c d e f g = refl
-no_arms n (suc (suc (suc zero))) a b c d e f g = absurd (a refl)
-no_arms n (suc (suc (suc (suc zero)))) a b c d e f g = absurd (b refl)
-no_arms n (suc (suc (suc (suc (suc zero))))) a b c d e f g = absurd (c refl)
-no_arms n (suc (suc (suc (suc (suc (suc zero)))))) a b c d e f g = refl
-no_arms n (suc (suc (suc (suc (suc (suc (suc zero))))))) a b c d e f g = refl
-no_arms n (suc (suc (suc (suc (suc (suc (suc (suc zero)))))))) a b c d e f g = absurd (d refl)
-no_arms n (suc (suc (suc (suc (suc (suc (suc (suc (suc zero))))))))) a b c d e f g = absurd (e refl)
-no_arms n (suc (suc (suc (suc (suc (suc (suc (suc (suc (suc zero)))))))))) a b c d e f g = absurd (f refl)
-no_arms n (suc (suc (suc (suc (suc (suc (suc (suc (suc (suc (suc zero))))))))))) a b c d e f g = absurd (g refl)
-no_arms n (suc (suc (suc (suc (suc (suc (suc (suc (suc (suc (suc (suc k)))))))))))) a b c d e f g = refl
-
-pub arms_few : (w k : ℕ) → w / 268435456 ≡ k → k < 3 → 0 ≡ arms_of w
-arms_few w k h few =
-    no_arms (w % 4096) k (λ e. omega arith) (λ e. omega arith) (λ e. omega arith) (λ e. omega arith) (λ e. omega arith) (λ e. omega arith) (λ e. omega arith) ∙ arms_by_lem w k h
-
-pub arms_none : (w k : ℕ) → w / 268435456 ≡ k → (k ≡ 3 → ⊥) → (k ≡ 4 → ⊥) → (k ≡ 5 → ⊥) → (k ≡ 8 → ⊥) → (k ≡ 9 → ⊥) → (k ≡ 10 → ⊥) → (k ≡ 11 → ⊥) → 0 ≡ arms_of w
-arms_none w k h a b c d e f g = no_arms (w % 4096) k a b c d e f g ∙ arms_by_lem w k h
-
-no_own : (n k : ℕ) (ws : List ℕ) → (k ≡ 8 → ⊥) → (k ≡ 12 → ⊥) → (k ≡ 13 → ⊥) → 0 ≡ get_or (own_by n ws) k 0
-no_own n zero ws a b c = refl
-no_own n (suc zero) ws a b c = refl
-no_own n (suc (suc zero)) ws a b c = refl
-no_own n (suc (suc (suc zero))) ws a b c = refl
-no_own n (suc (suc (suc (suc zero)))) ws a b c = refl
-no_own n (suc (suc (suc (suc (suc zero))))) ws a b c = refl
-no_own n (suc (suc (suc (suc (suc (suc zero)))))) ws a b c = refl
-no_own n (suc (suc (suc (suc (suc (suc (suc zero))))))) ws a b c = refl
-no_own n (suc (suc (suc (suc (suc (suc (suc (suc zero)))))))) ws a b c = absurd (a refl)
-no_own n (suc (suc (suc (suc (suc (suc (suc (suc (suc zero))))))))) ws a b c = refl
-no_own n (suc (suc (suc (suc (suc (suc (suc (suc (suc (suc zero)))))))))) ws a b c = refl
-no_own n (suc (suc (suc (suc (suc (suc (suc (suc (suc (suc (suc zero))))))))))) ws a b c = refl
-no_own n (suc (suc (suc (suc (suc (suc (suc (suc (suc (suc (suc (suc zero)))))))))))) ws a b c = absurd (b refl)
-no_own n (suc (suc (suc (suc (suc (suc (suc (suc (suc (suc (suc (suc (suc zero))))))))))))) ws a b c = absurd (c refl)
-no_own n (suc (suc (suc (suc (suc (suc (suc (suc (suc (suc (suc (suc (suc (suc k)))))))))))))) ws a b c = refl
-
-module _ (ws : List ℕ) (at w : ℕ) where
-  pub own_none : (k : ℕ) → w / 268435456 ≡ k → (k ≡ 8 → ⊥) → (k ≡ 12 → ⊥) → (k ≡ 13 → ⊥) → 0 ≡ own_of w (drop (at + 1) ws)
-  own_none k h a b c = no_own (w / 1048576 % 128) k (drop (at + 1) ws) a b c ∙ own_by_lem w k (drop (at + 1) ws) h
-
-  pub own_few : (k : ℕ) → w / 268435456 ≡ k → k < 8 → 0 ≡ own_of w (drop (at + 1) ws)
-  own_few k h few = own_none k h (λ e. omega arith) (λ e. omega arith) (λ e. omega arith)
-
-  pub own_grant : (n : ℕ) → n ≡ words_for 4 (w / 1048576 % 128) → w / 268435456 ≡ 8 → n + 1 ≡ own_of w (drop (at + 1) ws)
-  own_grant n m h = omega (arith, own_by_lem w 8 (drop (at + 1) ws) h)
-
-  pub own_permit : (n f : ℕ) → n ≡ words_for 4 (w / 1048576 % 128) → f ≡ words_for 2 (get_or ws (at + 1) 0 % 4096) → w / 268435456 ≡ 12 → n + f + 1 ≡ own_of w (drop (at + 1) ws)
-  own_permit n f m e h =
-      let g : words_for 2 (get_or (drop (at + 1) ws) 0 0 % 4096) ≡ words_for 2 (get_or ws (at + 1) 0 % 4096) =
-      ap (λ n. words_for 2 (n % 4096)) (get_or-drop (at + 1) ws 0 0 ∙ ap (λ i. get_or ws i 0) (let z : at + 1 + 0 ≡ at + 1 = omega arith in z)) in
-      omega (arith, own_by_lem w 12 (drop (at + 1) ws) h)
-
-  pub own_deny : (f : ℕ) → f ≡ words_for 2 (get_or ws (at + 2) 0 % 4096) → w / 268435456 ≡ 13 → f + 2 ≡ own_of w (drop (at + 1) ws)
-  own_deny f e h =
-      let g : words_for 2 (get_or (drop (at + 1) ws) 1 0 % 4096) ≡ words_for 2 (get_or ws (at + 2) 0 % 4096) =
-      ap (λ n. words_for 2 (n % 4096)) (get_or-drop (at + 1) ws 1 0 ∙ ap (λ i. get_or ws i 0) (let z : at + 1 + 1 ≡ at + 2 = omega arith in z)) in
-      omega (arith, own_by_lem w 13 (drop (at + 1) ws) h)
 
 -- ---- the loop: one node more, and its ends
 span_passed : (ws : List ℕ) (passed nodes : ℕ) → passed ≤ length ws → span ws passed nodes ≡ passed + span (drop passed ws) 0 nodes
@@ -515,3 +404,5 @@ module _ (ws : List ℕ) (at : ℕ) where
 
   pub no_node_left : (nodes : ℕ) → nodes ≡ 0 → at ≡ at + span (drop at ws) 0 nodes
   no_node_left nodes e = let z : span (drop at ws) 0 nodes ≡ 0 = ap (span (drop at ws) 0) e ∙ span_zero (drop at ws) in omega arith
+
+pub ruleset skips = (goes_on, runs_out, all_words, no_word_left, no_node_left)

@@ -27,7 +27,7 @@ use Rattle.policy_model.specs.declared.Status.{Status}
 use Rattle.policy_model.specs.declared.Status.TheVariants.{Resolved, Pending}
 use Rattle.policy_model.specs.Answers.{checked, at_end, refusal, words_b, lead_of, kind_by, Lead}
 use Rattle.policy_model.specs.Answers as answers
-use Rattle.policy_model.proofs.Checking.{word_at, no_word, clash, Leaves}
+use Rattle.policy_model.proofs.Checking.{word_at, no_word, passed_on, Leaves}
 use Rattle.policy_model.proofs.Policies.{leaves_by}
 use Rattle.policy_model.proofs.Pairs.{entries_leave, entries_long}
 
@@ -100,13 +100,13 @@ module _ (most : ℕ) where
 
     accepted : {A : Type 0} (size : A → ℕ) (n : ℕ) (q : Parsed A) → Ok n ≡ checked size 0 q → none ≡ refusal q
     unfolding checked
-    accepted size n (refuse m) e = clash n m e
+    accepted size n (refuse m) e = absurd cc
     accepted size n (got a vs) e = refl
 
     turned_back_lem : {A : Type 0} (size : A → ℕ) (n : ℕ) (q : Parsed A) → Err n ≡ checked size 0 q → some n ≡ refusal q
     unfolding checked
     turned_back_lem size n (refuse m) e = let k : n ≡ m = cc in ap some k
-    turned_back_lem size n (got a vs) e = clash (0 + size a) n (sym e)
+    turned_back_lem size n (got a vs) e = absurd cc
 
     to_the_last : (found r : Result ℕ ℕ) → found ≡ checked words 0 (read_policy false 32 ws) → r ≡ at_end (length ws) found → r ≡ checked words 0 (whole (read_policy false 32 ws))
     to_the_last found r e g = g ∙ ap (at_end (length ws)) e ∙ whole_checked words ws 0 (read_policy false 32 ws) (leaves_by most false 32 ws)
@@ -263,7 +263,7 @@ module _ (most : ℕ) where
     entries_then : (count tree : ℕ) (q : Parsed Consulted) → Holds (λ es vs. length es ≡ count) q → Leaves pairs (drop 1 ws) q → Ok tree ≡ checked pairs 1 q →
         lead_by s count tree (checked words_b tree (whole (body_at s (drop tree ws)))) ≡ lead_of (whole (next q and_tree))
     unfolding checked
-    entries_then count tree (refuse n) h l e = clash tree n e
+    entries_then count tree (refuse n) h l e = absurd cc
     entries_then count tree (got es vs) h l e =
         let ends : tree ≡ 1 + pairs es = cc in
         let rest : drop tree ws ≡ vs = ap (λ n. drop n ws) ends ∙ sym (drop-drop (pairs es) 1 ws) ∙ l.it in
@@ -274,7 +274,7 @@ module _ (most : ℕ) where
     entries_refused : (n : ℕ) (q : Parsed Consulted) → Err n ≡ checked pairs 1 q → refuse n ≡ lead_of (whole (next q and_tree))
     unfolding checked lead_of
     entries_refused n (refuse m) e = let k : n ≡ m = cc in ap refuse k
-    entries_refused n (got es vs) e = clash (1 + pairs es) n (sym e)
+    entries_refused n (got es vs) e = absurd cc
 
   -- What stands under a lead.
   under_lead : (s : Status) (r : ℕ) (vs : List ℕ) → rest (below most) (body_at s) r vs ≡ leads (kind_by s - 14) r vs
@@ -343,3 +343,13 @@ module _ (most : ℕ) where
             ap (lead_by s n₁ tree) d
             ∙ entries_then ws s n₁ tree (read_list consulted entry_bits n₁ (drop 1 ws)) (entries_long n₁ (drop 1 ws)) (entries_leave n₁ (drop 1 ws)) e
             ∙ ap lead_of known_lead
+
+-- The tree of a record, by its status; and one node 12 or 13.
+pub ruleset bodies = (passed_on, to_pending, to_resolved)
+
+pub ruleset one_nodes = (no_tree, other_tree, resolved_tree)
+
+-- No word, or too many.
+pub ruleset sheet_lengths = (no_sheet_lem, long_sheet)
+
+pub ruleset record_lengths = (no_record, long_record)

@@ -1,7 +1,9 @@
 -- A node read by its kind and its other bits is the node read by its head: for every walk over the words.
-use Rattle.std.specs.Prelude.{◌≡◌, Bool, ◌&&◌, List, ◌∷◌, eqb, ltb, leb, get_or}
+use Rattle.std.specs.Prelude as prelude
+use Rattle.std.specs.Prelude.{◌≡◌, Bool, Some, None, ◌&&◌, List, ◌∷◌, eqb, ltb, leb, get_or}
+use Rattle.std.proofs.Math.Logic.{◌⊎◌, inl, inr}
 use Rattle.std.proofs.Math.Path.{refl}
-use Rattle.std.proofs.Common.{sym, ◌∙◌, ap, eq-eqb, leb-true, lt-ltb, le-ltb}
+use Rattle.std.proofs.Common.{sym, ◌∙◌, ap, eq-eqb, leb-true, ltb-true, lt-ltb, le-ltb}
 use Rattle.std.proofs.Math.Bool.{true, false, cond}
 use Rattle.std.proofs.Math.Option.{none, some}
 use Prim.Native.Nat.{ℕ, zero, suc, ◌+◌, ◌-◌, ◌/◌, ◌%◌, ◌≤◌, ◌<◌}
@@ -20,7 +22,7 @@ use Rattle.policy_model.specs.declared.ConditionHead.TheVariants as condition
 use Rattle.policy_model.specs.declared.PolicyHead.{PolicyHead}
 use Rattle.policy_model.specs.declared.PolicyHead.TheVariants.{Permit, Deny, Grant, OrElse, PermitWithTrace, DenyWithTrace}
 use Rattle.policy_model.specs.declared.PolicyHead.TheVariants as policy
-use Rattle.policy_model.specs.Heads.{condition_heads, condition_head, condition_node, deep_condition, permit_head, grant_head, permit_trace_head, deny_trace_head, policy_heads, policy_head, within_most, bit_of, permit_trace_node, deny_trace_node, grant_node, policy_node, deep_policy}
+use Rattle.policy_model.specs.Heads.{condition_heads, condition_head, condition_node, deep_condition, permit_head, grant_head, permit_trace_head, deny_trace_head, policy_heads, policy_head, within_most, shape_by, bit_of, permit_trace_node, deny_trace_node, grant_node, policy_node, deep_policy}
 
 -- ---- conditions
 module _ (p : List ℕ → Parsed Condition) (ws : List ℕ) where
@@ -63,8 +65,8 @@ condition_deep w ws = deep_kind_c (kind_of w) (rest_of w)
 
 -- ---- policies
 
--- A field of one bit as a flag.
-pub bit_is : (n : ℕ) → n < 2 → bit_of (eqb n 1) ≡ n
+-- A field of one bit as a shape.
+pub bit_is : (n : ℕ) → n < 2 → bit_of (shape_by (eqb n 1)) ≡ n
 bit_is zero h = refl
 bit_is (suc zero) h = refl
 bit_is (suc (suc n)) h = let z : ⊥ = omega arith in absurd z
@@ -106,7 +108,7 @@ module _ (most : ℕ) (pc : List ℕ → Parsed Condition) (p : List ℕ → Par
       let z = r / 65536 % 16 in
       let o = r % 65536 in
       let more : ℕ → ℕ → Parsed (Policy Outcome) = λ s v. another ws (λ w vs. grant_more pc s n v (w / 65536) (w % 65536) vs) in
-      let h = Grant (eqb sh 1) n o in
+      let h = Grant (shape_by (eqb sh 1)) n o in
       let q = reading.outcome_of (below most) (below most o) (more sh) in
       let given : q ≡ NodeBy h = outcome_p (ltb o most) o h (more sh) (ap (λ s. more s o) (sym (bit_is sh (omega arith)))) in
       field_p (leb n most_obligations) (cond (eqb z 0) h policy.BadField) (unless (eqb z 0) 8 q) (field_p (eqb z 0) h q given)
@@ -135,15 +137,15 @@ module _ (most : ℕ) (pc : List ℕ → Parsed Condition) (p : List ℕ → Par
   -- the denied outcome, by its present bit
   denied_by_head : (sh here r : ℕ) → sh < 2 → here < 2 →
       as_stored (reading.denied_of (below most) here (r % 65536) (λ den. another ws (λ w vs. more13 sh den (w / 65536) (w % 65536) vs)))
-      ≡ NodeBy (cond (eqb here 1) (DenyWithTrace (eqb sh 1) true (r % 65536)) (cond (eqb (r % 65536) 0) (DenyWithTrace (eqb sh 1) false (r % 65536)) policy.BadField))
+      ≡ NodeBy (cond (eqb here 1) (DenyWithTrace (shape_by (eqb sh 1)) (Some (r % 65536))) (cond (eqb (r % 65536) 0) (DenyWithTrace (shape_by (eqb sh 1)) None) policy.BadField))
   unfolding policy_node deny_trace_node
   denied_by_head sh zero r hs hh =
       let more : ℕ → Parsed (Decision Outcome) = λ s. another ws (λ w vs. more13 s none (w / 65536) (w % 65536) vs) in
       stored_field (eqb (r % 65536) 0) (more sh)
-      ∙ field_p (eqb (r % 65536) 0) (DenyWithTrace (eqb sh 1) false (r % 65536)) (as_stored (more sh)) (ap (λ s. as_stored (more s)) (sym (bit_is sh hs)))
+      ∙ field_p (eqb (r % 65536) 0) (DenyWithTrace (shape_by (eqb sh 1)) None) (as_stored (more sh)) (ap (λ s. as_stored (more s)) (sym (bit_is sh hs)))
   denied_by_head sh (suc zero) r hs hh =
       let more : ℕ → ℕ → Parsed (Decision Outcome) = λ s v. another ws (λ w vs. more13 s (some v) (w / 65536) (w % 65536) vs) in
-      outcome_d (ltb (r % 65536) most) (r % 65536) (DenyWithTrace (eqb sh 1) true (r % 65536)) (more sh) (ap (λ s. as_stored (more s (r % 65536))) (sym (bit_is sh hs)))
+      outcome_d (ltb (r % 65536) most) (r % 65536) (DenyWithTrace (shape_by (eqb sh 1)) (Some (r % 65536))) (more sh) (ap (λ s. as_stored (more s (r % 65536))) (sym (bit_is sh hs)))
   denied_by_head sh (suc (suc here)) r hs hh = let z : ⊥ = omega arith in absurd z
 
   deny_trace_by_head : (r : ℕ) → r < 268435456 → as_stored (reading.at13 (below most) r ws) ≡ NodeBy (deny_trace_head r)
@@ -153,7 +155,7 @@ module _ (most : ℕ) (pc : List ℕ → Parsed Condition) (p : List ℕ → Par
       let here = r / 67108864 % 2 in
       let z = r / 65536 % 1024 in
       let q = reading.denied_of (below most) here (r % 65536) (λ den. another ws (λ w vs. more13 sh den (w / 65536) (w % 65536) vs)) in
-      let h = cond (eqb here 1) (DenyWithTrace (eqb sh 1) true (r % 65536)) (cond (eqb (r % 65536) 0) (DenyWithTrace (eqb sh 1) false (r % 65536)) policy.BadField) in
+      let h = cond (eqb here 1) (DenyWithTrace (shape_by (eqb sh 1)) (Some (r % 65536))) (cond (eqb (r % 65536) 0) (DenyWithTrace (shape_by (eqb sh 1)) None) policy.BadField) in
       stored_field (eqb z 0) q ∙ field_p (eqb z 0) h (as_stored q) (denied_by_head sh here r (omega arith) (omega arith))
 
   in_residual_lem : (res : Bool) (h : PolicyHead) (q : Parsed (Policy Outcome)) → q ≡ NodeBy h → in_residual (below most) res q ≡ NodeBy (cond res h policy.BadKind)
@@ -190,45 +192,68 @@ pub policy_node_by : (most : ℕ) (res : Bool) (d w : ℕ) (ws : List ℕ) →
     ≡ unless (within_most most (policy_head w res)) 8 (policy_node (λ vs. read_condition d vs) (λ vs. reading.read_policy (below most) res d vs) (policy_head w res) ws)
 policy_node_by most res d w ws = policy_by_head most (λ vs. read_condition d vs) (λ vs. reading.read_policy (below most) res d vs) ws res w
 
+-- What a policy's first word can say, by its kind.
+pub record HeadCases (P : PolicyHead → Type 0) (w : ℕ) (res : Bool) : Type 0 where
+  pub bad_kind_is : P policy.BadKind
+  pub bad_field_is : P policy.BadField
+  pub permit_is : kind_of w ≡ 6 → P (Permit (rest_of w % 65536))
+  pub deny_is : kind_of w ≡ 7 → P Deny
+  pub grant_is : kind_of w ≡ 8 → P (Grant (shape_by (eqb (rest_of w / 134217728) 1)) (rest_of w / 1048576 % 128) (rest_of w % 65536))
+  pub all_is : kind_of w ≡ 9 → rest_of w < 4096 → P (policy.All (rest_of w))
+  pub any_is : kind_of w ≡ 10 → rest_of w < 4096 → P (policy.Any (rest_of w))
+  pub or_else_is : kind_of w ≡ 11 → P OrElse
+  pub permit_trace_is : kind_of w ≡ 12 → res ≡ true → P (PermitWithTrace (rest_of w / 1048576 % 128) (rest_of w % 65536))
+  pub deny_trace_is : kind_of w ≡ 13 → res ≡ true → (denied : prelude.Option ℕ) → denied ≡ None ⊎ denied ≡ Some (rest_of w % 65536) → P (DenyWithTrace (shape_by (eqb (rest_of w / 134217728) 1)) denied)
+
+module _ (P : PolicyHead → Type 0) (w : ℕ) (res : Bool) (cases : HeadCases P w res) where
+  if_field : (b : Bool) (h : PolicyHead) → (b ≡ true → P h) → P (cond b h policy.BadField)
+  if_field true h f = f refl
+  if_field false h f = cases.bad_field_is
+
+  if_kind : (b : Bool) (h : PolicyHead) → (b ≡ true → P h) → P (cond b h policy.BadKind)
+  if_kind true h f = f refl
+  if_kind false h f = cases.bad_kind_is
+
+  if_either : (b : Bool) (g h : PolicyHead) → P g → P h → P (cond b g h)
+  if_either true g h x y = x
+  if_either false g h x y = y
+
+  by_kind : (j : ℕ) → kind_of w ≡ 6 + j → P (get_or (policy_heads res (rest_of w)) j policy.BadKind)
+  unfolding permit_head grant_head permit_trace_head deny_trace_head
+  by_kind zero e = if_field (eqb (rest_of w / 65536) 0) _ (λ _. cases.permit_is e)
+  by_kind (suc zero) e = if_field (eqb (rest_of w) 0) Deny (λ _. cases.deny_is e)
+  by_kind (suc (suc zero)) e = if_field (leb (rest_of w / 1048576 % 128) most_obligations) _ (λ _. if_field (eqb (rest_of w / 65536 % 16) 0) _ (λ _. cases.grant_is e))
+  by_kind (suc (suc (suc zero))) e = if_field (ltb (rest_of w) 4096) _ (λ t. cases.all_is e (ltb-true (rest_of w) 4096 t))
+  by_kind (suc (suc (suc (suc zero)))) e = if_field (ltb (rest_of w) 4096) _ (λ t. cases.any_is e (ltb-true (rest_of w) 4096 t))
+  by_kind (suc (suc (suc (suc (suc zero))))) e = if_field (eqb (rest_of w) 0) OrElse (λ _. cases.or_else_is e)
+  by_kind (suc (suc (suc (suc (suc (suc zero)))))) e =
+      if_kind res (permit_trace_head (rest_of w)) (λ r. if_field (eqb (rest_of w / 134217728) 0) _ (λ _. if_field (eqb (rest_of w / 65536 % 16) 0) _ (λ _. cases.permit_trace_is e r)))
+  by_kind (suc (suc (suc (suc (suc (suc (suc zero))))))) e =
+      if_kind res (deny_trace_head (rest_of w)) (λ r. if_field (eqb (rest_of w / 65536 % 1024) 0) _ (λ _.
+      if_either (eqb (rest_of w / 67108864 % 2) 1) _ _ (cases.deny_trace_is e r _ (inr refl))
+      (if_field (eqb (rest_of w % 65536) 0) _ (λ _. cases.deny_trace_is e r _ (inl refl)))))
+  by_kind (suc (suc (suc (suc (suc (suc (suc (suc j)))))))) e = cases.bad_kind_is
+
+  pub head_cases : P (policy_head w res)
+  unfolding policy_head
+  head_cases = if_kind (leb 6 (kind_of w)) _ (λ t. let h : 6 ≤ kind_of w = leb-true 6 (kind_of w) t in by_kind (kind_of w - 6) (omega arith))
+
 -- Sixteen bits stand for a set of products.
-set_is : (r : ℕ) → ltb (r % 65536) 65536 ≡ true
-set_is r = lt-ltb (r % 65536) 65536 (omega arith)
-
-abbrev Set : PolicyHead → Type 0
-Set h = within_most 65536 h ≡ true
-
-set_either : (b : Bool) (g h : PolicyHead) → Set g → Set h → Set (cond b g h)
-set_either true g h e f = e
-set_either false g h e f = f
-
-set_field : (b : Bool) (h : PolicyHead) → Set h → Set (cond b h policy.BadField)
-set_field b h e = set_either b h policy.BadField e refl
-
-set_kind : (res : Bool) (j r : ℕ) → Set (get_or (policy_heads res r) j policy.BadKind)
-unfolding permit_head grant_head permit_trace_head deny_trace_head
-set_kind res zero r = set_field (eqb (r / 65536) 0) (Permit (r % 65536)) (set_is r)
-set_kind res (suc zero) r = set_field (eqb r 0) Deny refl
-set_kind res (suc (suc zero)) r =
-    let h = Grant (eqb (r / 134217728) 1) (r / 1048576 % 128) (r % 65536) in
-    set_field (leb (r / 1048576 % 128) most_obligations) (cond (eqb (r / 65536 % 16) 0) h policy.BadField) (set_field (eqb (r / 65536 % 16) 0) h (set_is r))
-set_kind res (suc (suc (suc zero))) r = set_field (ltb r 4096) (policy.All r) refl
-set_kind res (suc (suc (suc (suc zero)))) r = set_field (ltb r 4096) (policy.Any r) refl
-set_kind res (suc (suc (suc (suc (suc zero))))) r = set_field (eqb r 0) OrElse refl
-set_kind res (suc (suc (suc (suc (suc (suc zero)))))) r =
-    let h = PermitWithTrace (r / 1048576 % 128) (r % 65536) in
-    set_either res (permit_trace_head r) policy.BadKind
-    (set_field (eqb (r / 134217728) 0) (cond (eqb (r / 65536 % 16) 0) h policy.BadField) (set_field (eqb (r / 65536 % 16) 0) h (set_is r))) refl
-set_kind res (suc (suc (suc (suc (suc (suc (suc zero))))))) r =
-    let g = DenyWithTrace (eqb (r / 134217728) 1) true (r % 65536) in
-    let h = DenyWithTrace (eqb (r / 134217728) 1) false (r % 65536) in
-    let h₁ = cond (eqb (r % 65536) 0) h policy.BadField in
-    set_either res (deny_trace_head r) policy.BadKind
-    (set_field (eqb (r / 65536 % 1024) 0) (cond (eqb (r / 67108864 % 2) 1) g h₁) (set_either (eqb (r / 67108864 % 2) 1) g h₁ (set_is r) (set_field (eqb (r % 65536) 0) h refl))) refl
-set_kind res (suc (suc (suc (suc (suc (suc (suc (suc j)))))))) r = refl
-
 within_sets : (w : ℕ) (res : Bool) → within_most 65536 (policy_head w res) ≡ true
-unfolding policy_head
-within_sets w res = set_either (leb 6 (kind_of w)) (get_or (policy_heads res (rest_of w)) (kind_of w - 6) policy.BadKind) policy.BadKind (set_kind res (kind_of w - 6) (rest_of w)) refl
+within_sets w res =
+    let set : ltb (rest_of w % 65536) 65536 ≡ true = lt-ltb (rest_of w % 65536) 65536 (omega arith) in
+    head_cases (λ h. within_most 65536 h ≡ true) w res (record {
+      bad_kind_is = refl;
+      bad_field_is = refl;
+      permit_is = λ _. set;
+      deny_is = λ _. refl;
+      grant_is = λ _. set;
+      all_is = λ _ _. refl;
+      any_is = λ _ _. refl;
+      or_else_is = λ _. refl;
+      permit_trace_is = λ _ _. set;
+      deny_trace_is = λ _ _ denied c. elim c [ inl e ↦ rw e | inr e ↦ rw e set ];
+    })
 
 -- And by sets of products; and below the last level.
 pub policy_node_lem : (res : Bool) (d w : ℕ) (ws : List ℕ) → read_policy res (suc d) (w ∷ ws) ≡ policy_node (λ vs. read_condition d vs) (λ vs. read_policy res d vs) (policy_head w res) ws
@@ -250,7 +275,7 @@ deep_permit r = deep_field_p (eqb (r / 65536) 0) (Permit (r % 65536)) refl
 deep_grant : (r : ℕ) → deep_policy (grant_head r) ≡ 7
 unfolding grant_head
 deep_grant r =
-    let h = Grant (eqb (r / 134217728) 1) (r / 1048576 % 128) (r % 65536) in
+    let h = Grant (shape_by (eqb (r / 134217728) 1)) (r / 1048576 % 128) (r % 65536) in
     deep_field_p (leb (r / 1048576 % 128) most_obligations) (cond (eqb (r / 65536 % 16) 0) h policy.BadField) (deep_field_p (eqb (r / 65536 % 16) 0) h refl)
 
 deep_permit_trace : (r : ℕ) → deep_policy (permit_trace_head r) ≡ 7
@@ -263,8 +288,8 @@ deep_permit_trace r =
 deep_deny_trace : (r : ℕ) → deep_policy (deny_trace_head r) ≡ 7
 unfolding deny_trace_head
 deep_deny_trace r =
-    let g = DenyWithTrace (eqb (r / 134217728) 1) true (r % 65536) in
-    let h = DenyWithTrace (eqb (r / 134217728) 1) false (r % 65536) in
+    let g = DenyWithTrace (shape_by (eqb (r / 134217728) 1)) (Some (r % 65536)) in
+    let h = DenyWithTrace (shape_by (eqb (r / 134217728) 1)) None in
     let h₁ = cond (eqb (r % 65536) 0) h policy.BadField in
     deep_field_p (eqb (r / 65536 % 1024) 0) (cond (eqb (r / 67108864 % 2) 1) g h₁) (deep_either (eqb (r / 67108864 % 2) 1) g h₁ refl (deep_field_p (eqb (r % 65536) 0) h refl))
 
@@ -313,30 +338,6 @@ permit_word w res e =
     let same : (w % 268435456) % 65536 ≡ w % 65536 = omega arith in
     rw (k, eq-eqb ((w % 268435456) / 65536) 0 none, same)
 
--- And to be an All, or an Any.
-pub all_word : (w : ℕ) (res : Bool) → w / 4096 ≡ 589824 → policy.All (w % 4096) ≡ policy_head w res
-unfolding policy_head
-all_word w res e =
-    let k : w / 268435456 ≡ 9 = omega arith in
-    let same : w % 268435456 ≡ w % 4096 = omega arith in
-    rw (k, same, lt-ltb (w % 4096) 4096 (omega arith))
-
-pub any_word : (w : ℕ) (res : Bool) → w / 4096 ≡ 655360 → policy.Any (w % 4096) ≡ policy_head w res
-unfolding policy_head
-any_word w res e =
-    let k : w / 268435456 ≡ 10 = omega arith in
-    let same : w % 268435456 ≡ w % 4096 = omega arith in
-    rw (k, same, lt-ltb (w % 4096) 4096 (omega arith))
-
--- The other words of the kinds All and Any: a bit above the count is 1.
-pub all_field : (w : ℕ) (res : Bool) → w / 268435456 ≡ 9 → ¬ (w / 4096 ≡ 589824) → policy.BadField ≡ policy_head w res
-unfolding policy_head
-all_field w res k other = rw (k, le-ltb (w % 268435456) 4096 (omega arith))
-
-pub any_field : (w : ℕ) (res : Bool) → w / 268435456 ≡ 10 → ¬ (w / 4096 ≡ 655360) → policy.BadField ≡ policy_head w res
-unfolding policy_head
-any_field w res k other = rw (k, le-ltb (w % 268435456) 4096 (omega arith))
-
 -- A Grant without obligations.
 no_obligations : (r : ℕ) → r % 134217728 < 65536 → r / 1048576 % 128 ≡ 0
 no_obligations r h = omega arith
@@ -344,7 +345,7 @@ no_obligations r h = omega arith
 shape_bit_lem : (w : ℕ) → (w % 268435456) / 134217728 ≡ w / 134217728 % 2
 shape_bit_lem w = omega arith
 
-pub grant_word : (w : ℕ) (res : Bool) → w / 268435456 ≡ 8 → w / 65536 % 2048 ≡ 0 → Grant (eqb (w / 134217728 % 2) 1) 0 (w % 65536) ≡ policy_head w res
+pub grant_word : (w : ℕ) (res : Bool) → w / 268435456 ≡ 8 → w / 65536 % 2048 ≡ 0 → Grant (shape_by (eqb (w / 134217728 % 2) 1)) 0 (w % 65536) ≡ policy_head w res
 unfolding policy_head grant_head
 grant_word w res e n =
     let low : w % 134217728 < 65536 = omega arith in

@@ -1,5 +1,6 @@
 -- What the first word of a node says, and what is read of a node by what its first word says. Document 01, "What a call receives".
 use Rattle.std.specs.Prelude.{Bool, true, false, cond, List, [], ◌∷◌, ℕ, ◌+◌, ◌-◌, ◌/◌, ◌%◌, ◌^◌, eqb, ltb, leb, get_or}
+use Rattle.std.specs.Prelude as prelude
 use Rattle.std.proofs.Math.Option.{Option, none, some}
 use Rattle.model.specs.Fields.{bits}
 use Rattle.model.specs.Facts.{fact_count}
@@ -13,6 +14,8 @@ use Rattle.model.specs.Products.{Outcome, grant_more, more12, more13, as_stored}
 use Rattle.policy_model.specs.declared.ConditionHead.{ConditionHead}
 use Rattle.policy_model.specs.declared.ConditionHead.TheVariants.{Always, Never, Has, Not}
 use Rattle.policy_model.specs.declared.ConditionHead.TheVariants as condition
+use Rattle.policy_model.specs.declared.DenyShape.{DenyShape}
+use Rattle.policy_model.specs.declared.DenyShape.TheVariants.{Forbidden, Hidden}
 use Rattle.policy_model.specs.declared.PolicyHead.{PolicyHead}
 use Rattle.policy_model.specs.declared.PolicyHead.TheVariants.{Permit, Deny, Grant, OrElse, PermitWithTrace, DenyWithTrace}
 use Rattle.policy_model.specs.declared.PolicyHead.TheVariants as policy
@@ -57,6 +60,20 @@ deep_condition condition.BadField = 7
 
 -- ---- policies
 
+-- A shape by its bit, and the bit of it.
+abbrev pub shape_by : Bool → DenyShape
+shape_by false = Forbidden
+shape_by true = Hidden
+
+abbrev pub bit_of : DenyShape → ℕ
+bit_of Forbidden = 0
+bit_of Hidden = 1
+
+-- The denied outcome, if there is one.
+abbrev pub denied_by : prelude.Option ℕ → Option ℕ
+denied_by prelude.None = none
+denied_by (prelude.Some o) = some o
+
 -- 6 Permit: zero (12), outcome (16).
 unfoldable pub permit_head : ℕ → PolicyHead
 permit_head r = cond (eqb (r / 2 ^ outcome_bits) 0) (Permit (r % 2 ^ outcome_bits)) policy.BadField
@@ -66,7 +83,7 @@ unfoldable pub grant_head : ℕ → PolicyHead
 grant_head r =
     cond (few_obligations (bits (4 + outcome_bits) 7 r))
     (cond (eqb (bits outcome_bits 4 r) 0)
-    (Grant (eqb (r / 2 ^ (7 + 4 + outcome_bits)) 1) (bits (4 + outcome_bits) 7 r) (r % 2 ^ outcome_bits))
+    (Grant (shape_by (eqb (r / 2 ^ (7 + 4 + outcome_bits)) 1)) (bits (4 + outcome_bits) 7 r) (r % 2 ^ outcome_bits))
     policy.BadField)
     policy.BadField
 
@@ -82,9 +99,9 @@ unfoldable pub deny_trace_head : ℕ → PolicyHead
 deny_trace_head r =
     cond (eqb (bits outcome_bits 10 r) 0)
     (cond (eqb (bits (10 + outcome_bits) 1 r) 1)
-    (DenyWithTrace (eqb (r / 2 ^ (1 + 10 + outcome_bits)) 1) true (r % 2 ^ outcome_bits))
+    (DenyWithTrace (shape_by (eqb (r / 2 ^ (1 + 10 + outcome_bits)) 1)) (prelude.Some (r % 2 ^ outcome_bits)))
     (cond (eqb (r % 2 ^ outcome_bits) 0)
-    (DenyWithTrace (eqb (r / 2 ^ (1 + 10 + outcome_bits)) 1) false (r % 2 ^ outcome_bits))
+    (DenyWithTrace (shape_by (eqb (r / 2 ^ (1 + 10 + outcome_bits)) 1)) prelude.None)
     policy.BadField))
     policy.BadField
 
@@ -108,44 +125,37 @@ policy_head w res = cond (leb 6 (kind_of w)) (get_or (policy_heads res (rest_of 
 abbrev pub within_most : ℕ → PolicyHead → Bool
 within_most most (Permit o) = ltb o most
 within_most most Deny = true
-within_most most (Grant hidden n o) = ltb o most
+within_most most (Grant shape n o) = ltb o most
 within_most most (policy.All n) = true
 within_most most (policy.Any n) = true
 within_most most OrElse = true
 within_most most (PermitWithTrace n o) = ltb o most
-within_most most (DenyWithTrace hidden denied o) = cond denied (ltb o most) true
+within_most most (DenyWithTrace shape prelude.None) = true
+within_most most (DenyWithTrace shape (prelude.Some o)) = ltb o most
 within_most most policy.BadKind = true
 within_most most policy.BadField = true
-
--- A flag as the bit that it stands for; the denied outcome, if present.
-abbrev pub bit_of : Bool → ℕ
-bit_of false = 0
-bit_of true = 1
-
-abbrev pub denied_by : Bool → ℕ → Option ℕ
-denied_by denied o = cond denied (some o) none
 
 -- The rest of a 12 and of a 13 by its head.
 unfoldable pub permit_trace_node : ℕ → ℕ → List ℕ → Parsed (Decision Outcome)
 permit_trace_node n o ws = another ws (λ w vs. more12 n o (w / 2 ^ (4 + count_bits)) (w % 2 ^ (4 + count_bits)) vs)
 
-unfoldable pub deny_trace_node : Bool → Bool → ℕ → List ℕ → Parsed (Decision Outcome)
-deny_trace_node hidden denied o ws =
-    another ws (λ w vs. more13 (bit_of hidden) (denied_by denied o) (w / 2 ^ (1 + mark_bits)) (w % 2 ^ (1 + mark_bits)) vs)
+unfoldable pub deny_trace_node : DenyShape → prelude.Option ℕ → List ℕ → Parsed (Decision Outcome)
+deny_trace_node shape denied ws =
+    another ws (λ w vs. more13 (bit_of shape) (denied_by denied) (w / 2 ^ (1 + mark_bits)) (w % 2 ^ (1 + mark_bits)) vs)
 
-unfoldable pub grant_node : (List ℕ → Parsed Condition) → Bool → ℕ → ℕ → List ℕ → Parsed (Policy Outcome)
-grant_node pc hidden n o ws = another ws (λ w vs. grant_more pc (bit_of hidden) n o (w / 2 ^ (1 + mark_bits)) (w % 2 ^ (1 + mark_bits)) vs)
+unfoldable pub grant_node : (List ℕ → Parsed Condition) → DenyShape → ℕ → ℕ → List ℕ → Parsed (Policy Outcome)
+grant_node pc shape n o ws = another ws (λ w vs. grant_more pc (bit_of shape) n o (w / 2 ^ (1 + mark_bits)) (w % 2 ^ (1 + mark_bits)) vs)
 
 -- The rest of a policy by its head, a grant's condition read by pc and arms by p.
 unfoldable pub policy_node : (List ℕ → Parsed Condition) → (List ℕ → Parsed (Policy Outcome)) → PolicyHead → List ℕ → Parsed (Policy Outcome)
 policy_node pc p (Permit o) ws = got (permit o) ws
 policy_node pc p Deny ws = got deny ws
-policy_node pc p (Grant hidden n o) ws = grant_node pc hidden n o ws
+policy_node pc p (Grant shape n o) ws = grant_node pc shape n o ws
 policy_node pc p (policy.All n) ws = next (many pnil pcons p n ws) (λ ts vs. got (all ts) vs)
 policy_node pc p (policy.Any n) ws = next (many pnil pcons p n ws) (λ ts vs. got (any ts) vs)
 policy_node pc p OrElse ws = next (p ws) (λ a vs. next (p vs) (λ b us. got (or_else a b) us))
 policy_node pc p (PermitWithTrace n o) ws = as_stored (permit_trace_node n o ws)
-policy_node pc p (DenyWithTrace hidden denied o) ws = as_stored (deny_trace_node hidden denied o ws)
+policy_node pc p (DenyWithTrace shape denied) ws = as_stored (deny_trace_node shape denied ws)
 policy_node pc p policy.BadKind ws = refuse 5
 policy_node pc p policy.BadField ws = refuse 8
 
@@ -153,11 +163,11 @@ policy_node pc p policy.BadField ws = refuse 8
 abbrev pub deep_policy : PolicyHead → ℕ
 deep_policy (Permit o) = 7
 deep_policy Deny = 7
-deep_policy (Grant hidden n o) = 7
+deep_policy (Grant shape n o) = 7
 deep_policy (policy.All n) = 7
 deep_policy (policy.Any n) = 7
 deep_policy OrElse = 7
 deep_policy (PermitWithTrace n o) = 7
-deep_policy (DenyWithTrace hidden denied o) = 7
+deep_policy (DenyWithTrace shape denied) = 7
 deep_policy policy.BadKind = 5
 deep_policy policy.BadField = 7

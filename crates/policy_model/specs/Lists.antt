@@ -1,5 +1,5 @@
 -- Lists of fields as the checks see them: obligations by how many are to come, entries by tests. Document 01, "How a request is turned back".
-use Rattle.std.specs.Prelude.{Bool, false, cond, ◌||◌, Result, Ok, Err, List, [], ◌∷◌, ℕ, zero, suc, ◌+◌, ◌-◌, ◌/◌, ◌%◌, ◌^◌, eqb, ltb, leb}
+use Rattle.std.specs.Prelude.{Bool, cond, ◌&&◌, ◌||◌, Result, Ok, Err, List, [], ◌∷◌, ℕ, zero, suc, ◌+◌, ◌-◌, ◌/◌, ◌%◌, ◌^◌, eqb, ltb, leb}
 use Rattle.model.specs.Facts.{fact_bits, fact_count}
 use Rattle.model.specs.Writing.{mark_bits, entry_bits}
 use Rattle.model.specs.Reading.{obligation_count}
@@ -15,19 +15,19 @@ seen_all seen (b ∷ bs) = seen_all (seen_one seen b) bs
 
 -- An entry: presence (2), below `presences`; zero (4); fact (10). A listed fact is an entry with presence 0, a consulted one has 0 to 3.
 unfoldable pub entry_fits : ℕ → ℕ → Bool
-entry_fits presences b = cond (ltb (b / 2 ^ (4 + fact_bits)) presences) (ltb (b % 2 ^ (4 + fact_bits)) fact_count) false
+entry_fits presences b = ltb (b / 2 ^ (4 + fact_bits)) presences && ltb (b % 2 ^ (4 + fact_bits)) fact_count
 
 -- The two entries of a word, of which `left` are to come.
 unfoldable pub pair_fits : ℕ → ℕ → ℕ → Bool
 pair_fits presences left w =
-    cond (entry_fits presences (w / 2 ^ entry_bits)) (cond (eqb left 1) (eqb (w % 2 ^ entry_bits) 0) (entry_fits presences (w % 2 ^ entry_bits))) false
+    entry_fits presences (w / 2 ^ entry_bits) && cond (eqb left 1) (eqb (w % 2 ^ entry_bits) 0) (entry_fits presences (w % 2 ^ entry_bits))
 
 -- A label or reason: present (1), then 15 bits; an absent one is 0.
 unfoldable pub mark_fits : ℕ → Bool
 mark_fits h = eqb h 0 || leb (2 ^ mark_bits) h
 
 unfoldable pub marks_fit : ℕ → Bool
-marks_fit w = cond (mark_fits (w / 2 ^ (1 + mark_bits))) (mark_fits (w % 2 ^ (1 + mark_bits))) false
+marks_fit w = mark_fits (w / 2 ^ (1 + mark_bits)) && mark_fits (w % 2 ^ (1 + mark_bits))
 
 -- A list of entries, two a word, word by word.
 unfoldable pub checked_pairs : ℕ → ℕ → List ℕ → ℕ → Result ℕ ℕ

@@ -10,7 +10,7 @@ use Rattle.model.specs.Reading as reading
 use Rattle.model.specs.Products.{Outcome, read_policy}
 use Rattle.policy_model.specs.declared.PolicyHead.{PolicyHead}
 use Rattle.policy_model.specs.declared.PolicyHead.TheVariants.{Grant}
-use Rattle.policy_model.specs.Heads.{condition_node, within_most, bit_of, grant_node, policy_node}
+use Rattle.policy_model.specs.Heads.{condition_node, within_most, shape_by, bit_of, grant_node, policy_node}
 use Rattle.policy_model.specs.HeadLaws.{condition_node_lem, policy_node_by, bit_is, has_word, grant_word}
 use Rattle.policy_model.specs.Plain.{plain_grant, shape_bit, plain_policy}
 
@@ -23,7 +23,7 @@ record Told (w v u : ℕ) : Type 0 where
 
 both : (a b : Bool) → (a && b) ≡ true → (a ≡ true) × (b ≡ true)
 both true b e = (refl, e)
-both false b e = let z : ◌≡◌ {A = ℕ} 0 1 = cc in absurd (omega arith)
+both false b e = absurd cc
 
 told : (w v u : ℕ) (ws : List ℕ) → plain_grant (w ∷ v ∷ u ∷ ws) ≡ true → Told w v u
 unfolding plain_grant
@@ -42,7 +42,7 @@ plain_short (w ∷ v ∷ u ∷ ws) h = absurd (omega arith)
 
 three_words : (ws : List ℕ) (b : Bool) → leb 3 (length ws) ≡ b → plain_grant ws ≡ true → 3 ≤ length ws
 three_words ws true e p = leb-true 3 (length ws) e
-three_words ws false e p = let no : plain_grant ws ≡ false = plain_short ws (leb-false 3 (length ws) e) in let z : ◌≡◌ {A = ℕ} 0 1 = cc in absurd (omega arith)
+three_words ws false e p = let no : plain_grant ws ≡ false = plain_short ws (leb-false 3 (length ws) e) in absurd cc
 
 pub three_here : (sheet : List ℕ) (at : ℕ) → at + 2 < length sheet → drop at sheet ≡ get_or sheet at 0 ∷ get_or sheet (at + 1) 0 ∷ get_or sheet (at + 2) 0 ∷ drop (at + 3) sheet
 three_here sheet at h =
@@ -66,8 +66,8 @@ policy_of most res d w u ws m k n h =
     let by : PolicyHead → Parsed (Policy Outcome) = λ q. policy_node (λ vs. read_condition (suc d) vs) (λ vs. reading.read_policy (below most) res (suc d) vs) q (0 ∷ u ∷ ws) in
     policy_node_by most res (suc d) w (0 ∷ u ∷ ws)
     ∙ ap (λ q. unless (within_most most q) 8 (by q)) (sym (grant_word w res k n))
-    ∙ ap (λ b. unless b 8 (by (Grant (eqb (shape_bit w) 1) 0 (w % 65536)))) (lt-ltb (w % 65536) most m)
-    ∙ ap (λ q. next q (λ c us. got (given (bit_of (eqb (shape_bit w) 1)) c) us)) (condition_of d u ws h)
+    ∙ ap (λ b. unless b 8 (by (Grant (shape_by (eqb (shape_bit w) 1)) 0 (w % 65536)))) (lt-ltb (w % 65536) most m)
+    ∙ ap (λ q. next q (λ c us. got (given (bit_of (shape_by (eqb (shape_bit w) 1))) c) us)) (condition_of d u ws h)
     ∙ ap (λ s. got (given s (has (u % 1024))) ws) (bit_is (shape_bit w) (omega arith))
 
 -- ---- where one stands

@@ -65,7 +65,7 @@ module _ (ws : List ℕ) where
   unfolding Found lead_of
   no_tree (Ok at) e q h f = absurd h
   no_tree (Err d) e (refuse m) h f = let same : number_of d ≡ number_of e = ap number_of h in cc
-  no_tree (Err d) e (got r vs) h f = let z : ◌≡◌ {A = ℕ} 0 1 = cc in omega arith
+  no_tree (Err d) e (got r vs) h f = cc
 
   -- ---- the answers
   pub some_tree : (at : ℕ) (q : Parsed (Record Outcome)) → Found ws q (Ok at) → SomeTree ws at

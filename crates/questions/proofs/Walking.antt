@@ -16,9 +16,10 @@ use Rattle.laws.specs.Size.{words, wordss}
 use Rattle.policy_model.specs.Span.{Skipped}
 use Rattle.policy_model.proofs.Checking.{word_at, no_word}
 use Rattle.policy_model.proofs.Policies.{policy_leaves}
+use Rattle.policy_model.proofs.Records.{next_is}
 use Rattle.questions.specs.Nodes.{obligation_at, arms_at, Passed}
 use Rattle.questions.specs.Answers.{Stands}
-use Rattle.questions.proofs.Nodes.{arms, Node, own_or_arms, read_as, held, nothing_reads, node_holds}
+use Rattle.questions.proofs.Nodes.{arms, Node, own_or_arms, held, nothing_reads, node_holds}
 
 abbrev reader : ℕ → List ℕ → Parsed (Policy Outcome)
 reader = read_policy true
@@ -54,7 +55,7 @@ open_many : (d n : ℕ) (us : List ℕ) → Holds (λ ts vs. (m : ℕ) (c : Bool
 unfolding Open
 open_many d zero us = fine (λ m c o. open_as (let e : m ≡ 0 + m = omega arith in e) refl refl o)
 open_many d (suc n) us =
-    read_as (reader d us) _ (λ t vs e.
+    next_is (reader d us) _ (λ t vs e.
     then_holds (many pnil pcons (reader d) n vs) _ (open_many d n vs) (λ ts xs h.
     fine (λ m c o.
     let one : Open (suc (n + m)) us ((obliges t || obligess ts) || c) =

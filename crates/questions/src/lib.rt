@@ -14,6 +14,7 @@ ghost use Rattle.questions.specs.Answers.{told_of, Stands, SomeTree, Found};
 use refusal::Refusal;
 
 // Where the tree of a record begins, Resolved or Pending.
+#[tactic(auto, using(crate::proofs::Records::at_tree, crate::proofs::Records::no_tree))]
 fn tree_of(words: &[u32]) -> Result<usize, Refusal>
     ensures { Found words.now (read_record words.now) result }
 {
@@ -21,7 +22,7 @@ fn tree_of(words: &[u32]) -> Result<usize, Refusal>
     Ok(head.tree)
 }
 
-// Whether a kind is one of two.
+// Whether a kind is one of two. Kinds are numbers, as policy_model says.
 fn either(kind: u32, one: u32, other: u32) -> bool
     ensures { result ≡ (eqb kind one || eqb kind other) }
 {
@@ -68,36 +69,31 @@ pub fn is_deny_constant(words: &[u32]) -> Result<bool, Refusal>
 }
 
 // Whether a policy's first word is that of a Grant or a PermitWithTrace with obligations.
+#[tactic(auto, unfolding(crate::specs::Nodes::obligation_at))]
 fn obligation_at(word: u32) -> bool
     ensures { result ≡ obligation_at word }
 {
-    if policy_model::obligations_of(word) == 0 {
-        return false;
-    }
     let kind = word / policy_model::KIND;
-    either(
-        kind,
-        policy_model::KIND_GRANT,
-        policy_model::KIND_PERMIT_WITH_TRACE,
-    )
+    policy_model::obligations_of(word) != 0
+        && either(
+            kind,
+            policy_model::KIND_GRANT,
+            policy_model::KIND_PERMIT_WITH_TRACE,
+        )
 }
 
 // How many policies are the arms of a policy with this first word.
+#[tactic(auto, unfolding(crate::specs::Nodes::arms_at))]
 fn arms_at(word: u32) -> u32
     ensures { result ≡ arms_at word }
 {
-    let kind = word / policy_model::KIND;
-    if either(
-        kind,
-        policy_model::KIND_POLICY_ALL,
-        policy_model::KIND_POLICY_ANY,
-    ) {
-        return word % policy_model::COUNTS;
+    match word / policy_model::KIND {
+        policy_model::KIND_POLICY_ALL | policy_model::KIND_POLICY_ANY => {
+            word % policy_model::COUNTS
+        }
+        policy_model::KIND_OR_ELSE => 2,
+        _ => 0,
     }
-    if kind == policy_model::KIND_OR_ELSE {
-        return 2;
-    }
-    0
 }
 
 // The index of the policy after the one at `at`, or of its first arm.
@@ -106,9 +102,10 @@ fn next_policy(words: &[u32], at: usize, arms: u32) -> usize
     ensures { Passed words.now at arms result }
 {
     if arms == 0 {
-        return policy_model::skip_policies(words, at, 1);
+        policy_model::skip_policies(words, at, 1)
+    } else {
+        at + 1
     }
-    at + 1
 }
 
 // Looks for an obligation in the tree at `at`, from node to node by a count of the policies that are to come.
@@ -118,6 +115,7 @@ fn carries(words: &[u32], at: usize) -> bool
 {
     let mut next = at;
     let mut left: u64 = 1;
+    // no `for`, since the nodes have many lengths, and each opens others
     while left != 0 {
         if words.len() <= next {
             return false;

@@ -10,6 +10,7 @@ use Rattle.model.specs.Writing.{entry_bits, word, entry_field}
 use Rattle.model.specs.Reading.{got, unless, mark}
 use Rattle.model.specs.Products.{Outcome, encode, lead_kind, encode_r}
 use Rattle.laws.proofs.FieldLaws.{Holds, fine, if_holds}
+use Rattle.policy_model.specs.declared.Status.{Status}
 use Rattle.record.specs.Nodes.{mark_in, lead_of, front_words}
 
 -- ---- a label or a reason that was read
@@ -25,8 +26,8 @@ mark_in_read half = mark_at half (ltb half 32768) refl
 -- ---- nodes and records
 
 -- A record is its front and then its tree.
-pub record_words_lem : (r : Record Outcome) (resolved : Bool) (es : List ℕ) → lead_kind r.body ≡ lead_of resolved → es ≡ map entry_field r.log →
-    front_words resolved es ++ encode (tree r) ≡ encode_r r
-record_words_lem r resolved es k e =
-    ap (λ l. front_words resolved l ++ encode (tree r)) e
+pub record_words_lem : (r : Record Outcome) (status : Status) (es : List ℕ) → lead_kind r.body ≡ lead_of status → es ≡ map entry_field r.log →
+    front_words status es ++ encode (tree r) ≡ encode_r r
+record_words_lem r status es k e =
+    ap (λ l. front_words status l ++ encode (tree r)) e
     ∙ ap₂ (λ x n. word x n ∷ (pack entry_bits (map entry_field r.log) ++ encode (tree r))) (sym k) (length-map r.log entry_field)

@@ -1,15 +1,27 @@
 // Writers of decisions and of a record's front. Each part is written into what the last one left of the output, and the counts are added.
 #![tactic(auto)]
 
-ghost use Rattle.std.specs.Prelude.{◌≡◌, ◌∷◌, [], ◌+◌, ◌^◌, ◌≤◌, ◌<◌, length, take};
+ghost use Rattle.std.specs.Prelude.{◌≡◌, ◌∷◌, [], ◌+◌, ◌^◌, ◌≤◌, ◌<◌, length};
 ghost use Rattle.model.specs.Fields.{above, words_for};
 ghost use Rattle.model.specs.Outcome.{outcome_bits};
+ghost use Rattle.model.specs.Decision.{denies};
 ghost use Rattle.model.specs.Writing.{rest_bits, count_bits, mark_bits, word, marked, shape_bit};
 ghost use Rattle.model.specs.Reading.{shape_of};
 ghost use Rattle.model.specs.Products.{denied_field};
-ghost use Rattle.policy_model.specs.Heads.{bit_of};
+ghost use Rattle.policy_model.specs.Heads.{bit_of, denied_by};
 ghost use Rattle.packing.specs.Written.{Written};
-ghost use Rattle.record.specs.Nodes.{mark_of, mark_in, denied_of, permit_of, deny_of, decision_words, permit_front, deny_front, lead_of, front_words};
+ghost use Rattle.record.specs.Nodes.{mark_of, mark_in, permit_of, denial_of, decision_words, permit_front, deny_front, lead_of, front_words};
+
+use policy_model::{DenyShape, Status};
+
+// What a node gives a decision but for facts: label, reason, shape and the outcome that was denied.
+#[derive(Drop)]
+pub struct Clause {
+    pub label: Option<u16>,
+    pub reason: Option<u16>,
+    pub shape: DenyShape,
+    pub denied: Option<u16>,
+}
 
 // A label or a reason, as 16 bits say it: present (1), then fifteen bits.
 pub fn mark(half: u32) -> Option<u16>
@@ -30,7 +42,7 @@ fn mark_field(mark: Option<u16>) -> u32
 
 // The outcome that a grant denied: present (1), zero (10), outcome (16).
 fn denied_field(denied: Option<u16>) -> u32
-    ensures { (result ≡ denied_field (denied_of denied)) × (result < 2 ^ (1 + 10 + outcome_bits)) }
+    ensures { (result ≡ denied_field (denied_by denied)) × (result < 2 ^ (1 + 10 + outcome_bits)) }
 {
     match denied {
         Some(outcome) => policy_model::DENIED + outcome as u32,
@@ -38,15 +50,14 @@ fn denied_field(denied: Option<u16>) -> u32
     }
 }
 
-// The shape, with the bits that stand below it: a flag, as the heads that are read give it.
-fn shape_above(hidden: bool, below: u32) -> u32
+// The shape, with the bits that stand below it.
+fn shape_above(shape: DenyShape, below: u32) -> u32
     requires { below < 2 ^ (1 + 10 + outcome_bits) }
-    ensures { (result ≡ above (1 + 10 + outcome_bits) (shape_bit (shape_of (bit_of hidden))) + below) × (result < 2 ^ rest_bits) }
+    ensures { (result ≡ above (1 + 10 + outcome_bits) (shape_bit (shape_of (bit_of shape))) + below) × (result < 2 ^ rest_bits) }
 {
-    if hidden {
-        policy_model::HIDDEN + below
-    } else {
-        below
+    match shape {
+        DenyShape::Forbidden => below,
+        DenyShape::Hidden => policy_model::HIDDEN + below,
     }
 }
 
@@ -85,58 +96,44 @@ pub fn write_permit_with_trace(
 }
 
 // The first three words of a DenyWithTrace.
-fn write_deny_front(
-    denied: Option<u16>,
-    hidden: bool,
-    label: Option<u16>,
-    reason: Option<u16>,
-    count: usize,
-    out: &mut [u32],
-) -> usize
+fn write_deny_front(clause: Clause, count: usize, out: &mut [u32]) -> usize
     requires { (count < 2 ^ (4 + count_bits)) × (3 ≤ length out.old) }
-    ensures { (result ≡ 3) × Written (deny_front denied hidden label reason count) out.old out.new result }
+    ensures { (result ≡ 3) × Written (deny_front clause count) out.old out.new result }
 {
-    out[0] = policy_model::LEAD_DENY_WITH_TRACE + shape_above(hidden, denied_field(denied));
-    out[1] = mark_field(label) * policy_model::HALF + mark_field(reason);
+    out[0] = policy_model::LEAD_DENY_WITH_TRACE
+        + shape_above(clause.shape, denied_field(clause.denied));
+    out[1] = mark_field(clause.label) * policy_model::HALF + mark_field(clause.reason);
     out[2] = count as u32;
     3
 }
 
 // DenyWithTrace, with its facts.
-pub fn write_deny_with_trace(
-    denied: Option<u16>,
-    hidden: bool,
-    label: Option<u16>,
-    reason: Option<u16>,
-    facts: &[u16],
-    out: &mut [u32],
-) -> usize
+pub fn write_deny_with_trace(clause: Clause, facts: &[u16], out: &mut [u32]) -> usize
     requires { (length facts.now < 2 ^ (4 + count_bits)) × (3 + words_for 2 (length facts.now) ≤ length out.old) }
-    ensures { (result ≡ 3 + words_for 2 (length facts.now)) × Written (decision_words (deny_of denied hidden label reason facts.now)) out.old out.new result }
+    ensures { (result ≡ 3 + words_for 2 (length facts.now)) × Written (decision_words (denies (denial_of clause facts.now))) out.old out.new result }
 {
-    let front = write_deny_front(denied, hidden, label, reason, facts.len(), out);
+    let front = write_deny_front(clause, facts.len(), out);
     front + packing::pack_entries(facts, &mut out[front..])
 }
 
 // A record's lead, with `count` consulted entries to come.
-fn write_lead(resolved: bool, count: usize, out: &mut [u32]) -> usize
+fn write_lead(status: Status, count: usize, out: &mut [u32]) -> usize
     requires { (count < 2 ^ rest_bits) × (1 ≤ length out.old) }
-    ensures { (result ≡ 1) × Written (word (lead_of resolved) count ∷ []) out.old out.new result }
+    ensures { (result ≡ 1) × Written (word (lead_of status) count ∷ []) out.old out.new result }
 {
-    let lead = if resolved {
-        policy_model::LEAD_RESOLVED
-    } else {
-        policy_model::LEAD_PENDING
+    let lead = match status {
+        Status::Resolved => policy_model::LEAD_RESOLVED,
+        Status::Pending => policy_model::LEAD_PENDING,
     };
     out[0] = lead + count as u32;
     1
 }
 
-// A record's front: its lead, and the first `count` consulted entries.
-pub fn write_front(resolved: bool, entries: &[u16], count: usize, out: &mut [u32]) -> usize
-    requires { (count ≤ length entries.now) × (count < 2 ^ rest_bits) × (1 + words_for 2 count ≤ length out.old) }
-    ensures { (result ≡ 1 + words_for 2 count) × Written (front_words resolved (take count entries.now)) out.old out.new result }
+// A record's front: its lead, and the consulted entries.
+pub fn write_front(status: Status, entries: &[u16], out: &mut [u32]) -> usize
+    requires { (length entries.now < 2 ^ rest_bits) × (1 + words_for 2 (length entries.now) ≤ length out.old) }
+    ensures { (result ≡ 1 + words_for 2 (length entries.now)) × Written (front_words status entries.now) out.old out.new result }
 {
-    let lead = write_lead(resolved, count, out);
-    lead + packing::pack_entries(&entries[..count], &mut out[lead..])
+    let lead = write_lead(status, entries.len(), out);
+    lead + packing::pack_entries(entries, &mut out[lead..])
 }

@@ -81,7 +81,8 @@ fn repeated(entry: Entry, entries: &[[u32; 2]]) -> bool
     met
 }
 
-// Whether every entry's zero field is 0 and no group and number stands twice.
+// Whether every entry's zero field is 0 and no group and number stands twice. No `all`, which is no plainer: each turn needs the entry's place too, for the
+// entries after it.
 fn entries_faultless(entries: &[[u32; 2]]) -> bool
     ensures { result ≡ faultless (map entry_in entries.now) }
 {

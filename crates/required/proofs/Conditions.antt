@@ -183,3 +183,6 @@ module _ (sheet : List ℕ) (at depth : ℕ) (s : List ℕ) (inside : at < lengt
       let a : ConditionArms h count = subst (ConditionArms h) (sym e) (arms_opened (get_or sheet at 0)) in
       let g : Grown (own_fact h) s s = grown_as (λ f. sym (no_has (get_or sheet at 0) f other)) (grown_none s) in
       subst (λ q. Collected words_c names_c at s u q end) (sym (condition_here sheet at depth inside some)) (condition_facts p ws at end s s u h count a g (onward_end_c (depth - 1) sheet (at + 1) count s end left u z o))
+
+-- What the walk asks.
+pub ruleset condition_walks = (onward_all_c, condition_past, condition_deep, has_walked, condition_walked)

@@ -163,12 +163,12 @@ module _ (sheet : List ℕ) (at mid : ℕ) (s t : List ℕ) where
   unfolding ToTheEnd OwnFacts policy_node policy_arms
   end_node (Permit o) n u l v w = end_first n u (got (permit o) here) l v w
   end_node Deny n u l v w = end_first n u (got deny here) l v w
-  end_node (Grant hidden k o) n u l v w = end_first n u (policy_node (λ vs. read_condition 31 vs) P (Grant hidden k o) here) l v w
+  end_node (Grant shape k o) n u l v w = end_first n u (policy_node (λ vs. read_condition 31 vs) P (Grant shape k o) here) l v w
   end_node (policy.All k) n u l v w = end_arms s u n all (λ f ts. refl) (many pnil pcons P k here) (end_opened k n u v w)
   end_node (policy.Any k) n u l v w = end_arms s u n any (λ f ts. refl) (many pnil pcons P k here) (end_opened k n u v w)
   end_node OrElse n u l v w = end_two s u n (P here) (end_opened 2 n u v w)
   end_node (PermitWithTrace k o) n u l v w = end_first n u (policy_node (λ vs. read_condition 31 vs) P (PermitWithTrace k o) here) l v w
-  end_node (DenyWithTrace hidden denied o) n u l v w = end_first n u (policy_node (λ vs. read_condition 31 vs) P (DenyWithTrace hidden denied o) here) l v w
+  end_node (DenyWithTrace shape denied) n u l v w = end_first n u (policy_node (λ vs. read_condition 31 vs) P (DenyWithTrace shape denied) here) l v w
   end_node policy.BadKind n u l v w = tt
   end_node policy.BadField n u l v w = tt
 
@@ -233,3 +233,6 @@ unfolding SetOf FactsOf
 facts_given (refuse n) facts before after count e s k = tt
 facts_given (got t []) facts before after count e s k = record { counted = k ∙ ap ones e; set_is = s ∙ ap (set_after before) e }
 facts_given (got t (w ∷ ws)) facts before after count e s k = tt
+
+-- What the walk asks.
+pub ruleset policy_walks = (toward_start, toward_more)

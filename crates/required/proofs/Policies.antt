@@ -1,14 +1,14 @@
 -- The facts of a policy, from its own and those of its arms. Assumes nothing.
+use Rattle.std.specs.Prelude as prelude
 use mathlib.Core.Path.{◌≡◌, refl, sym, ◌∙◌, ap, subst}
 use mathlib.Core.Bool.{Bool, true, false, cond}
 use mathlib.Core.List.{List, [], ◌∷◌, ◌++◌, map}
-use Prim.Native.Nat.{ℕ, zero, suc, ◌+◌, ◌-◌, ◌/◌, ◌%◌, ◌≤◌, ◌<◌}
+use Prim.Native.Nat.{ℕ, suc, ◌+◌, ◌/◌, ◌%◌, ◌≤◌, ◌<◌}
 use native.Mathlib.Nat.{add-zero}
 use native.Mathlib.Numerals.{add-one}
 use native.Mathlib.Omega.{arith}
-use borrow.Author.Tests.{leb-true, le-leb}
 use lib.Dec.{eqb, ltb, leb}
-use lib.ListN.{length, drop, get_or, length-map, get_or-eq_default}
+use lib.ListN.{length, drop, get_or, length-map}
 use lib.Seq.{drop-cons, drop-drop, get_or-drop}
 use Rattle.model.specs.Fields.{words_for, per_word, pack}
 use Rattle.model.specs.Outcome.{product_sets}
@@ -24,11 +24,12 @@ use Rattle.laws.proofs.Lengths.{length_pack, length_encode}
 use Rattle.laws.proofs.ReadForm.{same_obligation, same_listed}
 use Rattle.laws.specs.Products.{written_products}
 use Rattle.laws.proofs.Canon.{same_t}
+use Rattle.policy_model.specs.declared.DenyShape.{DenyShape}
 use Rattle.policy_model.specs.declared.PolicyHead.{PolicyHead}
 use Rattle.policy_model.specs.declared.PolicyHead.TheVariants.{Permit, Deny, Grant, OrElse, PermitWithTrace, DenyWithTrace}
 use Rattle.policy_model.specs.declared.PolicyHead.TheVariants as policy
-use Rattle.policy_model.specs.Heads.{permit_trace_node, deny_trace_node, grant_node, permit_head, grant_head, permit_trace_head, deny_trace_head, policy_heads, policy_head, policy_node}
-use Rattle.policy_model.specs.HeadLaws.{policy_node_lem}
+use Rattle.policy_model.specs.Heads.{shape_by, permit_trace_node, deny_trace_node, grant_node, grant_head, permit_trace_head, policy_head, policy_node}
+use Rattle.policy_model.specs.HeadLaws.{head_cases, policy_node_lem}
 use Rattle.required.specs.Sets.{Walked, Collected}
 use Rattle.required.specs.Nodes.{Ended, OwnFacts}
 use Rattle.required.proofs.Arms.{grown_none, left_of_lem}
@@ -81,12 +82,12 @@ module _ (sheet : List ℕ) (at end n : ℕ) (s t : List ℕ) where
   holds_of size named from (refuse k) c = nothing
   holds_of size named from (got a vs) c = fine c
 
-  grant_facts : (pc : List ℕ → Parsed Condition) (hidden : Bool) (o : ℕ) → Collected words_c names_c (at + 2 + (n + 3) / 4) s t (pc (drop (at + 2 + (n + 3) / 4) sheet)) end →
-      Collected words names at s t (grant_node pc hidden n o (drop (at + 1) sheet)) end
+  grant_facts : (pc : List ℕ → Parsed Condition) (shape : DenyShape) (o : ℕ) → Collected words_c names_c (at + 2 + (n + 3) / 4) s t (pc (drop (at + 2 + (n + 3) / 4) sheet)) end →
+      Collected words names at s t (grant_node pc shape n o (drop (at + 1) sheet)) end
   unfolding grant_node
-  grant_facts pc hidden o c =
+  grant_facts pc shape o c =
       let start = at + 2 + (n + 3) / 4 in
-      collected_of words names at (grant_node pc hidden n o (drop (at + 1) sheet))
+      collected_of words names at (grant_node pc shape n o (drop (at + 1) sheet))
       (another_of (drop (at + 1) sheet) _ (λ w vs ew.
       then_holds (mark (w / 65536)) _ (anything (mark (w / 65536))) (λ l _ _.
       then_holds (mark (w % 65536)) _ (anything (mark (w % 65536))) (λ m _ _.
@@ -118,10 +119,10 @@ module _ (sheet : List ℕ) (at end : ℕ) where
       let lo : length os ≡ n = r.0 in
       fine (omega arith)))))))
 
-  pub deny_trace_ends : (hidden denied : Bool) (o : ℕ) → end ≡ at + 3 + (get_or sheet (at + 2) 0 + 1) / 2 → Ended at (deny_trace_node hidden denied o (drop (at + 1) sheet)) end
+  pub deny_trace_ends : (shape : DenyShape) (denied : prelude.Option ℕ) → end ≡ at + 3 + (get_or sheet (at + 2) 0 + 1) / 2 → Ended at (deny_trace_node shape denied (drop (at + 1) sheet)) end
   unfolding deny_trace_node
-  deny_trace_ends hidden denied o h =
-      ended_of (deny_trace_node hidden denied o (drop (at + 1) sheet))
+  deny_trace_ends shape denied h =
+      ended_of (deny_trace_node shape denied (drop (at + 1) sheet))
       (another_of (drop (at + 1) sheet) _ (λ w vs ew.
       then_holds (mark (w / 65536)) _ (anything (mark (w / 65536))) (λ l _ _.
       then_holds (mark (w % 65536)) _ (anything (mark (w % 65536))) (λ m _ _.
@@ -145,53 +146,9 @@ pub policy_here : (sheet : List ℕ) (at : ℕ) → at < length sheet →
 policy_here sheet at h = rw (add-one, drop-cons sheet at 0) (policy_node_lem true 31 (get_or sheet at 0) (drop (suc at) sheet))
 
 -- ---- what stands before the arms, by the kind of the first word
--- Heads after which nothing but arms comes.
-abbrev OneWord : PolicyHead → Type 0
-OneWord (Permit o) = Unit {0}
-OneWord Deny = Unit {0}
-OneWord (Grant hidden n o) = ⊥
-OneWord (policy.All n) = Unit {0}
-OneWord (policy.Any n) = Unit {0}
-OneWord OrElse = Unit {0}
-OneWord (PermitWithTrace n o) = ⊥
-OneWord (DenyWithTrace hidden denied o) = ⊥
-OneWord policy.BadKind = Unit {0}
-OneWord policy.BadField = Unit {0}
-
-one_if : (b : Bool) (h : PolicyHead) → OneWord h → OneWord (cond b h policy.BadField)
-one_if true h w = w
-one_if false h w = tt
-
-one_kind : (j r : ℕ) → j < 6 → (j ≡ 2 → ⊥) → OneWord (get_or (policy_heads true r) j policy.BadKind)
-unfolding permit_head
-one_kind zero r h f = one_if (eqb (r / 65536) 0) (Permit (r % 65536)) tt
-one_kind (suc zero) r h f = one_if (eqb r 0) Deny tt
-one_kind (suc (suc zero)) r h f = absurd (f refl)
-one_kind (suc (suc (suc zero))) r h f = one_if (ltb r 4096) (policy.All r) tt
-one_kind (suc (suc (suc (suc zero)))) r h f = one_if (ltb r 4096) (policy.Any r) tt
-one_kind (suc (suc (suc (suc (suc zero))))) r h f = one_if (eqb r 0) OrElse tt
-one_kind (suc (suc (suc (suc (suc (suc j)))))) r h f = let z : ⊥ = omega arith in absurd z
-
-one_from : (b : Bool) (k r : ℕ) → leb 6 k ≡ b → k < 12 → (k ≡ 8 → ⊥) → OneWord (cond b (get_or (policy_heads true r) (k - 6) policy.BadKind) policy.BadKind)
-one_from true k r e h f = let six : 6 ≤ k = leb-true 6 k e in one_kind (k - 6) r (omega arith) (λ z. f (omega arith))
-one_from false k r e h f = tt
-
 module _ (pc : List ℕ → Parsed Condition) (sheet : List ℕ) (at : ℕ) (s : List ℕ) where
   one_word : Walked at 1 (at + 1) (λ f. false) s s
   one_word = record { ends = refl; adds = grown_none s }
-
-  of_one_word : (h : PolicyHead) → OneWord h → OwnFacts pc h (drop (at + 1) sheet) at s s (at + 1)
-  unfolding OwnFacts Collected policy_node
-  of_one_word (Permit o) w = one_word
-  of_one_word Deny w = one_word
-  of_one_word (Grant hidden n o) w = absurd w
-  of_one_word (policy.All n) w = one_word
-  of_one_word (policy.Any n) w = one_word
-  of_one_word OrElse w = one_word
-  of_one_word (PermitWithTrace n o) w = absurd w
-  of_one_word (DenyWithTrace hidden denied o) w = absurd w
-  of_one_word policy.BadKind w = tt
-  of_one_word policy.BadField w = tt
 
   module _ (t : List ℕ) (end : ℕ) where
     -- A field that is not as it must be: nothing is said.
@@ -200,14 +157,22 @@ module _ (pc : List ℕ → Parsed Condition) (sheet : List ℕ) (at : ℕ) (s :
     own_if true h v = v
     own_if false h v = tt
 
-    own_either : (b : Bool) (g h : PolicyHead) → OwnFacts pc g (drop (at + 1) sheet) at s t end → OwnFacts pc h (drop (at + 1) sheet) at s t end → OwnFacts pc (cond b g h) (drop (at + 1) sheet) at s t end
-    own_either true g h v w = v
-    own_either false g h v w = w
-
   module _ (w : ℕ) where
     pub own_word : w / 268435456 < 12 → (w / 268435456 ≡ 8 → ⊥) → OwnFacts pc (policy_head w true) (drop (at + 1) sheet) at s s (at + 1)
-    unfolding policy_head
-    own_word h f = of_one_word (policy_head w true) (one_from (leb 6 (w / 268435456)) (w / 268435456) (w % 268435456) refl h f)
+    unfolding OwnFacts Collected policy_node
+    own_word h f =
+        head_cases (λ q. OwnFacts pc q (drop (at + 1) sheet) at s s (at + 1)) w true (record {
+          bad_kind_is = tt;
+          bad_field_is = tt;
+          permit_is = λ _. one_word;
+          deny_is = λ _. one_word;
+          grant_is = λ e. absurd (f e);
+          all_is = λ _ _. one_word;
+          any_is = λ _ _. one_word;
+          or_else_is = λ _. one_word;
+          permit_trace_is = λ e _. absurd (omega arith);
+          deny_trace_is = λ e _ _ _. absurd (omega arith);
+        })
 
     pub own_grant : (t : List ℕ) (start end : ℕ) → w / 268435456 ≡ 8 → start ≡ at + (2 + (w / 1048576 % 128 + 3) / 4) →
         Collected words_c names_c start s t (pc (drop start sheet)) end → OwnFacts pc (policy_head w true) (drop (at + 1) sheet) at s t end
@@ -217,11 +182,11 @@ module _ (pc : List ℕ → Parsed Condition) (sheet : List ℕ) (at : ℕ) (s :
         let n = r / 1048576 % 128 in
         let count : w / 1048576 % 128 ≡ n = omega arith in
         let same : start ≡ at + 2 + (n + 3) / 4 = omega arith in
-        let hidden = eqb (r / 134217728) 1 in
+        let shape = shape_by (eqb (r / 134217728) 1) in
         let o = r % 65536 in
-        let g : OwnFacts pc (Grant hidden n o) (drop (at + 1) sheet) at s t end =
-        grant_facts sheet at end n s t pc hidden o (subst (λ k. Collected words_c names_c k s t (pc (drop k sheet)) end) same c) in
-        rw e (own_if t end (leb n most_obligations) _ (own_if t end (eqb (r / 65536 % 16) 0) (Grant hidden n o) g))
+        let g : OwnFacts pc (Grant shape n o) (drop (at + 1) sheet) at s t end =
+        grant_facts sheet at end n s t pc shape o (subst (λ k. Collected words_c names_c k s t (pc (drop k sheet)) end) same c) in
+        rw e (own_if t end (leb n most_obligations) _ (own_if t end (eqb (r / 65536 % 16) 0) (Grant shape n o) g))
 
     pub own_permit_trace : (end : ℕ) → w / 268435456 ≡ 12 → ((o : ℕ) → Ended at (permit_trace_node (w / 1048576 % 128) o (drop (at + 1) sheet)) end) →
         OwnFacts pc (policy_head w true) (drop (at + 1) sheet) at s s end
@@ -236,31 +201,23 @@ module _ (pc : List ℕ → Parsed Condition) (sheet : List ℕ) (at : ℕ) (s :
         rw e (own_if s end (eqb (r / 134217728) 0) _ (own_if s end (eqb (r / 65536 % 16) 0) (PermitWithTrace n o) g))
 
     -- Kind 13; from 14 on there is no policy.
-    own_deny_trace : (end : ℕ) → w / 268435456 ≡ 13 → ((hidden denied : Bool) (o : ℕ) → Ended at (deny_trace_node hidden denied o (drop (at + 1) sheet)) end) →
+    pub own_last : (end : ℕ) → 13 ≤ w / 268435456 → ((shape : DenyShape) (denied : prelude.Option ℕ) → Ended at (deny_trace_node shape denied (drop (at + 1) sheet)) end) →
         OwnFacts pc (policy_head w true) (drop (at + 1) sheet) at s s end
-    unfolding OwnFacts policy_node policy_head deny_trace_head
-    own_deny_trace end e c =
-        let r = w % 268435456 in
-        let hidden = eqb (r / 134217728) 1 in
-        let o = r % 65536 in
-        let g : (denied : Bool) → OwnFacts pc (DenyWithTrace hidden denied o) (drop (at + 1) sheet) at s s end =
-        λ denied. stored_facts sheet at end s (deny_trace_node hidden denied o (drop (at + 1) sheet)) (c hidden denied o) in
-        rw e
-        (own_if s end (eqb (r / 65536 % 1024) 0) _
-        (own_either s end (eqb (r / 67108864 % 2) 1) (DenyWithTrace hidden true o) _ (g true) (own_if s end (eqb o 0) (DenyWithTrace hidden false o) (g false))))
+    unfolding OwnFacts policy_node
+    own_last end h c =
+        head_cases (λ q. OwnFacts pc q (drop (at + 1) sheet) at s s end) w true (record {
+          bad_kind_is = tt;
+          bad_field_is = tt;
+          permit_is = λ e. absurd (omega arith);
+          deny_is = λ e. absurd (omega arith);
+          grant_is = λ e. absurd (omega arith);
+          all_is = λ e _. absurd (omega arith);
+          any_is = λ e _. absurd (omega arith);
+          or_else_is = λ e. absurd (omega arith);
+          permit_trace_is = λ e _. absurd (omega arith);
+          deny_trace_is = λ e _ denied _. stored_facts sheet at end s (deny_trace_node _ denied (drop (at + 1) sheet)) (c _ denied);
+        })
 
-    own_none : (end : ℕ) → 14 ≤ w / 268435456 → OwnFacts pc (policy_head w true) (drop (at + 1) sheet) at s s end
-    unfolding OwnFacts policy_head
-    own_none end h =
-        let k = w / 268435456 in
-        let r = w % 268435456 in
-        rw (le-leb 6 k (omega arith), get_or-eq_default (policy_heads true r) policy.BadKind {n = k - 6} (omega arith)) tt
+pub ruleset own_words = (own_word, own_grant)
 
-    own_after : (j end : ℕ) → w / 268435456 ≡ 13 + j → ((hidden denied : Bool) (o : ℕ) → Ended at (deny_trace_node hidden denied o (drop (at + 1) sheet)) end) →
-        OwnFacts pc (policy_head w true) (drop (at + 1) sheet) at s s end
-    own_after zero end e c = own_deny_trace end (omega arith) c
-    own_after (suc j) end e c = own_none end (omega arith)
-
-    pub own_last : (end : ℕ) → 13 ≤ w / 268435456 → ((hidden denied : Bool) (o : ℕ) → Ended at (deny_trace_node hidden denied o (drop (at + 1) sheet)) end) →
-        OwnFacts pc (policy_head w true) (drop (at + 1) sheet) at s s end
-    own_last end h c = own_after (w / 268435456 - 13) end (omega arith) c
+pub ruleset stored_ends = (permit_trace_ends, deny_trace_ends, own_permit_trace, own_last)

@@ -16,7 +16,7 @@ use Rattle.model.specs.Record.{Record, tree}
 use Rattle.model.specs.Writing.{count_bits, entry_bits, entry_field}
 use Rattle.model.specs.Reading.{Parsed, refuse, got, next, unless, read_list, consulted, kind_of, rest_of, whole, levels}
 use Rattle.model.specs.Required.{fact_set, required_of}
-use Rattle.model.specs.Products.{Outcome, lead_kind, read_policy, at12, at13, node14, parse14, parse15, rest, leads, read_lead, policy_at}
+use Rattle.model.specs.Products.{Outcome, read_policy, at12, at13, node14, parse14, parse15, rest, leads, read_lead, policy_at}
 use Rattle.laws.proofs.FieldLaws.{Holds, fine, nothing, if_holds, weaker, then_holds, same_list_lem}
 use Rattle.laws.specs.Size.{pairs}
 use Rattle.laws.proofs.Lengths.{length_pack}
@@ -39,19 +39,13 @@ pub record TreeAt (rec : List ℕ) (r : Record Outcome) (us : List ℕ) : Type 0
 record BodyOf (q : Parsed (Policy Outcome)) (b : ReducedPolicy Outcome) (us : List ℕ) : Type 0 where
   body_is : (t : Policy Outcome) → b ≡ pending t → q ≡ got t us
 
-same_tree : (a b : Policy Outcome) → pending a ≡ pending b → a ≡ b
-same_tree a b e = cc
-
-no_tree : (d : Decision Outcome) (t : Policy Outcome) → resolved d ≡ pending t → ⊥
-no_tree d t e = let z : ◌≡◌ {A = ℕ} 0 1 = cc in omega arith
-
 tree_15 : (q : Parsed (Policy Outcome)) → Holds (BodyOf q) (next q (λ t vs. got (pending t) vs))
 tree_15 (refuse n) = nothing
-tree_15 (got a us) = fine (record { body_is = λ t e. ap (λ x. got x us) (same_tree a t e) })
+tree_15 (got a us) = fine (record { body_is = λ t e. let same : a ≡ t = cc in ap (λ x. got x us) same })
 
 tree_14_at : (q : Parsed (Policy Outcome)) (p : Parsed (Decision Outcome)) → Holds (BodyOf q) (next p (λ d vs. got (resolved d) vs))
 tree_14_at q (refuse n) = nothing
-tree_14_at q (got d us) = fine (record { body_is = λ t e. absurd (no_tree d t e) })
+tree_14_at q (got d us) = fine (record { body_is = λ t e. absurd cc })
 
 tree_14_by : (q : Parsed (Policy Outcome)) (k r : ℕ) (ws : List ℕ) → Holds (BodyOf q) (node14 k r ws)
 tree_14_by q zero r ws = tree_14_at q (at12 r ws)
@@ -86,9 +80,6 @@ pub record_tree : (rec : List ℕ) → Holds (TreeAt rec) (read_lead rec)
 record_tree rec = another_of rec _ (λ w ws e. if_holds (leb 14 (kind_of w)) 5 _ (λ _. leads_tree rec w ws e (kind_of w - 14) (rest_of w)))
 
 -- ---- the three answers
-never_read : {A G : Type 0} (n : ℕ) (a : A) (ws : List ℕ) → got a ws ≡ refuse n → G
-never_read n a ws e = let z : ◌≡◌ {A = ℕ} 0 1 = cc in let b : ⊥ = omega arith in absurd b
-
 abbrev lead_is : ℕ → ℕ → ℕ → Parsed Lead
 lead_is kind count at = got (record { kind = kind; consulted = count; tree = at }) []
 
@@ -121,21 +112,21 @@ module _ (count at : ℕ) (before after : List ℕ) where
       FactsOf (policy_at rec at levels) before after n →
       Answered (required_of (unless b 1 (whole q)) (λ r f. names f (tree r))) (tree_of (unless b 1 (whole q))) before after (Ok n)
   unfolding lead_of
-  pending_record rec false q n h e g = never_read 1 (record { kind = 15; consulted = count; tree = at }) [] e
-  pending_record rec true (refuse k) n h e g = never_read k (record { kind = 15; consulted = count; tree = at }) [] e
+  pending_record rec false q n h e g = absurd cc
+  pending_record rec true (refuse k) n h e g = absurd cc
   pending_record rec true (got r []) n h e g = pending_at rec r.body r.log n h.it e g
-  pending_record rec true (got r (w ∷ ws)) n h e g = never_read 10 (record { kind = 15; consulted = count; tree = at }) [] e
+  pending_record rec true (got r (w ∷ ws)) n h e g = absurd cc
 
   pub resolved_record : (b : Bool) (q : Parsed (Record Outcome)) → lead_is 14 count at ≡ lead_of (unless b 1 (whole q)) → after ≡ set_after before (replicate 16 0) →
       Answered (required_of (unless b 1 (whole q)) (λ r f. names f (tree r))) (tree_of (unless b 1 (whole q))) before after (Ok 0)
   unfolding lead_of
-  resolved_record false q e s = never_read 1 (record { kind = 14; consulted = count; tree = at }) [] e
-  resolved_record true (refuse k) e s = never_read k (record { kind = 14; consulted = count; tree = at }) [] e
+  resolved_record false q e s = absurd cc
+  resolved_record true (refuse k) e s = absurd cc
   resolved_record true (got r []) e s = resolved_at r.body r.log e s
-  resolved_record true (got r (w ∷ ws)) e s = never_read 10 (record { kind = 14; consulted = count; tree = at }) [] e
+  resolved_record true (got r (w ∷ ws)) e s = absurd cc
 
 pub refused_record : (number : ℕ) (q : Parsed (Record Outcome)) (before after : List ℕ) (r : Result ℕ Refusal) → by_number r ≡ Err number → Numbered q → refuse number ≡ lead_of q → after ≡ set_after before (replicate 16 0) →
     Answered (required_of q (λ r f. names f (tree r))) (tree_of q) before after r
 unfolding lead_of
 refused_record number (refuse n) before after r p h e s = let same : number ≡ n = cc in record { answer_is = p ∙ ap Err same ∙ refused_is n 0 h.0; named_is = ap count_in p; set_is = s }
-refused_record number (got x ws) before after r p h e s = never_read number (record { kind = lead_kind x.body; consulted = length x.log; tree = 1 + pairs x.log }) [] (sym e)
+refused_record number (got x ws) before after r p h e s = absurd cc

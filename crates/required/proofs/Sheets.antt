@@ -21,12 +21,6 @@ use Rattle.required.specs.CountLaws.{ones_named}
 use Rattle.required.specs.Answers.{set_after, count_in, FactsOf, Answered}
 use Rattle.required.specs.AnswerLaws.{refused_is}
 
-never : (n : ℕ) {G : Type 0} → none ≡ some n → G
-never n e = let z : ◌≡◌ {A = ℕ} 0 1 = cc in let b : ⊥ = omega arith in absurd b
-
-never_some : (n : ℕ) {G : Type 0} → some n ≡ none → G
-never_some n e = let z : ◌≡◌ {A = ℕ} 0 1 = cc in let b : ⊥ = omega arith in absurd b
-
 -- A sheet reads where residuals do.
 sheet_facts : (p q : Parsed (Policy Outcome)) (before after : List ℕ) (count : ℕ) → Follows p q → FactsOf q before after count → FactsOf p before after count
 unfolding FactsOf
@@ -37,10 +31,10 @@ sheet_facts (got t (w ∷ ws)) q before after count f g = tt
 accepted_at : (b : Bool) (q : Parsed (Policy Outcome)) (before after : List ℕ) (count : ℕ) → none ≡ refusal (unless b 1 (whole q)) → FactsOf q before after count →
     Answered (required_of (unless b 1 (whole q)) (λ t f. names f t)) (unless b 1 (whole q)) before after (Ok count)
 unfolding FactsOf
-accepted_at false q before after count e g = never 1 e
-accepted_at true (refuse n) before after count e g = never n e
+accepted_at false q before after count e g = absurd cc
+accepted_at true (refuse n) before after count e g = absurd cc
 accepted_at true (got t []) before after count e g = record { answer_is = ap Ok g.counted; named_is = g.counted ∙ ones_named (λ f. names f t); set_is = g.set_is }
-accepted_at true (got t (w ∷ ws)) before after count e g = never 10 e
+accepted_at true (got t (w ∷ ws)) before after count e g = absurd cc
 
 pub accepted : (sheet before after : List ℕ) (count : ℕ) → none ≡ refusal (read_sheet sheet) → FactsOf (read_policy true levels sheet) before after count →
     Answered (required_facts sheet) (read_sheet sheet) before after (Ok count)
@@ -51,4 +45,4 @@ accepted sheet before after count e g =
 pub refused : (number : ℕ) (q : Parsed (Policy Outcome)) (before after : List ℕ) (r : Result ℕ Refusal) → by_number r ≡ Err number → Numbered q → some number ≡ refusal q → after ≡ set_after before (replicate 16 0) →
     Answered (required_of q (λ t f. names f t)) q before after r
 refused number (refuse n) before after r p h e s = let same : number ≡ n = cc in record { answer_is = p ∙ ap Err same ∙ refused_is n 0 h.0; named_is = ap count_in p; set_is = s }
-refused number (got t ws) before after r p h e s = never_some number e
+refused number (got t ws) before after r p h e s = absurd cc

@@ -16,12 +16,12 @@ use Rattle.required.specs.Sets.{Walked, Collected}
 unfoldable pub policy_arms : PolicyHead → ℕ
 policy_arms (Permit o) = 0
 policy_arms Deny = 0
-policy_arms (Grant hidden n o) = 0
+policy_arms (Grant shape n o) = 0
 policy_arms (policy.All n) = n
 policy_arms (policy.Any n) = n
 policy_arms OrElse = 2
 policy_arms (PermitWithTrace n o) = 0
-policy_arms (DenyWithTrace hidden denied o) = 0
+policy_arms (DenyWithTrace shape denied) = 0
 policy_arms policy.BadKind = 0
 policy_arms policy.BadField = 0
 
@@ -39,11 +39,11 @@ Ended at (got d ws) next = next ≡ at + words_d d
 unfoldable pub OwnFacts : (List ℕ → Parsed Condition) → PolicyHead → List ℕ → ℕ → List ℕ → List ℕ → ℕ → Type 0
 OwnFacts pc (Permit o) ws at before after next = Collected words names at before after (policy_node pc (λ vs. refuse 5) (Permit o) ws) next
 OwnFacts pc Deny ws at before after next = Collected words names at before after (policy_node pc (λ vs. refuse 5) Deny ws) next
-OwnFacts pc (Grant hidden n o) ws at before after next = Collected words names at before after (policy_node pc (λ vs. refuse 5) (Grant hidden n o) ws) next
+OwnFacts pc (Grant shape n o) ws at before after next = Collected words names at before after (policy_node pc (λ vs. refuse 5) (Grant shape n o) ws) next
 OwnFacts pc (policy.All n) ws at before after next = Walked at 1 next (λ f. false) before after
 OwnFacts pc (policy.Any n) ws at before after next = Walked at 1 next (λ f. false) before after
 OwnFacts pc OrElse ws at before after next = Walked at 1 next (λ f. false) before after
 OwnFacts pc (PermitWithTrace n o) ws at before after next = Collected words names at before after (policy_node pc (λ vs. refuse 5) (PermitWithTrace n o) ws) next
-OwnFacts pc (DenyWithTrace hidden denied o) ws at before after next = Collected words names at before after (policy_node pc (λ vs. refuse 5) (DenyWithTrace hidden denied o) ws) next
+OwnFacts pc (DenyWithTrace shape denied) ws at before after next = Collected words names at before after (policy_node pc (λ vs. refuse 5) (DenyWithTrace shape denied) ws) next
 OwnFacts pc policy.BadKind ws at before after next = Unit {0}
 OwnFacts pc policy.BadField ws at before after next = Unit {0}

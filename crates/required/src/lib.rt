@@ -3,15 +3,13 @@
 // over policies lends it, so that nodes without a condition copy nothing.
 #![tactic(auto)]
 
-ghost use Rattle.std.specs.Prelude.{◌≡◌, true, List, ℕ, ◌+◌, ◌≤◌, ◌<◌, eqb, length, drop, get_or, replicate};
-ghost use Rattle.model.specs.Facts.{fact_count};
+ghost use Rattle.std.specs.Prelude.{◌≡◌, true, List, ℕ, ◌+◌, ◌≤◌, ◌<◌, length, drop, get_or, replicate};
 ghost use Rattle.model.specs.Condition.{Condition, names_c};
 ghost use Rattle.model.specs.Reading.{Parsed, levels, read_condition};
 ghost use Rattle.model.specs.Required.{ones};
 ghost use Rattle.model.specs.Products.{read_sheet, read_record, required_facts, required_residual_facts, policy_at};
 ghost use Rattle.laws.specs.Size.{words_c};
 ghost use Rattle.policy_model.specs.Heads.{policy_head};
-ghost use Rattle.fact_set.specs.Sets.{Grown};
 ghost use Rattle.required.specs.Sets.{Collected};
 ghost use Rattle.required.specs.Nodes.{StoredAt, OwnFacts};
 ghost use Rattle.required.specs.Answers.{set_after, SetOf, FactsOf, Answered, tree_of};
@@ -26,37 +24,22 @@ struct Grew {
     next: usize,
 }
 
-// The set with one fact more.
-fn with_fact(set: [u64; 16], fact: u32) -> [u64; 16]
-    requires { fact < fact_count }
-    ensures { Grown (λ f. eqb f fact) set result }
-{
-    let mut grown = set;
-    fact_set::put(&mut grown, fact);
-    grown
-}
-
 // Adds the facts of the condition at `at`, of at most `depth` levels: its own, or those of each of its arms.
+#[tactic(auto, using(crate::proofs::Conditions::condition_walks))]
 fn collect_condition_facts(words: &[u32], at: usize, depth: usize, set: [u64; 16]) -> Grew
     ensures facts { Collected words_c names_c at set result.set (read_condition depth (drop at words.now)) result.next }
     ensures forward { at ≤ result.next }
 {
-    if words.len() <= at {
-        return Grew { set, next: at };
-    }
-    if depth == 0 {
+    if words.len() <= at || depth == 0 {
         return Grew { set, next: at };
     }
     let word = words[at];
-    if word / policy_model::FACTS == policy_model::HAS {
-        let grown = with_fact(set, word % policy_model::FACTS);
-        return Grew {
-            set: grown,
-            next: at + 1,
-        };
-    }
     let mut grown = set;
     let mut next = at + 1;
+    if word / policy_model::FACTS == policy_model::HAS {
+        fact_set::put(&mut grown, word % policy_model::FACTS);
+        return Grew { set: grown, next };
+    }
     for _ in 0..policy_model::arms_of(word) {
         let child = collect_condition_facts(words, next, depth - 1, grown);
         grown = child.set;
@@ -66,6 +49,7 @@ fn collect_condition_facts(words: &[u32], at: usize, depth: usize, set: [u64; 16
 }
 
 // Where a stored decision ends, a PermitWithTrace or a DenyWithTrace.
+#[tactic(auto, using(crate::proofs::Policies::stored_ends))]
 fn stored_end(words: &[u32], at: usize) -> usize
     requires { StoredAt words.now at }
     ensures facts { (pc : List ℕ → Parsed Condition) (s : List ℕ) → OwnFacts pc (policy_head (get_or words.now at 0) true) (drop (at + 1) words.now) at s s result }
@@ -80,7 +64,9 @@ fn stored_end(words: &[u32], at: usize) -> usize
     at + 3 + policy_model::entry_words(policy_model::word_at(words, at + 2))
 }
 
-// Adds the facts of what stands in a policy before its arms, and returns the index of the word after that. Stored decisions name nothing.
+// Adds the facts of what stands in a policy before its arms, and returns the index of the word after that. Stored decisions name nothing. Kinds are
+// numbers, as policy_model says.
+#[tactic(auto, using(crate::proofs::Policies::own_words))]
 fn collect_own_facts(words: &[u32], at: usize, set: &mut [u64; 16]) -> usize
     requires { at < length words.now }
     ensures facts { OwnFacts (λ ws. read_condition 31 ws) (policy_head (get_or words.now at 0) true) (drop (at + 1) words.now) at set.old set.new result }
@@ -89,11 +75,14 @@ fn collect_own_facts(words: &[u32], at: usize, set: &mut [u64; 16]) -> usize
     let kind = words[at] / policy_model::KIND;
     if kind == policy_model::KIND_GRANT {
         let before = grant::before_condition_in(words, at) as usize;
-        let grown = collect_condition_facts(words, at + before, grant::CONDITION_LEVELS, *set);
-        // by a variable, since the proof's borrow rules don't cover an array field stored straight
-        let facts = grown.set;
-        *set = facts;
-        return grown.next;
+        let Grew { set: grown, next } = collect_condition_facts(
+            words,
+            at + before,
+            grant::CONDITION_LEVELS,
+            *set,
+        );
+        *set = grown;
+        return next;
     }
     if kind < policy_model::KIND_PERMIT_WITH_TRACE {
         return at + 1;
@@ -102,11 +91,13 @@ fn collect_own_facts(words: &[u32], at: usize, set: &mut [u64; 16]) -> usize
 }
 
 // The facts of the policy at `at`, which ends with the words. These were checked before, so its nodes need no level: each is seen as it comes.
+#[tactic(auto, using(crate::proofs::Nodes::policy_walks))]
 fn collect_policy_facts(words: &[u32], at: usize) -> [u64; 16]
     ensures { SetOf (policy_at words.now at levels) result }
 {
     let mut set = [0u64; 16];
     let mut next = at;
+    // no `for`, since the nodes have many lengths
     while next < words.len() {
         next = collect_own_facts(words, next, &mut set);
     }
@@ -128,13 +119,13 @@ fn count_ones(set: &[u64; 16]) -> u32
 fn replace(set: &mut [u64], facts: &[u64; 16])
     ensures { set.new ≡ set_after set.old facts.now }
 {
-    if set.len() != 16 {
-        return;
+    if set.len() == 16 {
+        set.copy_from_slice(facts);
     }
-    set.copy_from_slice(facts);
 }
 
 // Makes the set that of the facts of the policy at `at`, and counts them.
+#[tactic(auto, using(crate::proofs::Nodes::facts_given))]
 fn facts_at(words: &[u32], at: usize, set: &mut [u64]) -> u32
     ensures { FactsOf (policy_at words.now at levels) set.old set.new result }
 {

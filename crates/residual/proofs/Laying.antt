@@ -4,7 +4,7 @@ use mathlib.Core.Bool.{Bool, true, false, cond}
 use mathlib.Core.List.{List}
 use Prim.Native.Nat.{ℕ, ◌≤◌, ◌<◌}
 use native.Mathlib.Omega.{arith}
-use lib.ListN.{length}
+use lib.ListN.{length, take}
 use Rattle.model.specs.Facts.{Table}
 use Rattle.model.specs.Outcome.{product_sets}
 use Rattle.model.specs.Decision.{Decision as Decided}
@@ -36,35 +36,34 @@ module _ {W : List ℕ} {T : Table} {buf os : List ℕ} {d : Decision} {held : �
     bound = omega arith;
     laid = λ s.
         let D = decision_of W T buf d in
-        let w = weight_at false D (decision_short (gathered s h wide f) ∙ k) in
+        let w = weight_at false D (decision_short s h wide f ∙ k) in
         record { size_is = omega (arith, w); front = λ l room. absurd (omega arith) };
     bytes = λ s. refl;
   }
 
-  module _ (k : countable d.permit held named ≡ true) where
-    small : decision_size d.permit held named ≤ 2100
-    small = node_small d.permit held named h.few (few_facts d.permit held named k)
+  module _ (k : countable d.permit held named ≡ true) (size : ℕ) (e : size ≡ decision_size d.permit held named) where
+    small : size ≤ 2100
+    small = omega (arith, node_small d.permit held named h.few (few_facts d.permit held named k))
 
-    node_size : (size : ℕ) → size ≡ decision_size d.permit held named → Sound W buf d → size ≡ weight_d (decision_of W T buf d)
-    node_size size e s =
-        let g = gathered s h wide f in
+    node_size : Sound W buf d → size ≡ weight_d (decision_of W T buf d)
+    node_size s =
         let D = decision_of W T buf d in
-        e ∙ sym (decision_size_lem g) ∙ length_encode_d product_sets.number D ∙ sym (weight_at true D (decision_short g ∙ k))
+        e ∙ sym (decision_size_lem s h wide f) ∙ length_encode_d product_sets.number D ∙ sym (weight_at true D (decision_short s h wide f ∙ k))
 
     -- There is no room for it.
-    pub node_no_room : (out : List ℕ) (size : ℕ) → size ≡ decision_size d.permit held named → length out < size → NodeLaid W T d buf buf out size
-    node_no_room out size e short = record {
+    pub node_no_room : (out : List ℕ) → length out < size → NodeLaid W T d buf buf out size
+    node_no_room out short = record {
       bound = omega (arith, small);
-      laid = λ s. record { size_is = omega (arith, node_size size e s, small); front = λ l room. absurd (omega arith) };
+      laid = λ s. record { size_is = omega (arith, node_size s, small); front = λ l room. absurd (omega arith) };
       bytes = λ s. refl;
     }
 
     -- It was written.
-    pub node_written : (out out' : List ℕ) (size : ℕ) → DecisionWritten W d os held fs named out out' size → NodeLaid W T d buf buf out' size
-    node_written out out' size w = record {
-      bound = omega (arith, w.number, small);
+    pub node_written : (out out' : List ℕ) → DecisionWritten W d (take held os) (take named fs) out out' size → NodeLaid W T d buf buf out' size
+    node_written out out' w = record {
+      bound = omega (arith, small);
       laid = λ s. record {
-        size_is = omega (arith, node_size size w.number s, w.number, small);
+        size_is = omega (arith, node_size s, small);
         front = λ l room. written_front (w.written T buf (decision_of W T buf d) refl (gathered s h wide f));
       };
       bytes = λ s. refl;

@@ -21,11 +21,6 @@ pub record NodeLaid (W : List ℕ) (T : Table) (d : Decision) (before after : Li
   pub laid : Sound W before d → Laid (weight (stored (decision_of W T before d))) (decision_words (decision_of W T before d)) out r
   pub bytes : Sound W before d → take d.united after ≡ take d.united before
 
--- The n words after the first were moved up.
-pub record Moved (n by : ℕ) (before after : List ℕ) : Type 0 where
-  pub long : length after ≡ length before
-  pub moved : take n (drop (1 + by) after) ≡ take n (drop 1 before)
-
 -- A list of nodes and pending arms was made, if it is not too long, there is room, and all of the nodes were there.
 pub record ListPut (lead : ℕ) (front : List ℕ) (kept size : ℕ) (before after : List ℕ) (r : ℕ) : Type 0 where
   pub size_is : r ≡ capped (kept + size)

@@ -10,8 +10,9 @@ ghost use Rattle.record.specs.Nodes.{decision_words};
 ghost use Rattle.sizes.specs.Laid.{too_many, Laid};
 ghost use Rattle.decision.specs.Room.{RoomToUnite, Few};
 ghost use Rattle.clause.specs.Room.{RoomToName};
-ghost use Rattle.residual.specs.Answers.{on_fact, NodeLaid, Moved, ListPut};
+ghost use Rattle.residual.specs.Answers.{on_fact, NodeLaid, ListPut};
 
+use condition::Walk;
 use decision::Decision;
 
 // Whether a decision is a permit that takes all but its outcome from one node, or from none.
@@ -22,6 +23,7 @@ fn from_one_node(decision: Decision) -> bool
 }
 
 // Lays the node of a permit with nothing but its outcome.
+#[tactic(auto, using(crate::proofs::Short::bare_laid))]
 fn lay_bare(outcome: u16, out: &mut [u32]) -> usize
     ensures { Laid 2 (decision_words (permits (combined outcome []))) out.new result }
 {
@@ -34,6 +36,7 @@ fn lay_bare(outcome: u16, out: &mut [u32]) -> usize
 }
 
 // Lays the node of a permit with its outcome and one fact: in word two no label and a count of 1, and the fact in the upper half of word three.
+#[tactic(auto, using(crate::proofs::Short::fact_laid))]
 fn lay_on_fact(outcome: u16, fact: u32, out: &mut [u32]) -> usize
     requires { fact < fact_count }
     ensures { Laid 3 (decision_words (on_fact outcome fact)) out.new result }
@@ -48,18 +51,19 @@ fn lay_on_fact(outcome: u16, fact: u32, out: &mut [u32]) -> usize
 }
 
 // Lays the node of a resolved part, a PermitWithTrace or a DenyWithTrace, at the front of `out`, and returns its size: too many words for a record
-// where its obligations or its facts can't be counted.
+// where its obligations or its facts can't be counted. They are gathered as in `answer::put_record`: a function for both would hand back two buffers, two
+// counts and a size.
 pub fn policy_from_decision(
-    words: &[u32],
+    walk: &Walk<'_>,
     decision: Decision,
-    facts: &[u8],
     buf: &mut [u8],
     named: &mut [u16],
     out: &mut [u32],
 ) -> usize
-    requires { Few decision × RoomToUnite 1 buf.old × RoomToName words.now named.old }
-    ensures { NodeLaid words.now (table_of facts.now) decision buf.old buf.new out.new result }
+    requires { Few decision × RoomToUnite 1 buf.old × RoomToName walk.now.words.now named.old }
+    ensures { NodeLaid walk.now.words.now (table_of walk.now.facts.now) decision buf.old buf.new out.new result }
 {
+    let words = walk.words;
     // The commonest nodes, those of a Permit and of a grant on one fact, are short.
     if from_one_node(decision) {
         let at = decision.clause;
@@ -72,7 +76,7 @@ pub fn policy_from_decision(
     }
     let mut obligations = [0u8; decision::LIST_ROOM];
     let held = decision::obligations(words, decision, buf, &mut obligations);
-    let count = clause::clause_facts(words, decision.clause, facts, named);
+    let count = clause::clause_facts(walk, decision.clause, named);
     if !clause::countable(decision.permit, held, count) {
         return sizes::LIMIT + 1;
     }
@@ -80,21 +84,12 @@ pub fn policy_from_decision(
     if out.len() < size {
         return size;
     }
-    clause::write_decision(words, decision, &obligations, held, named, count, out)
-}
-
-// Moves the `n` words after the first one up by `by` words, the last one first. The library has no `copy_within`, so this is a loop.
-fn move_up(out: &mut [u32], n: usize, by: usize)
-    requires { 1 + n + by ≤ length out.old }
-    ensures { Moved n by out.old out.new }
-{
-    for i in (0..n).rev() {
-        out[1 + i + by] = out[1 + i];
-    }
+    clause::write_decision(words, decision, &obligations[..held], &named[..count], out)
 }
 
 // Makes a list of the first `kept` words of `front`, the nodes of its resolved parts, and of the pending arms in `out`, which are the words after the
 // first among its first `size`. Returns the list's size.
+#[tactic(auto, using(crate::proofs::Listing::list_put))]
 pub fn put_list(lead: u32, front: &[u32], kept: usize, out: &mut [u32], size: usize) -> usize
     requires { (kept ≤ too_many) × (size ≤ too_many) × (1 ≤ size) }
     ensures { ListPut lead front.now kept size out.old out.new result }
@@ -103,8 +98,8 @@ pub fn put_list(lead: u32, front: &[u32], kept: usize, out: &mut [u32], size: us
     if total > sizes::LIMIT || out.len() < total || front.len() < kept {
         return total;
     }
-    move_up(out, size - 1, kept);
-    packing::copy_words(front, 0, kept, &mut out[1..]);
+    out.copy_within(1..size, 1 + kept);
+    out[1..=kept].copy_from_slice(&front[..kept]);
     out[0] = lead;
     total
 }

@@ -6,7 +6,7 @@ use Prim.Native.Nat.{ℕ, ◌*◌, ◌≤◌, ◌<◌}
 use native.Mathlib.Omega.{arith}
 use borrow.Author.Tests.{le-leb, lt-leb, ltb-true, ltb-false}
 use lib.Dec.{ltb, leb}
-use lib.ListN.{length, take}
+use lib.ListN.{length, take, drop}
 use Rattle.model.specs.Facts.{table_bytes, known_facts, table_fault}
 use Rattle.model.specs.Reading.{refuse, got}
 use Rattle.model.specs.Listing.{refused_text, number_from, words_from, bytes_from, checked, on_bytes, unless_refused, sitting}
@@ -44,23 +44,23 @@ module _ (input : List ℕ) where
           let long : (leb 1 count && leb count 4096) ≡ true = rw (le-leb 1 count some_words, le-leb count 4096 few) in
           ap (λ b. unless_refused b 1 (on_bytes (words_from count after) from_table)) long
 
-      pub words_cut : (b : Bool) (rest before words : List ℕ) → WordsRead after count rest before words b → b ≡ false → sitting input ≡ refused_text 6
-      words_cut false rest before words h e = from_count ∙ in_range ∙ ap (λ p. on_bytes p from_table) h.0
-      words_cut true rest before words h e = cc
+      pub words_cut : (b : Bool) (before words : List ℕ) → length before ≡ count → WordsRead after before words b → b ≡ false → sitting input ≡ refused_text 6
+      words_cut false before words n h e = from_count ∙ in_range ∙ ap (λ p. on_bytes p from_table) (rw n at h.0)
+      words_cut true before words n h e = cc
 
-      pub words_read : (b : Bool) (rest before words : List ℕ) → WordsRead after count rest before words b → b ≡ true → sitting input ≡ from_table (take count words) rest
-      words_read true rest before words h e = from_count ∙ in_range ∙ ap (λ p. on_bytes p from_table) h.0
-      words_read false rest before words h e = cc
+      pub words_read : (b : Bool) (before words : List ℕ) → length before ≡ count → WordsRead after before words b → b ≡ true → sitting input ≡ from_table words (drop (4 * count) after)
+      words_read true before words n h e = from_count ∙ in_range ∙ ap (λ p. on_bytes p from_table) (rw n at h)
+      words_read false before words n h e = cc
 
 -- Words that were read are there.
-pub words_long : (after : List ℕ) (count : ℕ) (rest before words : List ℕ) (b : Bool) → WordsRead after count rest before words b → b ≡ true → 4 * count ≤ length after
-words_long after count rest before words false h e = let z : ◌≡◌ {A = ℕ} 0 1 = cc in absurd (omega arith)
-words_long after count rest before words true h e = by_test (ltb (length after) (4 * count)) refl
+pub words_long : (after before words : List ℕ) (b : Bool) → WordsRead after before words b → b ≡ true → 4 * length before ≤ length after
+words_long after before words false h e = let z : ◌≡◌ {A = ℕ} 0 1 = cc in absurd (omega arith)
+words_long after before words true h e = by_test (ltb (length after) (4 * length before)) refl
   where
-    by_test : (t : Bool) → ltb (length after) (4 * count) ≡ t → 4 * count ≤ length after
-    by_test false q = ltb-false (length after) (4 * count) q
+    by_test : (t : Bool) → ltb (length after) (4 * length before) ≡ t → 4 * length before ≤ length after
+    by_test false q = ltb-false (length after) (4 * length before) q
     by_test true q =
-        let short : got (take count words) rest ≡ refuse 6 = sym h.0 ∙ words_short count after (ltb-true (length after) (4 * count) q) in
+        let short : got words (drop (4 * length before) after) ≡ refuse 6 = sym h ∙ words_short (length before) after (ltb-true (length after) (4 * length before) q) in
         let z : ◌≡◌ {A = ℕ} 0 1 = cc in
         absurd (omega arith)
 

@@ -72,7 +72,7 @@ fn list_request(input: &[u8], out: &mut [u8]) -> usize
         return list_refusal(Refusal::Length, out);
     }
     let mut sheet = [0u32; SHEET_WORDS];
-    if listing::read_words(input, 2, count, &mut sheet) {
+    if listing::read_words(&input[2..], &mut sheet[..count]) {
         return list_table(&sheet[..count], input, 2 + 4 * count, out);
     }
     list_refusal(Refusal::WordsEnd, out)

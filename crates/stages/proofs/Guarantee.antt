@@ -1,7 +1,7 @@
 -- Demand 3 of what the public functions return: whatever list of narrowings a caller runs under one number, of either pair, all by one outcome table or by none.
 -- Assumes nothing.
 use Rattle.std.specs.Prelude.{◌≡◌, refl, true, Ok, Err, List, [], ◌∷◌, map, ℕ, length, take, drop}
-use Rattle.std.proofs.Common.{sym, ◌∙◌, ap, ap₂, subst, arith, take_at}
+use Rattle.std.proofs.Common.{sym, ◌∙◌, ap, ap₂, subst, take_at}
 use Rattle.std.proofs.Math.Option.{Option, none}
 use Rattle.model.specs.Facts.{table_of, known_facts, table_fault}
 use Rattle.model.specs.Outcome.{Outcomes}

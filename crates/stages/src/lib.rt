@@ -1,4 +1,5 @@
-// The staged guarantee of what the calls return, in specs/. The functions say that the runs it speaks of are the calls' own.
+// The staged guarantee of what the calls return, in specs/. The functions say that the runs it speaks of are the calls' own: one for
+// each call.
 #![tactic(auto)]
 
 ghost use Rattle.std.proofs.Math.Option.{none, some};
@@ -8,6 +9,7 @@ ghost use Rattle.partial_policy.specs.Reducing.{order_of};
 ghost use Rattle.stages.specs.Runs.{run_of, Evaluated, Reduced, Narrowed, Completed, asking_of, Asked};
 
 use answer::Answer;
+use partial_policy::Order;
 use refusal::Refusal;
 
 pub fn evaluated(sheet: &[u32], number: u32, facts: &[u8], out: &mut [u32]) -> Answer
@@ -65,13 +67,13 @@ pub fn reduced_by_levels(
     outcomes: &[u8],
     sheet: &[u32],
     number: u32,
-    in_order: bool,
+    order: Order,
     facts: &[u8],
     out: &mut [u32],
 ) -> Answer
-    ensures { Reduced (some (table levels outcomes.now)) (order_of in_order) number sheet.now (run_of facts.now out.old out.new result) }
+    ensures { Reduced (some (table levels outcomes.now)) (order_of order) number sheet.now (run_of facts.now out.old out.new result) }
 {
-    calls::partial_evaluate_by_levels(levels, outcomes, sheet, number, in_order, facts, out)
+    calls::partial_evaluate_by_levels(levels, outcomes, sheet, number, order, facts, out)
 }
 
 pub fn narrowed_by_levels(
@@ -79,13 +81,13 @@ pub fn narrowed_by_levels(
     outcomes: &[u8],
     given: &[u32],
     number: u32,
-    in_order: bool,
+    order: Order,
     facts: &[u8],
     out: &mut [u32],
 ) -> Answer
-    ensures { Narrowed (some (table levels outcomes.now)) (order_of in_order) number given.now (run_of facts.now out.old out.new result) }
+    ensures { Narrowed (some (table levels outcomes.now)) (order_of order) number given.now (run_of facts.now out.old out.new result) }
 {
-    calls::narrow_residual_by_levels(levels, outcomes, given, number, in_order, facts, out)
+    calls::narrow_residual_by_levels(levels, outcomes, given, number, order, facts, out)
 }
 
 pub fn completed_by_levels(

@@ -83,7 +83,7 @@ module _ (vs : List ℕ) (j : ℕ) where
 module _ (bs : List ℕ) (h : Bits bs) where
   pub grant_small : Small (grant_node bs)
   unfolding grant_node
-  grant_small = record { bits = omega (arith, mark_few (mark_in 28 bs), mark_few (mark_in (28 + mark_width (mark_in 28 bs)) bs)); owed = omega arith; named = omega arith; leads = omega arith; two = omega arith }
+  grant_small = record { bits = omega (arith, mark_few (mark_in 28 bs), mark_few (mark_in (28 + mark_width (mark_in 28 bs)) bs)); owed = omega arith; named = omega arith }
 
   pub permit_small : Small (permit_node bs)
   unfolding permit_node
@@ -92,8 +92,6 @@ module _ (bs : List ℕ) (h : Bits bs) where
         bits = omega (arith, mark_few (mark_in 27 bs));
         owed = omega (arith, field_small 4 7 bs h);
         named = omega (arith, field_small (27 + mark_width (mark_in 27 bs)) 12 bs h);
-        leads = omega arith;
-        two = omega arith;
       }
 
   pub deny_small : Small (deny_node bs)
@@ -106,6 +104,4 @@ module _ (bs : List ℕ) (h : Bits bs) where
         bits = omega (arith, denied_few (deny_first bs), mark_few (mark_in a bs), mark_few (mark_in b bs));
         owed = omega arith;
         named = omega (arith, field_small c 12 bs h);
-        leads = omega arith;
-        two = omega arith;
       }

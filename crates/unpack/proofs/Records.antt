@@ -6,7 +6,7 @@ use Prim.Native.Nat.{ℕ, ◌+◌, ◌-◌, ◌*◌, ◌≤◌}
 use native.Mathlib.Omega.{arith}
 use lib.ListN.{length, drop, length-append, length-map}
 use Rattle.std.specs.Prelude.{Result}
-use Rattle.model.specs.Fields.{words_for, pack}
+use Rattle.model.specs.Fields.{words_for}
 use Rattle.model.specs.Outcome.{product_sets}
 use Rattle.model.specs.Tight.{resolved_in, loose_r}
 use Rattle.laws.proofs.BitLaws.{Bits}
@@ -31,20 +31,16 @@ module _ (run : List ℕ) (h : Bits run) (tree words : ℕ) (et : tree ≡ tree_
       (subst (λ w. Says run tree (one_policy true 32 w (drop tree run)) f) ew s))
 
 -- ---- its words: the lead, the entries, the tree
-module _ (run : List ℕ) (end n : ℕ) (e : n ≡ count_in run) where
-  abbrev tail : ℕ → List ℕ
-  tail k = restored (drop (32 + 12 * k) run) 0 (end - (32 + 12 * k))
+abbrev pub tree_words : List ℕ → ℕ → ℕ → List ℕ
+tree_words run end at = restored (drop at run) 0 (end - at)
 
-  pub length_restored : length (restored_record run end) ≡ 1 + words_for 2 n + length (tail n)
-  unfolding restored_record
-  length_restored =
-      let m = count_in run in
-      let fs = fields_in 12 m (drop 32 run) in
-      let a = length-append (pack 16 (map loose_entry fs)) (tail m) in
-      let b = length_pack 16 (map loose_entry fs) ∙ ap (words_for 2) (length-map fs loose_entry ∙ length_fields 12 m (drop 32 run)) in
-      (let z : length (restored_record run end) ≡ 1 + words_for 2 m + length (tail m) = omega (arith, a, b) in z)
-      ∙ ap (λ k. 1 + words_for 2 k + length (tail k)) (sym e)
+pub length_restored : (run : List ℕ) (end : ℕ) → length (restored_record run end) ≡ 1 + words_for 2 (count_in run) + length (tree_words run end (tree_at run))
+unfolding restored_record
+length_restored run end =
+    let fs = fields_in 12 (count_in run) (drop 32 run) in
+    let b = length_pack 16 (map loose_entry fs) ∙ ap (words_for 2) (length-map fs loose_entry ∙ length_fields 12 (count_in run) (drop 32 run)) in
+    simp length-append (omega (arith, b))
 
-  pub record_parts : (v : ℕ) → v ≡ field_in 0 16 run * 65536 + field_in 16 16 run → ((v ∷ []) ++ entry_words 12 n (drop 32 run)) ++ tail n ≡ restored_record run end
-  unfolding restored_record
-  record_parts v f = ap₂ (λ x k. x ∷ (entry_words 12 k (drop 32 run) ++ tail k)) f e
+pub record_parts : (run : List ℕ) (end n v : ℕ) → n ≡ count_in run → v ≡ field_in 0 16 run * 65536 + field_in 16 16 run → ((v ∷ []) ++ entry_words 12 n (drop 32 run)) ++ tree_words run end (32 + 12 * n) ≡ restored_record run end
+unfolding restored_record
+record_parts run end n v e f = ap₂ (λ x k. x ∷ (entry_words 12 k (drop 32 run) ++ tree_words run end (32 + 12 * k))) f e

@@ -1,33 +1,32 @@
 -- While nodes are restored: what was written, and what is left. Assumes nothing.
-use mathlib.Core.Path.{◌≡◌, refl, sym, ◌∙◌, ap, ap₂, subst}
+use mathlib.Core.Path.{◌≡◌, refl, sym, ◌∙◌, ap, ap₂}
 use mathlib.Core.Bool.{Bool, true, false, cond}
 use mathlib.Core.List.{List, [], ◌∷◌, ◌++◌, append_assoc, append-nil, map}
-use Prim.Native.Nat.{ℕ, ◌+◌, ◌-◌, ◌*◌, ◌≤◌, ◌<◌}
+use Prim.Native.Nat.{ℕ, ◌+◌, ◌-◌, ◌*◌, ◌/◌, ◌≤◌, ◌<◌}
 use native.Mathlib.Omega.{arith}
-use lib.ListN.{length, take, drop, set, length-append, length-map}
-use lib.Seq.{drop-drop, length-take-le}
-use Rattle.model.specs.Fields.{words_for, pack}
+use lib.ListN.{length, take, drop, set, length-append, length-map, length-take, length-drop}
+use lib.Seq.{drop-drop}
+use Rattle.model.specs.Fields.{words_for}
+use Rattle.laws.proofs.BitLaws.{length_run}
 use Rattle.laws.proofs.Lengths.{length_pack}
 use Rattle.packing.specs.Written.{Written}
 use Rattle.packing.specs.WrittenLaws.{written_none, written_lent, written_next, written_same, written_long}
-use Rattle.bits.specs.Widths.{plain_width}
+use Rattle.bits.specs.Widths.{has_lists, plain_width}
 use Rattle.unpack.specs.declared.Node.{Node}
-use Rattle.unpack.specs.Nodes.{fields_in, loose_entry, lead_in, kind_in, plain_word, list_node, has_lists, node_length, node_count, Small, fixed_words, obligation_words, entry_words, node_words, restored_node, node_bits, restored}
+use Rattle.unpack.specs.Nodes.{fields_in, loose_entry, lead_kind_of, lead_in, kind_in, plain_word, list_node, node_length, node_count, fixed_words, obligation_words, entry_words, node_words, restored_node, node_bits, restored}
 use Rattle.unpack.specs.FieldLaws.{length_fields}
 use Rattle.unpack.specs.RestoreLaws.{restored_step, restored_none}
 use Rattle.unpack.proofs.Steps.{list_roomy}
 
 -- ---- the words of a node
-pub length_node : (n : Node) (bs : List ℕ) → Small n → length (node_words n bs) ≡ node_count n
+pub length_node : (n : Node) (bs : List ℕ) → length (node_words n bs) ≡ node_count n
 unfolding node_words
-length_node n bs s =
-    let ws = n.first ∷ n.second ∷ n.third ∷ [] in
+length_node n bs =
     let os = fields_in 6 n.obligations (drop n.width bs) in
     let fs = fields_in 10 n.facts (drop (n.width + 6 * n.obligations) bs) in
-    let a = length-take-le n.fixed ws s.leads in
     let b = length_pack 8 os ∙ ap (words_for 4) (length_fields 6 n.obligations (drop n.width bs)) in
     let c = length_pack 16 (map loose_entry fs) ∙ ap (words_for 2) (length-map fs loose_entry ∙ length_fields 10 n.facts (drop (n.width + 6 * n.obligations) bs)) in
-    omega (arith, length-append (fixed_words n) (pack 8 os ++ pack 16 (map loose_entry fs)), length-append (pack 8 os) (pack 16 (map loose_entry fs)), a, b, c)
+    simp length-append (omega (arith, b, c))
 
 pub node_parts : (n : Node) (run : List ℕ) (at : ℕ) →
     (fixed_words n ++ obligation_words n.obligations (drop (at + n.width) run)) ++ entry_words 10 n.facts (drop (at + n.width + 6 * n.obligations) run) ≡ node_words n (drop at run)
@@ -83,45 +82,55 @@ module _ {run out₀ out : List ℕ} {from end at to : ℕ} (p : Restoring run o
 
   -- There is room for the node.
   pub room_node : length (restored (drop from run) 0 (end - from)) ≤ length out₀ → to + length (restored_node here) ≤ length out₀
-  room_node r =
-      let a = ap length next_left in
-      let b = length-append (p.done ++ restored_node here) (restored (drop (at + node_bits here) run) 0 (end - (at + node_bits here))) in
-      let c = length-append p.done (restored_node here) in
-      omega (arith, a, b, c, p.put.number)
+  room_node r = omega (arith, simp length-append at (ap length next_left), p.put.number)
 
   pub long_out : length (restored (drop from run) 0 (end - from)) ≤ length out₀ → length out ≡ length out₀
-  long_out r = written_long p.put (let x = room_node r in omega arith)
+  long_out r = written_long p.put (omega (arith, room_node r))
 
-  pub after_list : (n : Node) {tail : List ℕ} {r : ℕ} → has_lists (kind_in here) ≡ true → n ≡ list_node (kind_in here) here → Written (node_words n here) (take (length out - to) (drop to out)) tail r →
-      Restoring run out₀ (take to out ++ (tail ++ drop (length out - to) (drop to out))) from end (at + node_length n) (to + r)
-  after_list n {tail} {r} e f w =
-      let l : node_bits here ≡ node_length n = bits_of_list here e ∙ ap node_length (sym f) in
-      let ws : restored_node here ≡ node_words n here = words_of_list here e ∙ ap (λ x. node_words x here) (sym f) in
+  -- One node more, of so many bits.
+  one_more : (ws : List ℕ) (k : ℕ) {out₁ : List ℕ} {to₁ : ℕ} → ws ≡ restored_node here → k ≡ node_bits here → Written (p.done ++ ws) out₀ out₁ to₁ → Restoring run out₀ out₁ from end (at + k) to₁
+  one_more ws k e f w =
       record {
-        done = p.done ++ node_words n here;
-        put = written_lent p.put w;
-        left = subst (λ k. (p.done ++ node_words n here) ++ restored (drop (at + k) run) 0 (end - (at + k)) ≡ restored (drop from run) 0 (end - from)) l
-            (subst (λ x. (p.done ++ x) ++ restored (drop (at + node_bits here) run) 0 (end - (at + node_bits here)) ≡ restored (drop from run) 0 (end - from)) ws next_left);
+        done = p.done ++ ws;
+        put = w;
+        left = ap₂ (λ x j. (p.done ++ x) ++ restored (drop (at + j) run) 0 (end - (at + j))) e f ∙ next_left;
       }
 
-  pub after_plain : (v k : ℕ) → has_lists (kind_in here) ≡ false → v ≡ plain_word (lead_in here) → k ≡ 4 + plain_width (kind_in here) → to < length out₀ → Restoring run out₀ (set out to v) from end (at + k) (to + 1)
-  after_plain v k e f g h =
-      let l : node_bits here ≡ k = bits_of_plain here e ∙ sym g in
-      let ws : restored_node here ≡ v ∷ [] = words_of_plain here e ∙ ap (λ x. x ∷ []) (sym f) in
-      record {
-        done = p.done ++ (v ∷ []);
-        put = written_next p.put v h;
-        left = subst (λ j. (p.done ++ (v ∷ [])) ++ restored (drop (at + j) run) 0 (end - (at + j)) ≡ restored (drop from run) 0 (end - from)) l
-            (subst (λ x. (p.done ++ x) ++ restored (drop (at + node_bits here) run) 0 (end - (at + node_bits here)) ≡ restored (drop from run) 0 (end - from)) ws next_left);
-      }
+  -- By its first bits, and by whether it has lists.
+  module _ (lead : ℕ) (e : lead ≡ lead_in here) (has : Bool) (h : has ≡ has_lists (lead / 65536)) where
+    kind : has ≡ has_lists (kind_in here)
+    kind = h ∙ ap (λ x. has_lists (lead_kind_of x)) e
+
+    module _ (yes : has ≡ true) (n : Node) (f : n ≡ list_node (lead / 65536) here) where
+      node : n ≡ list_node (kind_in here) here
+      node = f ∙ ap (λ x. list_node (lead_kind_of x) here) e
+
+      words_are : node_words n here ≡ restored_node here
+      words_are = sym (words_of_list here (sym kind ∙ yes) ∙ ap (λ x. node_words x here) (sym node))
+
+      pub room_list : length (restored (drop from run) 0 (end - from)) ≤ length out₀ → node_count n ≤ length (take (length out - to) (drop to out))
+      room_list r = simp (length-take, length-drop) (omega (arith, room_node r, long_out r, ap length words_are, length_node n here))
+
+      pub after_list : (k : ℕ) {tail : List ℕ} {r : ℕ} → k ≡ node_length n → Written (node_words n here) (take (length out - to) (drop to out)) tail r →
+          Restoring run out₀ (take to out ++ (tail ++ drop (length out - to) (drop to out))) from end (at + k) (to + r)
+      after_list k l w = one_more (node_words n here) k words_are (l ∙ ap node_length node ∙ sym (bits_of_list here (sym kind ∙ yes))) (written_lent p.put w)
+
+    module _ (no : has ≡ false) where
+      pub room_plain : length (restored (drop from run) 0 (end - from)) ≤ length out₀ → to < length out
+      room_plain r = omega (arith, room_node r, long_out r, ap length (words_of_plain here (sym kind ∙ no)))
+
+      pub after_plain : (v k : ℕ) → length (restored (drop from run) 0 (end - from)) ≤ length out₀ → v ≡ plain_word lead → k ≡ plain_width (lead / 65536) → Restoring run out₀ (set out to v) from end (at + (4 + k)) (to + 1)
+      after_plain v k r f g =
+          one_more (v ∷ []) (4 + k) (ap (λ x. x ∷ []) (f ∙ ap plain_word e) ∙ sym (words_of_plain here (sym kind ∙ no)))
+          (ap (λ x. 4 + x) (g ∙ ap (λ x. plain_width (lead_kind_of x)) e) ∙ sym (bits_of_plain here (sym kind ∙ no)))
+          (written_next p.put v (omega (arith, room_plain r, long_out r)))
 
 pub ends : {run out₀ out : List ℕ} {from end at to : ℕ} → Restoring run out₀ out from end at to → end ≤ at → Written (restored (drop from run) 0 (end - from)) out₀ out to
 ends {run} {out₀} {out} {from} {end} {at} {to} p h =
     written_same p.put (sym (append-nil p.done) ∙ ap (λ l. p.done ++ l) (sym (restored_none (drop at run)) ∙ ap (restored (drop at run) 0) (let z : 0 ≡ end - at = omega arith in z)) ∙ p.left)
 
-pub moved : {run out₀ out : List ℕ} {from end a b to : ℕ} → a ≡ b → Restoring run out₀ out from end a to → Restoring run out₀ out from end b to
-moved {run} {out₀} {out} {from} {end} {a} {b} {to} e p = subst (λ k. Restoring run out₀ out from end k to) e p
-
 -- The output is as long as it was.
 pub same_long : {run out₀ out : List ℕ} {from end at to : ℕ} → Restoring run out₀ out from end at to → end ≤ at → length (restored (drop from run) 0 (end - from)) ≤ length out₀ → length out ≡ length out₀
 same_long p h r = let w = ends p h in written_long w (omega (arith, w.number))
+
+pub ruleset restoring = (length_run, room_node, long_out, begins, same_long, list_roomy)

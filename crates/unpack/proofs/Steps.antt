@@ -1,89 +1,146 @@
 -- One step of a check, by what the code finds there. Assumes nothing.
-use mathlib.Core.Path.{◌≡◌, refl, sym, ◌∙◌, ap, ap₂, subst}
+use mathlib.Core.Path.{◌≡◌, refl, sym, ◌∙◌, ap, subst}
 use mathlib.Core.Bool.{Bool, true, false, cond}
 use mathlib.Core.List.{List}
-use Prim.Native.Nat.{ℕ, zero, suc, ◌+◌, ◌-◌, ◌≤◌, ◌<◌}
+use Prim.Native.Nat.{ℕ, zero, suc, ◌+◌, ◌-◌, ◌/◌, ◌^◌, ◌≤◌, ◌<◌}
 use native.Mathlib.Omega.{arith}
+use Rattle.std.proofs.Math.Option.{none, some}
 use borrow.Author.Tests.{ltb-true, ltb-false, le-leb, lt-leb, eqb-true, eqb-false, ne_eqb}
 use lib.Dec.{eqb, ltb}
 use lib.ListN.{length, drop, length-drop}
 use lib.Seq.{drop-drop}
 use Rattle.std.specs.Prelude.{Result, Ok, Err}
+use Rattle.model.specs.Fields.{joined}
+use Rattle.model.specs.Bits.{run_of}
 use Rattle.model.specs.Reading.{Parsed, refuse, got, unless, few_obligations}
 use Rattle.model.specs.Products.{last_kind}
-use Rattle.laws.proofs.BitLaws.{Bits}
+use Rattle.laws.proofs.BitLaws.{Bits, length_run}
 use Rattle.policy_model.specs.Span.{arms_of}
 use Rattle.bits.specs.Widths.{plain_width}
 use Rattle.unpack.specs.declared.Found.{Found}
+use Rattle.unpack.specs.declared.Place.{Place}
 use Rattle.unpack.specs.declared.Step.{Step}
 use Rattle.unpack.specs.Nodes.{lead_in, kind_in, lead_kind_of, plain_word, grant_node, permit_node, deny_node, list_node, node_length, node_count, Small}
-use Rattle.unpack.specs.Answers.{Says, Steps, plain_step, one_condition, all_conditions, one_policy, all_policies}
-use Rattle.unpack.specs.FieldLaws.{need, need_there, need_ended}
+use Rattle.unpack.specs.Answers.{ended, lead_read, Says, Steps, plain_step, one_condition, all_conditions, one_policy, all_policies}
+use Rattle.unpack.specs.FieldLaws.{need, need_there, need_ended, field_small}
 use Rattle.unpack.specs.NormalLaws.{owed8_in}
-use Rattle.unpack.specs.StepLaws.{policy_lists, condition_step, policy_step, grant_step, permit_step, deny_step}
-use Rattle.unpack.proofs.Fields.{grant_small, permit_small, deny_small}
+use Rattle.unpack.specs.StepLaws.{policy_lists, condition_step, condition_bad, condition_deep, condition_ended, policy_step, policy_bad, policy_deep, policy_ended, grant_step, permit_step, deny_step}
+use Rattle.unpack.proofs.Fields.{at_field, bits_from, grant_small, permit_small, deny_small}
 
--- The bits from a position on.
-left_of_lem : (run : List ℕ) (at : ℕ) → length (drop at run) ≡ length run - at
-left_of_lem run at = length-drop at run
+-- ---- where the bits end
+pub run_ended : (run : List ℕ) (at r : ℕ) → some r ≡ ended run at → (r ≡ 19) × (length run < at)
+run_ended run at r e = grind arith
 
-pub here_ended : (run : List ℕ) (at n : ℕ) (b : Bool) → b ≡ ltb (length run) (at + n) → b ≡ true → at ≤ length run → length (drop at run) < n
-here_ended run at n b e t h = let x = ltb-true (length run) (at + n) (sym e ∙ t) in omega (arith, left_of_lem run at)
+pub run_there : (run : List ℕ) (at : ℕ) → none ≡ ended run at → at ≤ length run
+run_there run at e = grind arith
 
-pub here_there : (run : List ℕ) (at n : ℕ) (b : Bool) → b ≡ ltb (length run) (at + n) → b ≡ false → n ≤ length (drop at run)
-here_there run at n b e f = let x = ltb-false (length run) (at + n) (sym e ∙ f) in omega (arith, left_of_lem run at)
+-- A node that begins in them.
+pub here_ended : (run : List ℕ) (at n r : ℕ) → some r ≡ ended run (at + n) → at ≤ length run → (r ≡ 19) × (length (drop at run) < n)
+here_ended run at n r e h = let x = run_ended run (at + n) r e in (x.0, omega (arith, x.1, length-drop at run))
+
+pub here_there : (run : List ℕ) (at n : ℕ) → none ≡ ended run (at + n) → n ≤ length (drop at run)
+here_there run at n e = omega (arith, run_there run (at + n) e, length-drop at run)
+
+-- Its first bits.
+pub lead_ended : (bs : List ℕ) (r : ℕ) → Err r ≡ lead_read bs → (r ≡ 19) × (length bs < 4)
+lead_ended bs r e = grind arith
+
+pub lead_there : (bs : List ℕ) (lead : ℕ) → Ok lead ≡ lead_read bs → (lead ≡ lead_in bs) × (4 ≤ length bs)
+lead_there bs lead e = grind arith
+
+-- ---- a place
+module _ (p : Place) where
+  abbrev pub run : List ℕ
+  run = run_of p.bytes.now
+
+  abbrev pub here : List ℕ
+  here = drop p.at run
+
+  pub bits_here : Bits here
+  bits_here = bits_from p.bytes.now p.octets p.at
+
+  pub near : p.at ≤ 524288
+  near = omega (arith, p.short, p.inside, length_run p.bytes.now)
 
 -- ---- nodes without lists
-module _ (run : List ℕ) (at words lead p : ℕ) (e : p ≡ plain_width (lead_kind_of lead)) where
-  abbrev node : ℕ → ℕ → ℕ → Result Step ℕ
-  node n w arms = Ok (record { after = at + n; words = w; arms = arms })
-
-  pub plain_ended : (b : Bool) → b ≡ ltb (length run) (at + (4 + p)) → b ≡ true → Err 19 ≡ plain_step run at words lead
-  unfolding plain_step
-  plain_ended b f t =
-      sym (ap (λ x. cond x (Err 19) (node (4 + plain_width (lead_kind_of lead)) (words + 1) (arms_of (plain_word lead)))) (ap (λ n. ltb (length run) (at + (4 + n))) (sym e) ∙ sym f ∙ t))
-
-  pub plain_there : (b : Bool) (arms : ℕ) → b ≡ ltb (length run) (at + (4 + p)) → b ≡ false → arms ≡ arms_of (plain_word lead) → node (4 + p) (words + 1) arms ≡ plain_step run at words lead
-  unfolding plain_step
-  plain_there b arms f g a =
-      ap₂ (λ n m. node (4 + n) (words + 1) m) e a
-      ∙ sym (ap (λ x. cond x (Err 19) (node (4 + plain_width (lead_kind_of lead)) (words + 1) (arms_of (plain_word lead)))) (ap (λ n. ltb (length run) (at + (4 + n))) (sym e) ∙ sym f ∙ g))
-
 -- What is asked of such a node, as a step.
-pub plain_steps : (run : List ℕ) (at depth words : ℕ) (asked : Parsed ℕ) (arms : ℕ → List ℕ → ℕ → Parsed ℕ) → at ≤ length run → words ≤ at → 0 < depth →
-    asked ≡ need (4 + plain_width (kind_in (drop at run))) (drop at run) (arms (words + 1) (drop (4 + plain_width (kind_in (drop at run))) (drop at run)) (arms_of (plain_word (lead_in (drop at run))))) →
-    Steps run at depth asked arms (plain_step run at words (lead_in (drop at run)))
-unfolding plain_step
-plain_steps run at depth words asked arms h k d e = by (ltb (length run) (at + (4 + plain_width (kind_in (drop at run))))) refl
-  where
-    by : (b : Bool) → ltb (length run) (at + (4 + plain_width (kind_in (drop at run)))) ≡ b →
-        Steps run at depth asked arms (cond b (Err 19) (Ok (record { after = at + (4 + plain_width (kind_in (drop at run))); words = words + 1; arms = arms_of (plain_word (lead_in (drop at run))) })))
-    by true f =
-        let p = 4 + plain_width (kind_in (drop at run)) in
-        e ∙ need_ended p (drop at run) _ (here_ended run at p true (sym f) refl h)
-    by false f =
-        let p = 4 + plain_width (kind_in (drop at run)) in
-        let l = ltb-false (length run) (at + p) f in (
-          e ∙ need_there p (drop at run) _ (omega (arith, left_of_lem run at)) ∙ ap (λ l. arms (words + 1) l (arms_of (plain_word (lead_in (drop at run))))) (drop-drop p at run),
-          l,
-          omega arith,
-          omega arith,
-          d,
-        )
+module _ (p : Place) (depth : ℕ) (asked : Parsed ℕ) (arms : ℕ → List ℕ → ℕ → Parsed ℕ) where
+  abbrev width : ℕ
+  width = 4 + plain_width (kind_in (here p))
 
-pub condition_steps : (run : List ℕ) (at depth words : ℕ) → Bits (drop at run) → at ≤ length run → words ≤ at → (depth ≡ 0 → ⊥) → kind_in (drop at run) < 6 →
-    Steps run at depth (one_condition depth words (drop at run)) (all_conditions (depth - 1)) (plain_step run at words (lead_in (drop at run)))
-condition_steps run at zero words b h k d l = absurd (d refl)
-condition_steps run at (suc depth) words b h k d l =
-    subst (λ n. Steps run at (suc depth) (one_condition (suc depth) words (drop at run)) (all_conditions n) (plain_step run at words (lead_in (drop at run)))) (let z : depth ≡ suc depth - 1 = omega arith in z)
-    (plain_steps run at (suc depth) words (one_condition (suc depth) words (drop at run)) (all_conditions depth) h k (omega arith) (condition_step (drop at run) b depth words l))
+  abbrev count : ℕ
+  count = arms_of (plain_word (lead_in (here p)))
 
-pub policy_steps : (run : List ℕ) (at depth words : ℕ) (res : Bool) → Bits (drop at run) → at ≤ length run → words ≤ at → (depth ≡ 0 → ⊥) → 6 ≤ kind_in (drop at run) → (kind_in (drop at run) ≡ 8 → ⊥) → kind_in (drop at run) < 12 →
-    Steps run at depth (one_policy res depth words (drop at run)) (all_policies res (depth - 1)) (plain_step run at words (lead_in (drop at run)))
-policy_steps run at zero words res b h k d l m n = absurd (d refl)
-policy_steps run at (suc depth) words res b h k d l m n =
-    subst (λ x. Steps run at (suc depth) (one_policy res (suc depth) words (drop at run)) (all_policies res x) (plain_step run at words (lead_in (drop at run)))) (let z : depth ≡ suc depth - 1 = omega arith in z)
-    (plain_steps run at (suc depth) words (one_policy res (suc depth) words (drop at run)) (all_policies res depth) h k (omega arith) (policy_step (drop at run) b res depth words l m n))
+  plain_steps : 0 < depth → asked ≡ need width (here p) (arms (p.words + 1) (drop width (here p)) count) → Steps (run p) p.at depth asked arms (plain_step (run p) p.at p.words (lead_in (here p)))
+  unfolding plain_step
+  plain_steps d e = by (ltb (length (run p)) (p.at + width)) refl
+    where
+      by : (b : Bool) → ltb (length (run p)) (p.at + width) ≡ b → Steps (run p) p.at depth asked arms (cond b (Err 19) (Ok (record { after = p.at + width; words = p.words + 1; arms = count })))
+      by true f = e ∙ need_ended width (here p) _ (omega (arith, length-drop p.at (run p), ltb-true (length (run p)) (p.at + width) f, p.inside))
+      by false f =
+          let l = ltb-false (length (run p)) (p.at + width) f in (
+            e ∙ need_there width (here p) _ (omega (arith, length-drop p.at (run p))) ∙ ap (λ l. arms (p.words + 1) l count) (drop-drop width p.at (run p)),
+            l,
+            omega arith,
+            omega (arith, p.fewer),
+            d,
+          )
+
+module _ (p : Place) where
+  condition_steps : (depth : ℕ) → (depth ≡ 0 → ⊥) → kind_in (here p) < 6 → Steps (run p) p.at depth (one_condition depth p.words (here p)) (all_conditions (depth - 1)) (plain_step (run p) p.at p.words (lead_in (here p)))
+  condition_steps zero d l = absurd (d refl)
+  condition_steps (suc depth) d l =
+      subst (λ n. Steps (run p) p.at (suc depth) (one_condition (suc depth) p.words (here p)) (all_conditions n) (plain_step (run p) p.at p.words (lead_in (here p)))) (let z : depth ≡ suc depth - 1 = omega arith in z)
+      (plain_steps p (suc depth) (one_condition (suc depth) p.words (here p)) (all_conditions depth) (omega arith) (condition_step (here p) (bits_here p) depth p.words l))
+
+  policy_steps : (depth : ℕ) (res : Bool) → (depth ≡ 0 → ⊥) → 6 ≤ kind_in (here p) → (kind_in (here p) ≡ 8 → ⊥) → kind_in (here p) < 12 →
+      Steps (run p) p.at depth (one_policy res depth p.words (here p)) (all_policies res (depth - 1)) (plain_step (run p) p.at p.words (lead_in (here p)))
+  policy_steps zero res d l m n = absurd (d refl)
+  policy_steps (suc depth) res d l m n =
+      subst (λ x. Steps (run p) p.at (suc depth) (one_policy res (suc depth) p.words (here p)) (all_policies res x) (plain_step (run p) p.at p.words (lead_in (here p)))) (let z : depth ≡ suc depth - 1 = omega arith in z)
+      (plain_steps p (suc depth) (one_policy res (suc depth) p.words (here p)) (all_policies res depth) (omega arith) (policy_step (here p) (bits_here p) res depth p.words l m n))
+
+  -- The bits end before the kind.
+  pub condition_short : (depth r : ℕ) → Err r ≡ lead_read (here p) → one_condition depth p.words (here p) ≡ refuse r
+  condition_short depth r e = let x = lead_ended (here p) r e in condition_ended (here p) (bits_here p) depth p.words x.1 ∙ ap refuse (sym x.0)
+
+  pub policy_short : (res : Bool) (depth r : ℕ) → Err r ≡ lead_read (here p) → one_policy res depth p.words (here p) ≡ refuse r
+  policy_short res depth r e = let x = lead_ended (here p) r e in policy_ended (here p) (bits_here p) res depth p.words x.1 ∙ ap refuse (sym x.0)
+
+  -- By the first bits, as they were read.
+  module _ (lead : ℕ) (e : Ok lead ≡ lead_read (here p)) where
+    pub lead_small : lead < 2 ^ 20
+    lead_small = omega (arith, (lead_there (here p) lead e).0, field_small 0 20 (here p) (bits_here p))
+
+    pub lead_kind : lead / 65536 ≡ kind_in (here p)
+    lead_kind = ap lead_kind_of (lead_there (here p) lead e).0
+
+    pub there : 4 ≤ length (here p)
+    there = (lead_there (here p) lead e).1
+
+    pub no_condition : (depth : ℕ) → 5 < lead / 65536 → one_condition depth p.words (here p) ≡ refuse 5
+    no_condition depth l = condition_bad (here p) (bits_here p) depth p.words there (omega (arith, lead_kind))
+
+    pub deep_condition : (depth : ℕ) → depth ≡ 0 → lead / 65536 ≤ 5 → one_condition depth p.words (here p) ≡ refuse 7
+    deep_condition depth d l = ap (λ n. one_condition n p.words (here p)) d ∙ condition_deep (here p) (bits_here p) p.words there (omega (arith, lead_kind))
+
+    pub plain_condition : (depth : ℕ) (s : Result Step ℕ) → s ≡ plain_step (run p) p.at p.words lead → (depth ≡ 0 → ⊥) → lead / 65536 ≤ 5 →
+        Steps (run p) p.at depth (one_condition depth p.words (here p)) (all_conditions (depth - 1)) s
+    plain_condition depth s f d l =
+        subst (Steps (run p) p.at depth (one_condition depth p.words (here p)) (all_conditions (depth - 1))) (sym (f ∙ ap (plain_step (run p) p.at p.words) (lead_there (here p) lead e).0))
+        (condition_steps depth d (omega (arith, lead_kind)))
+
+    pub no_policy : (res : Bool) (depth : ℕ) → (6 ≤ lead / 65536 → last_kind res < lead / 65536) → one_policy res depth p.words (here p) ≡ refuse 5
+    no_policy res depth f = policy_bad (here p) (bits_here p) res depth p.words there (subst (λ k. 6 ≤ k → last_kind res < k) lead_kind f)
+
+    pub deep_policy : (res : Bool) (depth : ℕ) → depth ≡ 0 → 6 ≤ lead / 65536 → lead / 65536 ≤ last_kind res → one_policy res depth p.words (here p) ≡ refuse 7
+    deep_policy res depth d l m = ap (λ n. one_policy res n p.words (here p)) d ∙ policy_deep (here p) (bits_here p) res p.words there (omega (arith, lead_kind)) (omega (arith, lead_kind))
+
+    pub plain_policy : (res : Bool) (depth : ℕ) (s : Result Step ℕ) → s ≡ plain_step (run p) p.at p.words lead → (depth ≡ 0 → ⊥) → 6 ≤ lead / 65536 → (lead / 65536 ≡ 8 → ⊥) → lead / 65536 < 12 →
+        Steps (run p) p.at depth (one_policy res depth p.words (here p)) (all_policies res (depth - 1)) s
+    plain_policy res depth s f d l m n =
+        subst (Steps (run p) p.at depth (one_policy res depth p.words (here p)) (all_policies res (depth - 1))) (sym (f ∙ ap (plain_step (run p) p.at p.words) (lead_there (here p) lead e).0))
+        (policy_steps depth res d (omega (arith, lead_kind)) (λ z. m (lead_kind ∙ z)) (omega (arith, lead_kind)))
 
 -- ---- nodes with lists
 pub list_small : (bs : List ℕ) (kind : ℕ) → Bits bs → Small (list_node kind bs)
@@ -125,38 +182,29 @@ stored_is bs kind d w h e l m = by (eqb kind 12) refl
     by : (b : Bool) → eqb kind 12 ≡ b → one_policy true (suc d) w bs ≡
         need (node_length (cond (eqb kind 8) (grant_node bs) (cond (eqb kind 12) (permit_node bs) (deny_node bs)))) bs (got (w + node_count (cond (eqb kind 8) (grant_node bs) (cond (eqb kind 12) (permit_node bs) (deny_node bs)))) (drop (node_length (cond (eqb kind 8) (grant_node bs) (cond (eqb kind 12) (permit_node bs) (deny_node bs)))) bs))
     by true f = rw (ne_eqb kind 8 (λ z. omega arith), f) (permit_step bs h d w (e ∙ eqb-true kind 12 f))
-    by false f = rw (ne_eqb kind 8 (λ z. omega arith), f) (deny_step bs h d w (e ∙ (let n = eqb-false kind 12 f in not_twelve kind n l m)))
-      where
-        not_twelve : (k : ℕ) → (k ≡ 12 → ⊥) → 12 ≤ k → k ≤ 13 → k ≡ 13
-        not_twelve k f l m = by_test (eqb k 13) refl
-          where
-            by_test : (b : Bool) → eqb k 13 ≡ b → k ≡ 13
-            by_test true g = eqb-true k 13 g
-            by_test false g = absurd (f (omega (arith, between k l m (eqb-false k 13 g))))
-              where
-                between : (k : ℕ) → 12 ≤ k → k ≤ 13 → (k ≡ 13 → ⊥) → k ≤ 12
-                between k l m n = le_of (ltb 12 k) refl
-                  where
-                    le_of : (b : Bool) → ltb 12 k ≡ b → k ≤ 12
-                    le_of false e = ltb-false 12 k e
-                    le_of true e = absurd (n (let x = ltb-true 12 k e in omega arith))
+    by false f = let thirteen : kind ≡ 13 = omega (arith, eqb-false kind 12 f) in rw (ne_eqb kind 8 (λ z. omega arith), f) (deny_step bs h d w (e ∙ thirteen))
 
-module _ (run : List ℕ) (at words kind : ℕ) (b : Bits (drop at run)) (e : kind_in (drop at run) ≡ kind) (low : 12 ≤ kind) (high : kind ≤ 13) where
-  pub stored_ended : (depth : ℕ) → length (drop at run) < node_length (list_node kind (drop at run)) → one_policy true (suc depth) words (drop at run) ≡ refuse 19
-  stored_ended depth l = stored_is (drop at run) kind depth words b e low high ∙ need_ended (node_length (list_node kind (drop at run))) (drop at run) _ l
+-- A node 12 or 13 at a place, by its length and its count of words, as the code has them.
+module _ (p : Place) (kind : ℕ) (e : kind_in (here p) ≡ kind) (low : 12 ≤ kind) (high : kind ≤ 13) (depth k : ℕ) (ek : k ≡ node_length (list_node kind (here p))) where
+  pub stored_ended : (r : ℕ) → some r ≡ ended (run p) (p.at + k) → one_policy true (suc depth) p.words (here p) ≡ refuse r
+  stored_ended r l =
+      let x = here_ended (run p) p.at k r l p.inside in
+      stored_is (here p) kind depth p.words (bits_here p) e low high ∙ need_ended (node_length (list_node kind (here p))) (here p) _ (omega (arith, x.1, ek)) ∙ ap refuse (sym x.0)
 
-  pub stored_there : (depth : ℕ) → node_length (list_node kind (drop at run)) ≤ length (drop at run) → at ≤ length run → words ≤ at →
-      Steps run at (suc depth) (one_policy true (suc depth) words (drop at run)) (all_policies true depth) (Ok (record { after = at + node_length (list_node kind (drop at run)); words = words + node_count (list_node kind (drop at run)); arms = 0 }))
-  stored_there depth l h k =
-      let n = list_node kind (drop at run) in
-      let r = list_roomy (drop at run) kind in (
-        stored_is (drop at run) kind depth words b e low high
-            ∙ need_there (node_length n) (drop at run) _ l
-            ∙ ap (λ x. got (words + node_count n) x) (drop-drop (node_length n) at run)
-            ∙ (policy_lists true).none depth 0 (words + node_count n) (drop (at + node_length n) run) refl,
-        omega (arith, left_of_lem run at),
-        omega arith,
-        omega arith,
+  pub stored_there : (v : ℕ) → v ≡ node_count (list_node kind (here p)) → none ≡ ended (run p) (p.at + k) →
+      Steps (run p) p.at (suc depth) (one_policy true (suc depth) p.words (here p)) (all_policies true depth) (Ok (record { after = p.at + k; words = p.words + v; arms = 0 }))
+  stored_there v ev l =
+      let n = list_node kind (here p) in
+      let r = list_roomy (here p) kind in
+      let there = here_there (run p) p.at k l in (
+        stored_is (here p) kind depth p.words (bits_here p) e low high
+            ∙ need_there (node_length n) (here p) _ (omega (arith, there, ek))
+            ∙ (λ i. got (p.words + sym ev i) (drop (sym ek i) (here p)))
+            ∙ ap (got (p.words + v)) (drop-drop k p.at (run p))
+            ∙ (policy_lists true).none depth 0 (p.words + v) (drop (p.at + k) (run p)) refl,
+        run_there (run p) (p.at + k) l,
+        omega (arith, r, ek),
+        omega (arith, r, ek, ev, p.fewer),
         omega arith,
       )
 
@@ -166,46 +214,51 @@ abbrev pub step_of : Result Found ℕ → Result Step ℕ
 step_of (Ok f) = Ok (record { after = f.at; words = f.words; arms = 0 })
 step_of (Err n) = Err n
 
-module _ (run : List ℕ) (at words depth : ℕ) (b : Bits (drop at run)) (e : kind_in (drop at run) ≡ 8) (res : Bool) where
+module _ (p : Place) (depth : ℕ) (e : kind_in (here p) ≡ 8) (res : Bool) where
   abbrev asks : Parsed ℕ
-  asks = one_policy res (suc depth) words (drop at run)
+  asks = one_policy res (suc depth) p.words (here p)
 
-  pub grant_short : length (drop at run) < 12 → asks ≡ refuse 19
-  grant_short l = grant_step (drop at run) b res depth words e ∙ need_ended 12 (drop at run) _ l
+  abbrev grant : ℕ
+  grant = node_length (grant_node (here p))
 
   abbrev onward : Parsed ℕ
-  onward = need (node_length (grant_node (drop at run))) (drop at run) (one_condition depth (words + node_count (grant_node (drop at run))) (drop (node_length (grant_node (drop at run))) (drop at run)))
+  onward = need grant (here p) (one_condition depth (p.words + node_count (grant_node (here p))) (drop grant (here p)))
 
-  pub grant_owing : 12 ≤ length (drop at run) → 64 < owed8_in (drop at run) b → asks ≡ refuse 8
-  grant_owing l m = grant_step (drop at run) b res depth words e ∙ need_there 12 (drop at run) (unless (few_obligations (owed8_in (drop at run) b)) 8 onward) l ∙ ap (λ x. unless x 8 onward) (lt-leb (owed8_in (drop at run) b) 64 m)
+  pub grant_short : (r : ℕ) → some r ≡ ended (run p) (p.at + 12) → asks ≡ refuse r
+  grant_short r l = let x = here_ended (run p) p.at 12 r l p.inside in grant_step (here p) (bits_here p) res depth p.words e ∙ need_ended 12 (here p) _ x.1 ∙ ap refuse (sym x.0)
 
-  grant_on : 12 ≤ length (drop at run) → owed8_in (drop at run) b ≤ 64 → asks ≡ onward
-  grant_on l m = grant_step (drop at run) b res depth words e ∙ need_there 12 (drop at run) (unless (few_obligations (owed8_in (drop at run) b)) 8 onward) l ∙ ap (λ x. unless x 8 onward) (le-leb (owed8_in (drop at run) b) 64 m)
+  module _ (l : none ≡ ended (run p) (p.at + 12)) (owed : ℕ) (eo : owed ≡ joined 1 7 (drop (p.at + 5) (run p))) where
+    counted : owed ≡ owed8_in (here p) (bits_here p)
+    counted = eo ∙ at_field (run p) p.at 5 7
 
-  pub grant_ended : 12 ≤ length (drop at run) → owed8_in (drop at run) b ≤ 64 → length (drop at run) < node_length (grant_node (drop at run)) → asks ≡ refuse 19
-  grant_ended l m n = grant_on l m ∙ need_ended (node_length (grant_node (drop at run))) (drop at run) _ n
+    grant_there : asks ≡ unless (few_obligations owed) 8 onward
+    grant_there =
+        grant_step (here p) (bits_here p) res depth p.words e
+        ∙ need_there 12 (here p) (unless (few_obligations (owed8_in (here p) (bits_here p))) 8 onward) (here_there (run p) p.at 12 l)
+        ∙ ap (λ n. unless (few_obligations n) 8 onward) (sym counted)
 
-  grant_steps : 12 ≤ length (drop at run) → owed8_in (drop at run) b ≤ 64 → node_length (grant_node (drop at run)) ≤ length (drop at run) → (f : Result Found ℕ) →
-      Says run (at + node_length (grant_node (drop at run))) (one_condition depth (words + node_count (grant_node (drop at run))) (drop (at + node_length (grant_node (drop at run))) run)) f → Steps run at (suc depth) asks (all_policies res depth) (step_of f)
-  grant_steps l m n (Err x) s = grant_on l m ∙ need_there (node_length (grant_node (drop at run))) (drop at run) _ n ∙ ap (λ y. one_condition depth (words + node_count (grant_node (drop at run))) y) (drop-drop (node_length (grant_node (drop at run))) at run) ∙ s
-  grant_steps l m n (Ok f) s =
-      let r = grant_roomy (drop at run) in
-      let x = s.3 in (
-        grant_on l m ∙ need_there (node_length (grant_node (drop at run))) (drop at run) _ n ∙ ap (λ y. one_condition depth (words + node_count (grant_node (drop at run))) y) (drop-drop (node_length (grant_node (drop at run))) at run) ∙ s.0
-            ∙ (policy_lists res).none depth 0 f.words (drop f.at run) refl,
-        s.1,
-        omega arith,
-        s.2,
-        omega arith,
-      )
+    pub grant_owing : 64 < owed → asks ≡ refuse 8
+    grant_owing m = grant_there ∙ ap (λ x. unless x 8 onward) (lt-leb owed 64 m)
 
-  -- By the node's length and count of words, as the code has them.
-  pub grant_ends : 12 ≤ length (drop at run) → owed8_in (drop at run) b ≤ 64 → (k v : ℕ) → k ≡ node_length (grant_node (drop at run)) → v ≡ node_count (grant_node (drop at run)) → k ≤ length (drop at run) →
-      (f : Result Found ℕ) → Says run (at + k) (one_condition depth (words + v) (drop (at + k) run)) f → Steps run at (suc depth) asks (all_policies res depth) (step_of f)
-  grant_ends l m k v n e h f s =
-      grant_steps l m (omega (arith, n, h)) f
-      (subst (λ x. Says run (at + x) (one_condition depth (words + node_count (grant_node (drop at run))) (drop (at + x) run)) f) n
-      (subst (λ y. Says run (at + k) (one_condition depth (words + y) (drop (at + k) run)) f) e s))
+    module _ (m : owed ≤ 64) (k : ℕ) (ek : k ≡ grant) where
+      grant_on : asks ≡ onward
+      grant_on = grant_there ∙ ap (λ x. unless x 8 onward) (le-leb owed 64 m)
+
+      pub grant_ended : (r : ℕ) → some r ≡ ended (run p) (p.at + k) → asks ≡ refuse r
+      grant_ended r n = let x = here_ended (run p) p.at k r n p.inside in grant_on ∙ need_ended grant (here p) _ (omega (arith, x.1, ek)) ∙ ap refuse (sym x.0)
+
+      module _ (v : ℕ) (ev : v ≡ node_count (grant_node (here p))) (n : none ≡ ended (run p) (p.at + k)) where
+        grant_then : asks ≡ one_condition depth (p.words + v) (drop (p.at + k) (run p))
+        grant_then =
+            grant_on
+            ∙ need_there grant (here p) _ (omega (arith, here_there (run p) p.at k n, ek))
+            ∙ (λ i. one_condition depth (p.words + sym ev i) (drop (sym ek i) (here p)))
+            ∙ ap (one_condition depth (p.words + v)) (drop-drop k p.at (run p))
+
+        pub grant_ends : (f : Result Found ℕ) → Says (run p) (p.at + k) (one_condition depth (p.words + v) (drop (p.at + k) (run p))) f → Steps (run p) p.at (suc depth) asks (all_policies res depth) (step_of f)
+        grant_ends (Err x) s = grant_then ∙ s
+        grant_ends (Ok f) s =
+            (grant_then ∙ s.0 ∙ (policy_lists res).none depth 0 f.words (drop f.at (run p)) refl, s.1, omega (arith, grant_roomy (here p), ek, s.3), s.2, omega arith)
 
 -- ---- in a policy's step
 pub residual_true : (res : Bool) → 11 < last_kind res → res ≡ true

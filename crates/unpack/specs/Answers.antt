@@ -7,13 +7,21 @@ use Rattle.model.specs.Policy.{pnil, pcons}
 use Rattle.model.specs.Partial.{ReducedPolicy, as_residual}
 use Rattle.model.specs.Products.{Outcome}
 use Rattle.model.specs.Reading.{Parsed, refuse, got, many}
-use Rattle.model.specs.Tight.{kind_bits, loose_c, loose, zeros, UnderNumber}
+use Rattle.model.specs.Tight.{kind_bits, loose_c, loose, UnderNumber}
 use Rattle.laws.specs.Size.{words_c, words_cs, words as words_t, wordss as words_ts, words_r}
 use Rattle.policy_model.specs.Span.{arms_of}
 use Rattle.bits.specs.Widths.{plain_width}
-use Rattle.unpack.specs.Nodes.{lead_kind_of, plain_word}
+use Rattle.unpack.specs.Nodes.{lead_kind_of, lead_in, plain_word}
 use Rattle.unpack.specs.declared.Found.{Found}
 use Rattle.unpack.specs.declared.Step.{Step}
+
+-- Why bits that are needed up to `at` are turned back.
+abbrev pub ended : List ℕ → ℕ → Option ℕ
+ended run at = cond (ltb (length run) at) (some 19) none
+
+-- The first bits of a node, if its kind is there.
+abbrev pub lead_read : List ℕ → Result ℕ ℕ
+lead_read bs = cond (leb kind_bits (length bs)) (Ok (lead_in bs)) (Err 19)
 
 -- How many words what was read takes, after so many.
 abbrev pub sized : {A : Type 0} → (A → ℕ) → ℕ → Parsed A → Parsed ℕ
@@ -36,9 +44,10 @@ plain_step run at words lead =
     (Err 19)
     (Ok (record { after = at + (kind_bits + plain_width (lead_kind_of lead)); words = words + 1; arms = arms_of (plain_word lead) }))
 
--- Why what was read, of so many words and with these bits after it, is turned back: what follows is not the filler, or the words are too many.
-abbrev pub judged : List ℕ → ℕ → ℕ → ℕ → Option ℕ
-judged bs words most room = cond (ltb (length bs) 8 && zeros bs) (cond (leb words most && leb words room) none (some 11)) (some 20)
+-- Why the words of what was read are turned back: it was itself, or they are too many.
+abbrev pub judged : Parsed ℕ → ℕ → ℕ → Option ℕ
+judged (refuse n) most room = some n
+judged (got words bs) most room = cond (leb words most && leb words room) none (some 11)
 
 -- ---- what is asked of conditions and of policies, after so many words
 abbrev pub one_condition : ℕ → ℕ → List ℕ → Parsed ℕ

@@ -70,10 +70,7 @@ module _ {one : ℕ → ℕ → List ℕ → Parsed ℕ} {all : ℕ → ℕ → 
         onward all depth above level (next p (λ v cs. all (depth - level) v cs (left - 1))) ≡ Due all depth above level left w bs
     one_then p f e = ap (onward all depth above level) (ap (λ x. next x (λ v cs. all (depth - level) v cs (left - 1))) e ∙ lists.first (depth - level) left w bs f)
 
-    -- A node without arms, one that opens a level, and one that is refused.
-    pub passed : (v : ℕ) (cs : List ℕ) (n : ℕ) → n ≡ 0 → (left ≡ 0 → ⊥) → one (depth - level) w bs ≡ all (depth - level - 1) v cs n → Due all depth above level (left - 1) v cs ≡ Due all depth above level left w bs
-    passed v cs n z f e = one_then (got v cs) f (lists.none (depth - level - 1) n v cs z ∙ sym e)
-
+    -- A node that was passed, with as many below it, and one that is refused.
     pub opened : (v : ℕ) (cs : List ℕ) (n : ℕ) → (left ≡ 0 → ⊥) → level < length above → one (depth - level) w bs ≡ all (depth - level - 1) v cs n →
         Due all depth (set above level (left - 1)) (level + 1) n v cs ≡ Due all depth above level left w bs
     opened v cs n f lt e =

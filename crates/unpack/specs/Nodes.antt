@@ -1,11 +1,11 @@
 -- A node of the tight form, from its bits, with 0 bits past the end; and the words that it restores to. Request 11.
-use Rattle.std.specs.Prelude.{Bool, true, cond, List, [], ◌∷◌, ◌++◌, map, ℕ, zero, suc, ◌+◌, ◌-◌, ◌*◌, ◌/◌, ◌%◌, ◌^◌, ◌≤◌, ◌<◌, eqb, ltb, take, drop}
+use Rattle.std.specs.Prelude.{cond, Option, None, Some, List, [], ◌∷◌, ◌++◌, map, ℕ, zero, suc, ◌+◌, ◌-◌, ◌*◌, ◌/◌, ◌%◌, ◌^◌, ◌≤◌, ◌<◌, eqb, length, drop}
 use Rattle.model.specs.Fields.{joined, words_for, pack}
 use Rattle.model.specs.Facts.{fact_bits}
 use Rattle.model.specs.Outcome.{outcome_bits}
 use Rattle.model.specs.Writing.{rest_bits, count_bits, mark_bits, obligation_bits, entry_bits}
 use Rattle.model.specs.Tight.{kind_bits, obligation_count_bits, obligation_tight_bits}
-use Rattle.bits.specs.Widths.{plain_width, mark_width, denied_width}
+use Rattle.bits.specs.Widths.{has_lists, plain_width, mark_width, denied_width}
 use Rattle.unpack.specs.declared.Node.{Node}
 
 -- The field of so many bits at an offset; and n fields, one after the other.
@@ -40,8 +40,7 @@ grant_node bs =
     record {
       first = field_in 0 12 bs * 2 ^ (4 + outcome_bits) + field_in 12 outcome_bits bs;
       second = mark_in 28 bs * 2 ^ (1 + mark_bits) + mark_in (grant_middle bs) bs;
-      third = 0;
-      fixed = 2;
+      third = None;
       width = grant_middle bs + mark_width (mark_in (grant_middle bs) bs);
       obligations = field_in 0 12 bs % 2 ^ obligation_count_bits;
       facts = 0;
@@ -55,8 +54,7 @@ permit_node bs =
     record {
       first = 12 * 2 ^ rest_bits + field_in 4 obligation_count_bits bs * 2 ^ (4 + outcome_bits) + field_in 11 outcome_bits bs;
       second = mark_in 27 bs * 2 ^ (4 + count_bits) + field_in (permit_middle bs) count_bits bs;
-      third = 0;
-      fixed = 2;
+      third = None;
       width = permit_middle bs + count_bits;
       obligations = field_in 4 obligation_count_bits bs;
       facts = field_in (permit_middle bs) count_bits bs;
@@ -83,8 +81,7 @@ deny_node bs =
     record {
       first = deny_first bs;
       second = mark_in (deny_before bs) bs * 2 ^ (1 + mark_bits) + mark_in (deny_middle bs) bs;
-      third = field_in (deny_after bs) count_bits bs;
-      fixed = 3;
+      third = Some (field_in (deny_after bs) count_bits bs);
       width = deny_after bs + count_bits;
       obligations = 0;
       facts = field_in (deny_after bs) count_bits bs;
@@ -94,23 +91,25 @@ deny_node bs =
 unfoldable pub list_node : ℕ → List ℕ → Node
 list_node kind bs = cond (eqb kind 8) (grant_node bs) (cond (eqb kind 12) (permit_node bs) (deny_node bs))
 
-unfoldable pub has_lists : ℕ → Bool
-has_lists kind = cond (ltb kind 12) (eqb kind 8) true
-
 -- How many bits and words a node with lists takes.
 abbrev pub node_length : Node → ℕ
 node_length n = n.width + (obligation_tight_bits * n.obligations + fact_bits * n.facts)
 
+abbrev pub third_words : Option ℕ → List ℕ
+third_words None = []
+third_words (Some w) = w ∷ []
+
+abbrev pub fixed_words : Node → List ℕ
+fixed_words n = n.first ∷ (n.second ∷ third_words n.third)
+
 abbrev pub node_count : Node → ℕ
-node_count n = n.fixed + words_for 4 n.obligations + words_for 2 n.facts
+node_count n = length (fixed_words n) + words_for 4 n.obligations + words_for 2 n.facts
 
 -- No field is over what its bits can say.
 pub record Small (n : Node) : Type 0 where
   pub bits : n.width ≤ 128
   pub owed : n.obligations < 128
   pub named : n.facts < 4096
-  pub leads : n.fixed ≤ 3
-  pub two : 2 ≤ n.fixed
 
 -- Its words: the first ones, obligations, facts.
 abbrev pub obligation_words : ℕ → List ℕ → List ℕ
@@ -118,9 +117,6 @@ obligation_words n bs = pack obligation_bits (fields_in obligation_tight_bits n 
 
 abbrev pub entry_words : ℕ → ℕ → List ℕ → List ℕ
 entry_words width n bs = pack entry_bits (map loose_entry (fields_in width n bs))
-
-abbrev pub fixed_words : Node → List ℕ
-fixed_words n = take n.fixed (n.first ∷ n.second ∷ n.third ∷ [])
 
 unfoldable pub node_words : Node → List ℕ → List ℕ
 node_words n bs =

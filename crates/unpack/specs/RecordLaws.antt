@@ -24,7 +24,8 @@ use Rattle.laws.proofs.WordLaws.{narrow_drop}
 use Rattle.laws.proofs.BitLaws.{Bits}
 use Rattle.laws.specs.Size.{words}
 use Rattle.laws.proofs.ReadForm.{seen_field}
-use Rattle.unpack.specs.Nodes.{field_in, fields_in, loose_entry, kind_in, permit_node, deny_node, list_node, has_lists, node_length, count_in, tree_at, restored, restored_record}
+use Rattle.bits.specs.Widths.{has_lists}
+use Rattle.unpack.specs.Nodes.{field_in, fields_in, loose_entry, kind_in, permit_node, deny_node, list_node, node_length, count_in, tree_at, restored, restored_record}
 use Rattle.unpack.specs.Answers.{sized, one_policy, words_b, words_u}
 use Rattle.unpack.specs.FieldLaws.{need, need_there, need_ended, merged, taken, next_assoc, step_bits, first_bits, field_small}
 use Rattle.unpack.specs.NormalLaws.{value, field_split, normal_12, normal_13}

@@ -23,9 +23,9 @@ use Rattle.model.specs.Tight.{loose_c, fields_c, fields12, fields13, fields_p, l
 use Rattle.laws.proofs.BitLaws.{Bits}
 use Rattle.laws.proofs.FieldLaws.{Holds, fine, nothing, if_holds, then_holds}
 use Rattle.laws.proofs.WordLaws.{narrow_drop}
-use Rattle.bits.specs.Widths.{plain_width, mark_width, denied_width}
+use Rattle.bits.specs.Widths.{has_lists, plain_width, mark_width, denied_width}
 use Rattle.unpack.specs.declared.Node.{Node}
-use Rattle.unpack.specs.Nodes.{field_in, fields_in, mark_in, loose_entry, lead_in, kind_in, plain_word, grant_middle, grant_node, permit_middle, permit_node, deny_lead, deny_first, deny_before, deny_middle, deny_after, deny_node, list_node, has_lists, node_length, node_words, restored_node, node_bits, restored}
+use Rattle.unpack.specs.Nodes.{field_in, fields_in, mark_in, loose_entry, lead_in, kind_in, plain_word, grant_middle, grant_node, permit_middle, permit_node, deny_lead, deny_first, deny_before, deny_middle, deny_after, deny_node, list_node, node_length, node_words, restored_node, node_bits, restored}
 use Rattle.unpack.specs.FieldLaws.{need, step_bits, first_bits, field_small, field_parts, option_of, length_fields}
 use Rattle.unpack.specs.NormalLaws.{value, field_split, outcome_is, permit_read, normal_12, deny_read, denied_read, denied_width_lem, normal_13, owed8_in, grant_read, normal_8}
 use Rattle.unpack.specs.StepLaws.{kind_first, plain_word_is}

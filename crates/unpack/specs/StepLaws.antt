@@ -159,13 +159,7 @@ module _ (bs : List ℕ) (h : Bits bs) where
 
   -- A kind that isn't allowed, and a level too many.
   past_c : (d k : ℕ) → 6 ≤ k → fields_c (λ ds. loose_c d ds) k (drop 4 bs) ≡ refuse 5
-  past_c d zero l = let z : ⊥ = omega arith in absurd z
-  past_c d (suc zero) l = let z : ⊥ = omega arith in absurd z
-  past_c d (suc (suc zero)) l = let z : ⊥ = omega arith in absurd z
-  past_c d (suc (suc (suc zero))) l = let z : ⊥ = omega arith in absurd z
-  past_c d (suc (suc (suc (suc zero)))) l = let z : ⊥ = omega arith in absurd z
-  past_c d (suc (suc (suc (suc (suc zero))))) l = let z : ⊥ = omega arith in absurd z
-  past_c d (suc (suc (suc (suc (suc (suc k)))))) l = refl
+  past_c d k l = grind arith
 
   pub condition_bad : (d w : ℕ) → 4 ≤ length bs → 6 ≤ kind_in bs → one_condition d w bs ≡ refuse 5
   condition_bad zero w n l =
@@ -300,24 +294,7 @@ module _ (bs : List ℕ) (h : Bits bs) where
 
   -- A kind that isn't allowed here, a level too many, and bits that end before the kind.
   past_p : (res : Bool) (d j : ℕ) → last_kind res < 6 + j → fields_p value res (λ ds. loose_c d ds) (λ ds. loose value res d ds) j (drop 4 bs) ≡ refuse 5
-  past_p false d zero l = let z : ⊥ = omega arith in absurd z
-  past_p false d (suc zero) l = let z : ⊥ = omega arith in absurd z
-  past_p false d (suc (suc zero)) l = let z : ⊥ = omega arith in absurd z
-  past_p false d (suc (suc (suc zero))) l = let z : ⊥ = omega arith in absurd z
-  past_p false d (suc (suc (suc (suc zero)))) l = let z : ⊥ = omega arith in absurd z
-  past_p false d (suc (suc (suc (suc (suc zero))))) l = let z : ⊥ = omega arith in absurd z
-  past_p false d (suc (suc (suc (suc (suc (suc zero)))))) l = refl
-  past_p false d (suc (suc (suc (suc (suc (suc (suc zero))))))) l = refl
-  past_p false d (suc (suc (suc (suc (suc (suc (suc (suc j)))))))) l = refl
-  past_p true d zero l = let z : ⊥ = omega arith in absurd z
-  past_p true d (suc zero) l = let z : ⊥ = omega arith in absurd z
-  past_p true d (suc (suc zero)) l = let z : ⊥ = omega arith in absurd z
-  past_p true d (suc (suc (suc zero))) l = let z : ⊥ = omega arith in absurd z
-  past_p true d (suc (suc (suc (suc zero)))) l = let z : ⊥ = omega arith in absurd z
-  past_p true d (suc (suc (suc (suc (suc zero))))) l = let z : ⊥ = omega arith in absurd z
-  past_p true d (suc (suc (suc (suc (suc (suc zero)))))) l = let z : ⊥ = omega arith in absurd z
-  past_p true d (suc (suc (suc (suc (suc (suc (suc zero))))))) l = let z : ⊥ = omega arith in absurd z
-  past_p true d (suc (suc (suc (suc (suc (suc (suc (suc j)))))))) l = refl
+  past_p res d j l = grind arith
 
   bad_by : (res : Bool) (d : ℕ) (low : Bool) → leb 6 (kind_in bs) ≡ low → (low ≡ true → last_kind res < kind_in bs) → unless low 5 (fields_p value res (λ ds. loose_c d ds) (λ ds. loose value res d ds) (kind_in bs - 6) (drop 4 bs)) ≡ refuse 5
   bad_by res d false e f = refl

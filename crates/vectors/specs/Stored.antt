@@ -1,7 +1,8 @@
 -- A stored answer: eight numbers of 16 bits, the table, the words, and the words that stand first in the output afterwards.
-use Rattle.std.specs.Prelude.{◌≡◌, Bool, cond, ◌&&◌, List, ◌++◌, ℕ, ◌+◌, ◌*◌, ◌<◌, ◌≤◌, eqb, leb, length, take, drop, get_or}
+use Rattle.std.specs.Prelude.{◌≡◌, Bool, cond, ◌&&◌, List, ◌++◌, ℕ, ◌+◌, ◌*◌, ◌<◌, ◌≤◌, eqb, leb, length, take, drop, get_or, Option, Some, None}
 use Rattle.listing.specs.Inputs.{words_in}
 use Rattle.vectors.specs.Words.{same_words, marks}
+use Rattle.vectors.specs.declared.Call.{Call}
 use Rattle.vectors.specs.declared.Reply.{Reply}
 use Rattle.vectors.specs.Replies.{Replies, Replied, reply_to}
 
@@ -22,9 +23,12 @@ answer_at bs = words_at bs + 4 * number_in bs 3
 abbrev pub whole_size : List ℕ → ℕ
 whole_size bs = answer_at bs + 4 * number_in bs 6
 
--- The bytes that the stored answer at the front takes, 0 if it is not whole.
-abbrev pub size_of : List ℕ → ℕ
-size_of bs = cond (leb number_bytes (length bs) && leb (whole_size bs) (length bs)) (whole_size bs) 0
+-- The bytes that the stored answer at the front takes, if it is whole.
+abbrev pub is_whole : List ℕ → Bool
+is_whole bs = leb number_bytes (length bs) && leb (whole_size bs) (length bs)
+
+abbrev pub size_of : List ℕ → Option ℕ
+size_of bs = cond (is_whole bs) (Some (whole_size bs)) None
 
 pub record Whole (bs : List ℕ) : Type 0 where
   pub numbers : number_bytes ≤ length bs
@@ -45,22 +49,22 @@ pub record Fitted (bs words expected out : List ℕ) : Type 0 where
 abbrev pub expected_in : List ℕ → List ℕ
 expected_in bs = words_in bs (answer_at bs) (number_in bs 6) ++ drop (number_in bs 6) (marks (number_in bs 1))
 
--- What the call gives to its words and its table.
-abbrev pub replies_in : List ℕ → Replies
-replies_in bs = reply_to (number_in bs 0) (number_in bs 7) (words_in bs (words_at bs) (number_in bs 3)) (take (number_in bs 2) (drop number_bytes bs)) (marks (number_in bs 1))
+-- What a call gives to its words and its table.
+abbrev pub replies_in : Call → List ℕ → Replies
+replies_in call bs = reply_to call (number_in bs 7) (words_in bs (words_at bs) (number_in bs 3)) (take (number_in bs 2) (drop number_bytes bs)) (marks (number_in bs 1))
 
 -- The call ran, and what is expected stands beside its output.
-pub record Ran (bs expected out : List ℕ) (r : Reply) : Type 0 where
+pub record Ran (call : Call) (bs expected out : List ℕ) (r : Reply) : Type 0 where
   pub expected_is : expected ≡ expected_in bs
-  pub given : Replied (replies_in bs) out r
+  pub given : Replied (replies_in call bs) out r
 
 -- The same number, the same value, the same output.
 abbrev pub told_in : List ℕ → ℕ → ℕ → Bool
 told_in bs number value = eqb number (number_in bs 4) && eqb value (number_in bs 5)
 
-unfoldable pub answers_in : List ℕ → Bool
-answers_in bs = told_in bs (replies_in bs).number (replies_in bs).value && same_words (replies_in bs).output (expected_in bs)
+unfoldable pub answers_in : Call → List ℕ → Bool
+answers_in call bs = told_in bs (replies_in call bs).number (replies_in call bs).value && same_words (replies_in call bs).output (expected_in bs)
 
 -- An answer that is longer than its room is none.
-unfoldable pub agrees_in : List ℕ → Bool
-agrees_in bs = leb (number_in bs 6) (number_in bs 1) && answers_in bs
+unfoldable pub agrees_in : Call → List ℕ → Bool
+agrees_in call bs = leb (number_in bs 6) (number_in bs 1) && answers_in call bs

@@ -17,9 +17,13 @@ marks n = firsts (λ k. 0x0F0F0F0F + k) n
 abbrev pub half_of : ℕ → ℕ → ℕ
 half_of number place = cond (eqb place 0) (number / 2 ^ 32) (number % 2 ^ 32)
 
+-- The k-th half of a set's numbers.
+abbrev pub half_at : List ℕ → ℕ → ℕ
+half_at set k = half_of (get_or set (k / 2) 0) (k % 2)
+
 -- The output, if it has 32 words, becomes a set's sixteen numbers.
 abbrev pub halves : List ℕ → List ℕ
-halves set = firsts (λ k. half_of (get_or set (k / 2) 0) (k % 2)) 32
+halves set = firsts (half_at set) 32
 
 abbrev pub set_words : List ℕ → List ℕ → List ℕ
 set_words set before = cond (eqb (length before) 32) (halves set) before

@@ -8,15 +8,42 @@ ghost use Rattle.model.specs.Products.{required_facts, required_residual_facts};
 ghost use Rattle.answer.specs.Answers.{number_of as refusal_of, written_of};
 ghost use Rattle.refusal.specs.Numbers.{by_number};
 ghost use Rattle.listing.specs.Inputs.{words_in};
-ghost use Rattle.vectors.specs.Words.{marks, half_of, set_words};
-ghost use Rattle.vectors.specs.Replies.{Replied, told_by, reply_to, requiring};
-ghost use Rattle.vectors.specs.Stored.{number_bytes, number_in, size_of, Whole, Fitted, Ran, told_in, answers_in, agrees_in};
+ghost use Rattle.vectors.specs.Words.{marks, set_words};
+ghost use Rattle.vectors.specs.Replies.{number_of, Replied, reply_to, requiring};
+ghost use Rattle.vectors.specs.Stored.{number_bytes, number_in, size_of, Whole, Fitted, Ran, told_in, agrees_in};
 ghost use Rattle.vectors.specs.Tallies.{noted_in, step_of, tally_of};
 
 use refusal::Refusal;
 use std::io;
 
-// What a call returns: the number of the refusal, 0 when accepted, and its value (words written or facts counted).
+// The calls whose answers are stored, by their numbers there.
+#[derive(Clone, Copy)]
+enum Call {
+    Evaluate = 0,
+    PartialEvaluate = 1,
+    NarrowResidual = 2,
+    CompleteResidual = 3,
+    RequiredFacts = 4,
+    RequiredResidualFacts = 5,
+    IsPermitConstant = 6,
+    IsDenyConstant = 7,
+    CarriesObligation = 8,
+}
+
+// Those that are replayed, and their names.
+const REPLAYED: [(Call, &str); 8] = [
+    (Call::Evaluate, "evaluate"),
+    (Call::PartialEvaluate, "partial_evaluate"),
+    (Call::CompleteResidual, "complete_residual"),
+    (Call::RequiredFacts, "required_facts"),
+    (Call::RequiredResidualFacts, "required_residual_facts"),
+    (Call::IsPermitConstant, "is_permit_constant"),
+    (Call::IsDenyConstant, "is_deny_constant"),
+    (Call::CarriesObligation, "carries_obligation"),
+];
+
+// What a call returns: the number of the refusal, 0 when accepted, and its value (words written or facts counted). Two numbers in place of a Result, since
+// the stored answers have it so.
 #[derive(Drop)]
 struct Reply {
     number: usize,
@@ -28,7 +55,7 @@ struct Reply {
 struct Tally {
     replayed: usize,
     differ: usize,
-    first: usize,
+    first: Option<usize>,
 }
 
 // ---- words
@@ -43,27 +70,16 @@ fn fill(out: &mut [u32])
     }
 }
 
-// The upper or the lower half of a number.
-fn half(number: u64, place: usize) -> u32
-    ensures { result ≡ half_of number place }
-{
-    if place == 0 {
-        (number >> 32) as u32
-    } else {
-        (number & 0xFFFF_FFFF) as u32
-    }
-}
-
-// Makes an output of 32 words a set's sixteen numbers; another is left as it was.
-fn put_set(set: &[u64], out: &mut [u32])
-    requires { length set.now ≡ 16 }
+// Makes an output of 32 words a set's sixteen numbers, the upper half of each first; another is left as it was.
+fn put_set(set: &[u64; 16], out: &mut [u32])
     ensures { out.new ≡ set_words set.now out.old }
 {
     if out.len() != 32 {
         return;
     }
-    for (i, word) in out.iter_mut().enumerate() {
-        *word = half(set[i / 2], i % 2);
+    for (i, number) in set.iter().enumerate() {
+        out[2 * i] = (*number >> 32) as u32;
+        out[2 * i + 1] = (*number & 0xFFFF_FFFF) as u32;
     }
 }
 
@@ -81,6 +97,7 @@ fn replied(answer: Result<usize, Refusal>) -> Reply
     }
 }
 
+// The required facts of a sheet. Apart from `record_facts`: one function for both, lent the call, would have to say for any call what it does to the set.
 fn sheet_facts(sheet: &[u32], out: &mut [u32]) -> Reply
     ensures { Replied (requiring (required_facts sheet.now) out.old) out.new result }
 {
@@ -90,6 +107,7 @@ fn sheet_facts(sheet: &[u32], out: &mut [u32]) -> Reply
     replied(facts.map(|count| count as usize))
 }
 
+// The required facts of a record.
 fn record_facts(words: &[u32], out: &mut [u32]) -> Reply
     ensures { Replied (requiring (required_residual_facts words.now) out.old) out.new result }
 {
@@ -99,33 +117,32 @@ fn record_facts(words: &[u32], out: &mut [u32]) -> Reply
     replied(facts.map(|count| count as usize))
 }
 
-// What a call that writes no record, by its number less 4, returns and leaves in the output. A number of no call does nothing.
-fn told_by(call: usize, words: &[u32], out: &mut [u32]) -> Reply
-    ensures { Replied (told_by call words.now out.old) out.new result }
-{
-    match call {
-        0 => sheet_facts(words, out),
-        1 => record_facts(words, out),
-        2 => replied(questions::is_permit_constant(words).map(usize::from)),
-        3 => replied(questions::is_deny_constant(words).map(usize::from)),
-        4 => replied(questions::carries_obligation(words).map(usize::from)),
-        _ => Reply {
-            number: 0,
-            value: 0,
-        },
+impl Call {
+    fn number(self) -> usize
+        ensures { result ≡ number_of self }
+    {
+        self as usize
     }
-}
 
-// What a proved call, by its number, returns and leaves in the output. One that writes no record takes no number of a sheet and no table.
-fn answer_to(call: usize, sheet: u32, words: &[u32], table: &[u8], out: &mut [u32]) -> Reply
-    ensures { Replied (reply_to call sheet words.now table.now out.old) out.new result }
-{
-    match call {
-        0 => replied(calls::evaluate(words, sheet, table, out)),
-        1 => replied(calls::partial_evaluate(words, sheet, table, out)),
-        2 => replied(calls::narrow_residual(words, sheet, table, out)),
-        3 => replied(calls::complete_residual(words, sheet, table, out)),
-        _ => told_by(call - 4, words, out),
+    // What the proved call returns and leaves in the output. One that writes no record takes no number of a sheet and no table.
+    fn answer(self, sheet: u32, words: &[u32], table: &[u8], out: &mut [u32]) -> Reply
+        ensures { Replied (reply_to self sheet words.now table.now out.old) out.new result }
+    {
+        match self {
+            Call::Evaluate => replied(calls::evaluate(words, sheet, table, out)),
+            Call::PartialEvaluate => replied(calls::partial_evaluate(words, sheet, table, out)),
+            Call::NarrowResidual => replied(calls::narrow_residual(words, sheet, table, out)),
+            Call::CompleteResidual => replied(calls::complete_residual(words, sheet, table, out)),
+            Call::RequiredFacts => sheet_facts(words, out),
+            Call::RequiredResidualFacts => record_facts(words, out),
+            Call::IsPermitConstant => {
+                replied(questions::is_permit_constant(words).map(usize::from))
+            }
+            Call::IsDenyConstant => replied(questions::is_deny_constant(words).map(usize::from)),
+            Call::CarriesObligation => {
+                replied(questions::carries_obligation(words).map(usize::from))
+            }
+        }
     }
 }
 
@@ -133,6 +150,9 @@ fn answer_to(call: usize, sheet: u32, words: &[u32], table: &[u8], out: &mut [u3
 
 // A stored answer begins with eight numbers of 16 bits.
 const NUMBERS: usize = 16;
+
+// So its sizes are below this.
+const SIZES: usize = 65536;
 
 // One of them.
 fn number_in(case: &[u8], place: usize) -> usize
@@ -142,24 +162,15 @@ fn number_in(case: &[u8], place: usize) -> usize
     listing::number_at(case, 2 * place) as usize
 }
 
-// How many bytes the stored answer at the front takes, 0 if it is not whole.
-fn size_of(input: &[u8]) -> usize
+// How many bytes the stored answer at the front takes, if it is whole.
+fn size_of(input: &[u8]) -> Option<usize>
     ensures { result ≡ size_of input.now }
 {
     if input.len() < NUMBERS {
-        return 0;
+        return None;
     }
     let size = NUMBERS + number_in(input, 2) + 4 * number_in(input, 3) + 4 * number_in(input, 6);
-    if input.len() < size { 0 } else { size }
-}
-
-// The words that begin at a position, as many as there is room for.
-fn read(case: &[u8], at: usize, words: &mut [u32])
-    requires { at + 4 * length words.old ≤ length case.now }
-    ensures { words.new ≡ words_in case.now at (length words.old) }
-{
-    let count = words.len();
-    listing::read_words(case, at, count, words);
+    if input.len() < size { None } else { Some(size) }
 }
 
 // The output that the stored answer at the front says: its words, which begin at a position, and after them what stood there.
@@ -168,7 +179,7 @@ fn expect(case: &[u8], at: usize, count: usize, out: &mut [u32])
     ensures { out.new ≡ words_in case.now at count ++ drop count (marks (length out.old)) }
 {
     fill(out);
-    listing::read_words(case, at, count, out);
+    listing::read_words(&case[at..], &mut out[..count]);
 }
 
 // Whether a call returned the stored number and value.
@@ -179,45 +190,36 @@ fn returned(case: &[u8], reply: Reply) -> bool
     reply.number == number_in(case, 4) && reply.value == number_in(case, 5)
 }
 
-// Runs the call of the stored answer at the front, in an output as long as its room; the output that is expected stands beside it.
-fn run(case: &[u8], words: &mut [u32], expected: &mut [u32], out: &mut [u32]) -> Reply
+// Runs a call on the stored answer at the front, in an output as long as its room; the output that is expected stands beside it.
+fn run(call: Call, case: &[u8], words: &mut [u32], expected: &mut [u32], out: &mut [u32]) -> Reply
     requires { Fitted case.now words.old expected.old out.old }
-    ensures { Ran case.now expected.new out.new result }
+    ensures { Ran call case.now expected.new out.new result }
 {
     let start = NUMBERS + number_in(case, 2);
-    let end = start + 4 * words.len();
-    read(case, start, words);
-    expect(case, end, number_in(case, 6), expected);
+    listing::read_words(&case[start..], words);
+    expect(case, start + 4 * words.len(), number_in(case, 6), expected);
     fill(out);
     let sheet = number_in(case, 7) as u32;
-    answer_to(number_in(case, 0), sheet, words, &case[NUMBERS..start], out)
-}
-
-// The same, and whether it answers as stored.
-fn answers(case: &[u8], words: &mut [u32], expected: &mut [u32], out: &mut [u32]) -> bool
-    requires { Fitted case.now words.old expected.old out.old }
-    ensures { result ≡ answers_in case.now }
-{
-    let given = run(case, words, expected, out);
-    returned(case, given) && *out == *expected
+    call.answer(sheet, words, &case[NUMBERS..start], out)
 }
 
 // Whether the proved call answers as the stored answer at the front says. One that is longer than its room is no answer.
-fn agrees(case: &[u8], words: &mut [u32], expected: &mut [u32], out: &mut [u32]) -> bool
-    requires { Whole case.now × (65536 ≤ length words.old) × (65536 ≤ length expected.old) × (65536 ≤ length out.old) }
-    ensures { result ≡ agrees_in case.now }
+fn agrees(call: Call, case: &[u8]) -> bool
+    requires { Whole case.now }
+    ensures { result ≡ agrees_in call case.now }
 {
     let room = number_in(case, 1);
     let count = number_in(case, 3);
     if room < number_in(case, 6) {
         return false;
     }
-    answers(
-        case,
-        &mut words[..count],
-        &mut expected[..room],
-        &mut out[..room],
-    )
+    let mut words = [0u32; SIZES];
+    let mut expected = [0u32; SIZES];
+    let mut out = [0u32; SIZES];
+    let expected = &mut expected[..room];
+    let out = &mut out[..room];
+    let given = run(call, case, &mut words[..count], expected, out);
+    returned(case, given) && *out == *expected
 }
 
 // ---- tallies
@@ -234,56 +236,36 @@ fn noted(tally: Tally, agrees: bool, place: usize) -> Tally
     Tally {
         replayed,
         differ: tally.differ + 1,
-        first: if tally.differ == 0 {
-            place
-        } else {
-            tally.first
-        },
+        first: tally.first.or(Some(place)),
     }
 }
 
 // The stored answer at the front, if it is one of the call.
-fn step(
-    case: &[u8],
-    call: usize,
-    tally: Tally,
-    place: usize,
-    words: &mut [u32],
-    expected: &mut [u32],
-    out: &mut [u32],
-) -> Tally
-    requires { Whole case.now × (tally.replayed + 1 < 2 ^ 64) × (tally.differ ≤ tally.replayed) × (65536 ≤ length words.old) × (65536 ≤ length expected.old) × (65536 ≤ length out.old) }
+fn step(call: Call, case: &[u8], tally: Tally, place: usize) -> Tally
+    requires { Whole case.now × (tally.replayed + 1 < 2 ^ 64) × (tally.differ ≤ tally.replayed) }
     ensures { result ≡ step_of call case.now place tally }
 {
-    if number_in(case, 0) != call {
+    if number_in(case, 0) != call.number() {
         return tally;
     }
-    noted(tally, agrees(case, words, expected, out), place)
+    noted(tally, agrees(call, case), place)
 }
 
 // The stored answers of a call, while they are whole. Each takes some bytes, so there are fewer than bytes.
-fn tally_of(
-    cases: &[u8],
-    call: usize,
-    words: &mut [u32],
-    expected: &mut [u32],
-    out: &mut [u32],
-) -> Tally
-    requires { (65536 ≤ length words.old) × (65536 ≤ length expected.old) × (65536 ≤ length out.old) }
+fn tally_of(call: Call, cases: &[u8]) -> Tally
     ensures { result ≡ tally_of call cases.now }
 {
     let mut tally = Tally {
         replayed: 0,
         differ: 0,
-        first: 0,
+        first: None,
     };
     let mut at = 0;
     for before in 0..cases.len() {
-        let size = size_of(&cases[at..]);
-        if size == 0 {
+        let Some(size) = size_of(&cases[at..]) else {
             return tally;
-        }
-        tally = step(&cases[at..], call, tally, before + 1, words, expected, out);
+        };
+        tally = step(call, &cases[at..], tally, before + 1);
         at += size;
     }
     tally
@@ -297,34 +279,18 @@ fn print(rt: &impl Print, name: &str, tally: Tally) -> io::Result<()> {
         "{name}: {} replayed, {} differ",
         tally.replayed, tally.differ
     )?;
-    if tally.differ > 0 {
-        print!(rt; ", the first is answer {}", tally.first)?;
+    if let Some(first) = tally.first {
+        print!(rt; ", the first is answer {first}")?;
     }
     println!(rt)
 }
 
-// A stored size is a number of 16 bits.
-const SIZES: usize = 65536;
-
-// The line of a call.
-fn replay(rt: &impl Print, cases: &[u8], call: usize, name: &str) -> io::Result<()> {
-    let mut words = [0u32; SIZES];
-    let mut expected = [0u32; SIZES];
-    let mut out = [0u32; SIZES];
-    let tally = tally_of(cases, call, &mut words, &mut expected, &mut out);
-    print(rt, name, tally)
-}
-
 // One line for each call that is replayed.
 fn summary(rt: &impl Print, cases: &[u8]) -> io::Result<()> {
-    replay(rt, cases, 0, "evaluate")?;
-    replay(rt, cases, 1, "partial_evaluate")?;
-    replay(rt, cases, 3, "complete_residual")?;
-    replay(rt, cases, 4, "required_facts")?;
-    replay(rt, cases, 5, "required_residual_facts")?;
-    replay(rt, cases, 6, "is_permit_constant")?;
-    replay(rt, cases, 7, "is_deny_constant")?;
-    replay(rt, cases, 8, "carries_obligation")
+    for (call, name) in REPLAYED {
+        print(rt, name, tally_of(call, cases))?;
+    }
+    Ok(())
 }
 
 // The stored answers begin after the first line.

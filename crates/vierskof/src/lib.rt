@@ -18,6 +18,7 @@ ghost use Rattle.vierskof.specs.Answers.{Requires, Writes, Batches, said, named,
 ghost use Rattle.vierskof.specs.Answers.{in_one, itself, none_or, one_bit_of};
 
 use calendar::Date;
+use partial_policy::Order;
 use refusal::Refusal;
 
 // What an accepted call returns, as one number.
@@ -179,7 +180,15 @@ pub extern "C" fn vierskof_partial_evaluate_by_levels(
 ) -> u64
     ensures { Writes (partial_evaluate (some (table levels outcomes.now)) permits_first number sheet.now facts.now (length out.old)) out.old out.new result }
 {
-    returned(calls::partial_evaluate_by_levels(levels, outcomes, sheet, number, false, facts, out))
+    returned(calls::partial_evaluate_by_levels(
+        levels,
+        outcomes,
+        sheet,
+        number,
+        Order::PermitsFirst,
+        facts,
+        out,
+    ))
 }
 
 // Reduces a sheet in sheet order by an outcome table: 21 before every other cause if it is not accepted.
@@ -194,7 +203,15 @@ pub extern "C" fn vierskof_partial_evaluate_in_order_by_levels(
 ) -> u64
     ensures { Writes (partial_evaluate (some (table levels outcomes.now)) sheet_order number sheet.now facts.now (length out.old)) out.old out.new result }
 {
-    returned(calls::partial_evaluate_by_levels(levels, outcomes, sheet, number, true, facts, out))
+    returned(calls::partial_evaluate_by_levels(
+        levels,
+        outcomes,
+        sheet,
+        number,
+        Order::SheetOrder,
+        facts,
+        out,
+    ))
 }
 
 // Narrows a record by an outcome table: 21 before every other cause if it is not accepted.
@@ -210,7 +227,13 @@ pub extern "C" fn vierskof_narrow_residual_by_levels(
     ensures { Writes (narrow_residual (some (table levels outcomes.now)) permits_first number residual.now facts.now (length out.old)) out.old out.new result }
 {
     returned(calls::narrow_residual_by_levels(
-        levels, outcomes, residual, number, false, facts, out,
+        levels,
+        outcomes,
+        residual,
+        number,
+        Order::PermitsFirst,
+        facts,
+        out,
     ))
 }
 
@@ -226,7 +249,15 @@ pub extern "C" fn vierskof_narrow_residual_in_order_by_levels(
 ) -> u64
     ensures { Writes (narrow_residual (some (table levels outcomes.now)) sheet_order number residual.now facts.now (length out.old)) out.old out.new result }
 {
-    returned(calls::narrow_residual_by_levels(levels, outcomes, residual, number, true, facts, out))
+    returned(calls::narrow_residual_by_levels(
+        levels,
+        outcomes,
+        residual,
+        number,
+        Order::SheetOrder,
+        facts,
+        out,
+    ))
 }
 
 // Completes a record by an outcome table: 21 before every other cause if it is not accepted.

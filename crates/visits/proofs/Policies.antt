@@ -6,7 +6,6 @@ use Rattle.std.specs.Prelude.{Option, Some, None}
 use Prim.Native.Nat.{ℕ, zero, suc, ◌+◌, ◌-◌, ◌/◌, ◌%◌, ◌≤◌, ◌<◌}
 use native.Mathlib.Omega.{arith}
 use borrow.Author.Tests.{le-leb, lt-leb}
-use lib.Dec.{eqb, ltb, leb}
 use lib.ListN.{length, drop, get_or}
 use lib.Seq.{drop-drop}
 use Rattle.model.specs.Facts.{Table}
@@ -15,7 +14,7 @@ use Rattle.model.specs.Condition.{Condition}
 use Rattle.model.specs.Policy.{Grant, Policy, permit, deny, grant, all, any, or_else, pnil, pcons}
 use Rattle.model.specs.Visits.{visits_c}
 use Rattle.model.specs.Writing.{obligation_bits}
-use Rattle.model.specs.Reading.{Parsed, refuse, got, next, whole, many, mark, shape_of, obligation, read_list, sheet_length, kind_of, rest_of, most_obligations, read_condition}
+use Rattle.model.specs.Reading.{Parsed, refuse, got, next, whole, many, mark, shape_of, obligation, read_list, sheet_length, read_condition}
 use Rattle.model.specs.Levels.{outcomes_of}
 use Rattle.model.specs.Products.{Outcome, read_policy}
 use Rattle.laws.proofs.FieldLaws.{Holds, fine, nothing, if_holds, weaker, then_holds, both_hold}
@@ -23,10 +22,11 @@ use Rattle.laws.specs.Size.{words_c, words, wordss}
 use Rattle.laws.proofs.Deeper.{deeper, follows_got}
 use Rattle.laws.proofs.ReadForm.{ok_obligations}
 use Rattle.facts.specs.Answers.{is_present}
+use Rattle.policy_model.specs.declared.DenyShape.{DenyShape}
 use Rattle.policy_model.specs.declared.PolicyHead.{PolicyHead}
 use Rattle.policy_model.specs.declared.PolicyHead.TheVariants.{Permit, Deny, Grant as GrantHead, All, Any, OrElse, PermitWithTrace, DenyWithTrace, BadKind, BadField}
-use Rattle.policy_model.specs.Heads.{policy_head, policy_heads, permit_head, grant_head, bit_of, grant_node, policy_node}
-use Rattle.policy_model.specs.HeadLaws.{policy_node_lem, policy_deep, permit_word}
+use Rattle.policy_model.specs.Heads.{policy_head, bit_of, grant_node, policy_node}
+use Rattle.policy_model.specs.HeadLaws.{head_cases, policy_node_lem, policy_deep, permit_word}
 use Rattle.policy_model.specs.Plain.{plain_grant, plain_policy}
 use Rattle.policy_model.specs.PlainLaws.{plain_reads}
 use Rattle.policy_model.specs.Span.{Skipped}
@@ -60,16 +60,16 @@ record ReadsGrant (depth n : ℕ) (ws : List ℕ) (p : Policy Outcome) (rest : L
   long : length clause.obligations ≡ n
   below_it : read_condition depth (drop ((n + 3) / 4) (drop 1 ws)) ≡ got inner rest
 
-grant_reads : (depth : ℕ) (hidden : Bool) (n o : ℕ) (ws : List ℕ) → Holds (ReadsGrant depth n ws) (grant_node (λ vs. read_condition depth vs) hidden n o ws)
+grant_reads : (depth : ℕ) (shape : DenyShape) (n o : ℕ) (ws : List ℕ) → Holds (ReadsGrant depth n ws) (grant_node (λ vs. read_condition depth vs) shape n o ws)
 unfolding grant_node
-grant_reads depth hidden n o [] = nothing
-grant_reads depth hidden n o (w ∷ ws) =
+grant_reads depth shape n o [] = nothing
+grant_reads depth shape n o (w ∷ ws) =
     then_holds (mark (w / 65536)) _ (anything (mark (w / 65536))) (λ l _ _.
     then_holds (mark (w % 65536)) _ (anything (mark (w % 65536))) (λ m _ _.
     then_holds (read_list obligation obligation_bits n ws) _ (both_hold (read_list obligation obligation_bits n ws) (ok_obligations n ws) (obligations_leave n ws)) (λ os vs h.
     then_holds (read_condition depth vs) _ (itself (read_condition depth vs)) (λ c us e.
     fine (record {
-      clause = record { outcome = o; obligations = os; label = l; reason = m; shape = shape_of (bit_of hidden) };
+      clause = record { outcome = o; obligations = os; label = l; reason = m; shape = shape_of (bit_of shape) };
       inner = c;
       policy_is = refl;
       long = h.0.1;
@@ -80,36 +80,29 @@ grant_reads depth hidden n o (w ∷ ws) =
 abbrev OfSheet : PolicyHead → Type 0
 OfSheet (Permit o) = Unit {0}
 OfSheet Deny = Unit {0}
-OfSheet (GrantHead hidden n o) = Unit {0}
+OfSheet (GrantHead shape n o) = Unit {0}
 OfSheet (All n) = Unit {0}
 OfSheet (Any n) = Unit {0}
 OfSheet OrElse = Unit {0}
 OfSheet (PermitWithTrace n o) = ⊥
-OfSheet (DenyWithTrace hidden denied o) = ⊥
+OfSheet (DenyWithTrace shape denied) = ⊥
 OfSheet BadKind = Unit {0}
 OfSheet BadField = Unit {0}
 
-either_of : (b : Bool) (g h : PolicyHead) → OfSheet g → OfSheet h → OfSheet (cond b g h)
-either_of true g h x y = x
-either_of false g h x y = y
-
-kind_of_lem : (j r : ℕ) → OfSheet (get_or (policy_heads false r) j BadKind)
-unfolding permit_head grant_head
-kind_of_lem zero r = either_of (eqb (r / 65536) 0) (Permit (r % 65536)) BadField tt tt
-kind_of_lem (suc zero) r = either_of (eqb r 0) Deny BadField tt tt
-kind_of_lem (suc (suc zero)) r =
-    let h = GrantHead (eqb (r / 134217728) 1) (r / 1048576 % 128) (r % 65536) in
-    either_of (leb (r / 1048576 % 128) most_obligations) (cond (eqb (r / 65536 % 16) 0) h BadField) BadField (either_of (eqb (r / 65536 % 16) 0) h BadField tt tt) tt
-kind_of_lem (suc (suc (suc zero))) r = either_of (ltb r 4096) (All r) BadField tt tt
-kind_of_lem (suc (suc (suc (suc zero)))) r = either_of (ltb r 4096) (Any r) BadField tt tt
-kind_of_lem (suc (suc (suc (suc (suc zero))))) r = either_of (eqb r 0) OrElse BadField tt tt
-kind_of_lem (suc (suc (suc (suc (suc (suc zero)))))) r = tt
-kind_of_lem (suc (suc (suc (suc (suc (suc (suc zero))))))) r = tt
-kind_of_lem (suc (suc (suc (suc (suc (suc (suc (suc j)))))))) r = tt
-
 of_sheet : (w : ℕ) (h : PolicyHead) → h ≡ policy_head w false → OfSheet h
-unfolding policy_head
-of_sheet w h e = subst OfSheet (sym e) (either_of (leb 6 (kind_of w)) (get_or (policy_heads false (rest_of w)) (kind_of w - 6) BadKind) BadKind (kind_of_lem (kind_of w - 6) (rest_of w)) tt)
+of_sheet w h e =
+    subst OfSheet (sym e) (head_cases OfSheet w false (record {
+      bad_kind_is = tt;
+      bad_field_is = tt;
+      permit_is = λ _. tt;
+      deny_is = λ _. tt;
+      grant_is = λ _. tt;
+      all_is = λ _ _. tt;
+      any_is = λ _ _. tt;
+      or_else_is = λ _. tt;
+      permit_trace_is = λ _ z. absurd cc;
+      deny_trace_is = λ _ z _ _. absurd cc;
+    }))
 
 module _ (T : Table) (W : List ℕ) (at allowance n : ℕ) where
   -- The answer to the policy at `at`, of so many levels; and to arms.
@@ -169,17 +162,17 @@ module _ (T : Table) (W : List ℕ) (at allowance n : ℕ) where
     deny_counted r e p = by_head Deny r e (leaf words (holds_p T) (nodes_p T) at allowance n deny (drop (at + 1) W) false (Node Deny) r refl p refl refl refl)
 
     -- A grant counts besides its condition.
-    pub grant_counted : (hidden : Bool) (k o c : ℕ) (r : Option Visit) → GrantHead hidden k o ≡ policy_head (get_or W at 0) false → c ≡ at + 2 + (k + 3) / 4 →
+    pub grant_counted : (shape : DenyShape) (k o c : ℕ) (r : Option Visit) → GrantHead shape k o ≡ policy_head (get_or W at 0) false → c ≡ at + 2 + (k + 3) / 4 →
         Counts words_c (holds_c T) (visits_c T) c allowance (n + 1) (read_condition (depth - 1) (drop c W)) r → CountsP depth r
     unfolding policy_node
-    grant_counted hidden k o c r e p a =
-        by_head (GrantHead hidden k o) r e (record {
-          says = weaker (Node (GrantHead hidden k o)) (λ t rest g.
+    grant_counted shape k o c r e p a =
+        by_head (GrantHead shape k o) r e (record {
+          says = weaker (Node (GrantHead shape k o)) (λ t rest g.
               let there : drop ((k + 3) / 4) (drop 1 (drop (at + 1) W)) ≡ drop c W =
               drop-drop ((k + 3) / 4) 1 (drop (at + 1) W) ∙ drop-drop (1 + (k + 3) / 4) (at + 1) W ∙ ap (λ i. drop i W) (let s : at + 1 + (1 + (k + 3) / 4) ≡ c = omega arith in s) in
               let told = held_at a.says (ap (read_condition (depth - 1)) (sym there) ∙ g.below_it) in
               told ∙ counted_as allowance (omega (arith, ap (nodes_p T) g.policy_is)) (sym (ap (holds_p T) g.policy_is)) (omega (arith, ap words g.policy_is, g.long)))
-              (grant_reads (depth - 1) hidden k o (drop (at + 1) W));
+              (grant_reads (depth - 1) shape k o (drop (at + 1) W));
         })
 
     -- Without arms All is false; with arms it is what they come to.
@@ -225,8 +218,8 @@ module _ (T : Table) (W : List ℕ) (at allowance n : ℕ) where
     pub no_permit_trace : (k o : ℕ) (r : Option Visit) → PermitWithTrace k o ≡ policy_head (get_or W at 0) false → CountsP depth r
     no_permit_trace k o r e = absurd (of_sheet (get_or W at 0) (PermitWithTrace k o) e)
 
-    pub no_deny_trace : (hidden denied : Bool) (o : ℕ) (r : Option Visit) → DenyWithTrace hidden denied o ≡ policy_head (get_or W at 0) false → CountsP depth r
-    no_deny_trace hidden denied o r e = absurd (of_sheet (get_or W at 0) (DenyWithTrace hidden denied o) e)
+    pub no_deny_trace : (shape : DenyShape) (denied : Option ℕ) (r : Option Visit) → DenyWithTrace shape denied ≡ policy_head (get_or W at 0) false → CountsP depth r
+    no_deny_trace shape denied r e = absurd (of_sheet (get_or W at 0) (DenyWithTrace shape denied) e)
 
     pub bad_kind : (r : Option Visit) → BadKind ≡ policy_head (get_or W at 0) false → CountsP depth r
     unfolding policy_node

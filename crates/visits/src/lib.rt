@@ -25,7 +25,8 @@ struct Visit {
     nodes: u32,
 }
 
-// What a walk reads, and how many nodes it may visit.
+// What a walk reads, and how many nodes it may visit. Not condition's `Walk` with an allowance beside it: that one's methods list what they read, and none
+// of them is called here.
 #[derive(Clone, Copy)]
 struct Walk<'a> {
     words: &'a [u32],
@@ -84,6 +85,7 @@ impl Walk<'_> {
     }
 
     // The `arms` from `at` of an All (`stop` false) or an Any (`stop` true): an arm whose value is `stop` decides, and those after it aren't visited.
+    // So `stop` is a value that is compared and returned, and no switch.
     #[cycle(condition_visits)]
     fn visit_conditions(
         &self,
@@ -110,6 +112,7 @@ impl Walk<'_> {
     }
 
     // A Grant of three words on one fact, the commonest policy: two nodes.
+    #[tactic(auto, using(policy_model::specs::PlainLaws::plain_inside))]
     fn visit_plain(&self, at: usize, nodes: u32) -> Option<Visit>
         requires { (plain_grant (drop at self.now.words.now) ≡ true) × (nodes < self.now.allowance) }
         ensures { (depth : ℕ) → Counts words_t (holds_p (table_of self.now.facts.now)) (nodes_p (table_of self.now.facts.now)) at self.now.allowance nodes (read_policy false depth (drop at self.now.words.now)) result }
@@ -186,7 +189,7 @@ impl Walk<'_> {
         self.counted(count, !stop, next)
     }
 
-    // The `arms` from `at` of an Any, each of which is visited.
+    // The `arms` from `at` of an Any, each of which is visited. So it stands beside `visit_policies`: no arm ends the loop, and their values are joined.
     #[cycle(policy_visits)]
     fn visit_any(&self, at: usize, depth: usize, arms: u32, nodes: u32) -> Option<Visit>
         requires { length self.now.words.now ≤ record_words }

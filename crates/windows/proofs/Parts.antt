@@ -13,9 +13,10 @@ use lib.Seq.{drop-cons}
 use Rattle.model.specs.Fields.{bits, split, packed}
 use Rattle.model.specs.Facts.{Presence, unknown, fact_bits, table_bytes, table_fields}
 use Rattle.model.specs.Writing.{presence_field}
-use Rattle.model.specs.Windows.{Window, window_of, windows_of, right_window, right_windows, decided, becomes, named, set_fields, bad_date, bad_list, windows_fault, windowed_table, apply_windows}
+use Rattle.model.specs.Windows.{Window, windows_of, right_window, right_windows, decided, becomes, named, set_fields, bad_date, bad_list, windows_fault, windowed_table, apply_windows}
 use Rattle.model.specs.Calls.{refusal, wrote, unless_fault}
 use Rattle.model.specs.Calendar.{Date, exists, unknown_date, age_in_days, age_in_years}
+use Rattle.laws.proofs.Pairs.{pairs_are}
 use Rattle.laws.proofs.ShiftLaws.{split_shift}
 use Rattle.laws.proofs.WordLaws.{length_packed}
 use Rattle.laws.proofs.UnpackedLaws.{fields_packed, packed_fields, length_fields}
@@ -78,16 +79,8 @@ placed byte place value b p v =
     }
 
 -- ---- a list by the two words of each window
-by_pairs : (list : List ℕ) (n : ℕ) → n ≡ length list / 2 → map window_in (first_chunks 2 n list) ≡ windows_of list
-by_pairs [] zero h = refl
-by_pairs [] (suc n) h = absurd (omega arith)
-by_pairs (w ∷ []) zero h = refl
-by_pairs (w ∷ []) (suc n) h = absurd (omega arith)
-by_pairs (w ∷ v ∷ list) zero h = absurd (omega arith)
-by_pairs (w ∷ v ∷ list) (suc n) h = ap (λ ws. window_of w v ∷ ws) (by_pairs list n (omega arith))
-
-pub pairs_are : (list : List ℕ) (ps : List (List ℕ)) → ps ≡ first_chunks 2 (length list / 2) list → map window_in ps ≡ windows_of list
-pairs_are list ps h = ap (map window_in) h ∙ by_pairs list (length list / 2) refl
+pub windows_are : (list : List ℕ) (ps : List (List ℕ)) → ps ≡ first_chunks 2 (length list / 2) list → map window_in ps ≡ windows_of list
+windows_are = pairs_are window_in windows_of refl (λ w. refl) (λ w v list. refl)
 
 right_pairs : (list : List ℕ) (n : ℕ) → n ≡ length list / 2 → right_windows list ≡ (eqb (length list % 2) 0 && all_right (first_chunks 2 n list))
 right_pairs [] zero h = refl

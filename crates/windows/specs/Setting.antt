@@ -1,5 +1,6 @@
 -- What the loops do: every field of a table becomes a function of its fact and of what it was.
 use Rattle.std.specs.Prelude.{◌≡◌, Bool, true, cond, ◌&&◌, List, [], ◌∷◌, ◌++◌, ℕ, suc, ◌^◌, eqb, leb, drop, get_or, Option, Some, None}
+use Rattle.std.specs.List.{list_all}
 use Rattle.model.specs.Fields.{bits}
 use Rattle.model.specs.Writing.{presence_field}
 use Rattle.model.specs.Facts.{fact_bits, table_bytes}
@@ -27,8 +28,7 @@ abbrev pub right_in : List ℕ → Bool
 right_in ws = right_window (get_or ws 0 0) (get_or ws 1 0)
 
 abbrev pub all_right : List (List ℕ) → Bool
-all_right [] = true
-all_right (ws ∷ rest) = right_in ws && all_right rest
+all_right = list_all right_in
 
 abbrev pub between : ℕ → ℕ → ℕ → Bool
 between first last age = leb first age && leb age last

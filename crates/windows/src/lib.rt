@@ -1,15 +1,16 @@
 // Retention windows: the facts that a list names, set in a table by the age of a reading.
 #![tactic(auto)]
 
-ghost use Rattle.std.specs.Prelude.{◌≡◌, ◌/◌, ◌≤◌, ◌<◌, length, map, set};
+ghost use Rattle.std.specs.Prelude.{◌≡◌, Bool, ◌/◌, ◌≤◌, ◌<◌, length, map, set};
 ghost use Rattle.std.proofs.Math.Option.{none};
 ghost use Rattle.model.specs.Fields.{split};
 ghost use Rattle.model.specs.Facts.{table_bytes, table_fields};
-ghost use Rattle.model.specs.Windows.{verdict, bad_list, windows_fault, apply_windows};
+ghost use Rattle.model.specs.Windows.{Window as Meant, verdict, bad_list, windows_fault, apply_windows};
 ghost use Rattle.facts.specs.Answers.{presence_of, presence_number};
 ghost use Rattle.answer.specs.Answers.{Answered};
 ghost use Rattle.refusal.specs.Numbers.{refused};
 ghost use Rattle.calendar.specs.Answers.{date_of};
+ghost use Rattle.windows.specs.declared.Window.{Window as Listed};
 ghost use Rattle.windows.specs.Setting.{number_of, Reads, window_in, window_meant, right_in, all_right, held_by, held_as, fields_by, set_where, marked, Windowed};
 
 use answer::Answer;
@@ -31,6 +32,7 @@ const FIRST_AGE: u32 = 65536;
 const LIST_WORDS: usize = 64;
 
 // A window of the list: while an age of its unit lies between two ages, both included, its fact is Present if it is open, Absent if it is closed.
+// Verdict and unit are one bit of the word each, and flags as in the model's `Window`.
 #[derive(Clone, Copy)]
 struct Window {
     opens: bool,
@@ -103,12 +105,7 @@ fn is_right(words: [u32; 2]) -> bool
 fn all_right(windows: &[[u32; 2]]) -> bool
     ensures { result ≡ all_right windows.now }
 {
-    for words in windows {
-        if !is_right(*words) {
-            return false;
-        }
-    }
-    true
+    windows.iter().all(|words| is_right(*words))
 }
 
 // Whether a list is turned back.
@@ -147,15 +144,25 @@ fn set_field(out: &mut [u8], fact: u32, value: Presence)
     out[at] = with_field(out[at], fact % 4, value as u8);
 }
 
+// Sets every fact of which some window is such a one to a value.
+fn set_each<F: Fn(Window) -> bool>(windows: &[[u32; 2]], value: Presence, such: F, out: &mut [u8])
+    requires { ((w : Listed) → F.pre such w) × (table_bytes ≤ length out.old) }
+    ensures { (f : Meant → Bool) → ((w : Listed) (r : Bool) → F.post such w r → r ≡ f (window_meant w)) → table_fields out.new ≡ fields_by (set_where f (presence_number value) (map window_in windows.now)) 0 (table_fields out.old) }
+{
+    for i in (0..windows.len()).rev() {
+        let window = Window::of(windows[i]);
+        if such(window) {
+            set_field(out, window.fact, value);
+        }
+    }
+}
+
 // Sets every fact that a window names to one value.
-// One loop for this and `decide`, lent its test as a closure, would need that test as a ghost argument too, which is longer than this loop.
 fn mark(windows: &[[u32; 2]], value: Presence, out: &mut [u8])
     requires { table_bytes ≤ length out.old }
     ensures { table_fields out.new ≡ fields_by (marked (presence_number value) (map window_in windows.now)) 0 (table_fields out.old) }
 {
-    for i in (0..windows.len()).rev() {
-        set_field(out, Window::of(windows[i]).fact, value);
-    }
+    set_each(windows, value, |_| true, out);
 }
 
 // Sets every fact of which some window says a value to this value.
@@ -163,15 +170,11 @@ fn decide(windows: &[[u32; 2]], value: Presence, age: Ages, out: &mut [u8])
     requires { table_bytes ≤ length out.old }
     ensures { table_fields out.new ≡ fields_by (set_where (held_as (presence_number value) age.days age.years) (presence_number value) (map window_in windows.now)) 0 (table_fields out.old) }
 {
-    for i in (0..windows.len()).rev() {
-        let window = Window::of(windows[i]);
-        if window.says(value, age) {
-            set_field(out, window.fact, value);
-        }
-    }
+    set_each(windows, value, |window| window.says(value, age), out);
 }
 
-// Why a call is turned back: for a date, the list or the table.
+// Why a call is turned back: for a date, the list or the table. This and `write` take one by one what `apply_windows` is given: a struct would be made for
+// these two calls alone.
 fn check(list: &[u32], reading: Date, today: Date, facts: &[u8]) -> Result<(), Refusal>
     ensures { refused result ≡ windows_fault list.now (date_of reading) (date_of today) facts.now }
 {

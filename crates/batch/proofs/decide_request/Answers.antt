@@ -1,10 +1,10 @@
 -- `batch::decide_request` meets its contract. Assumes nothing.
-use mathlib.Core.Path.{◌≡◌, sym, ◌∙◌, ap}
+use mathlib.Core.Path.{◌≡◌, ◌∙◌, ap}
 use mathlib.Core.Bool.{true}
 use mathlib.Core.Option.{some}
 use Prim.Native.Nat.{◌%◌}
 use borrow.Author.Tests.{eq-eqb}
-use lib.ListN.{length, take, drop, get_or}
+use lib.ListN.{length, take, get_or}
 use Rattle.model.specs.Levels.{outcomes_of}
 use Rattle.model.specs.Batch.{table_words, table_in, request_of, decide_by}
 use Rattle.outcome.specs.Carried.{carried}

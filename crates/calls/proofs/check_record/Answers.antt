@@ -9,7 +9,6 @@ use Rattle.model.specs.Outcome.{below}
 use Rattle.model.specs.Reading.{Parsed, refuse, got, sheet_number, read_record}
 use Rattle.model.specs.Calls.{has_number}
 use Rattle.model.specs.Products.{Outcome}
-use Rattle.outcome.specs.Carried.{carried}
 use Rattle.policy_model.specs.Answers.{Lead, lead_of}
 use Rattle.policy_model.proofs.Checking.{lead_passed_on}
 use Rattle.calls.specs.Judged.{read_record_by, of_number}
@@ -27,20 +26,23 @@ unfolding lead_of
 other_number right l (refuse m) o e = cc
 other_number right l (got x vs) o e = rw o refl
 
-pub returns-in_err-head-clause-read : goal.returns-in_err-head-clause-read
-returns-in_err-head-clause-read c =
+pub returns-in_err-head : goal.returns-in_err-head
+returns-in_err-head c =
     let args = c.args in
+    λ g e.
     lead_passed_on _ _ c.from_residual.ensures.1
-    ∙ refused_words _ (has_number args.words.now args.number) (read_record_by (carried args.outcomes) args.words.now) (c.in_err-head.ensures ∙ ap (λ m. lead_of (read_record (below m) args.words.now)) c.most.ensures.counts)
+    ∙ refused_words _ (has_number args.words.now args.number) (read_record_by g args.words.now) (c.in_err-head.ensures ∙ ap (λ m. lead_of (read_record (below m) args.words.now)) e)
 
-pub returns-then-sheet_number-number-clause-read : goal.returns-then-sheet_number-number-clause-read
-returns-then-sheet_number-number-clause-read c =
+pub returns-then-sheet_number-number : goal.returns-then-sheet_number-number
+returns-then-sheet_number-number c =
     let args = c.args in
-    c.in_ok-head.ensures ∙ ap (λ m. lead_of (read_record (below m) args.words.now)) c.most.ensures.counts
-    ∙ ap lead_of (right_number (has_number args.words.now args.number) (read_record_by (carried args.outcomes) args.words.now) (eq-eqb (sheet_number args.words.now) args.number (sym c.sheet_number.ensures ∙ c.if-sheet_number-number.true)))
+    λ g e.
+    c.in_ok-head.ensures ∙ ap (λ m. lead_of (read_record (below m) args.words.now)) e
+    ∙ ap lead_of (right_number (has_number args.words.now args.number) (read_record_by g args.words.now) (eq-eqb (sheet_number args.words.now) args.number (sym c.sheet_number.ensures ∙ c.if-sheet_number-number.true)))
 
-pub returns-else-sheet_number-number-clause-read : goal.returns-else-sheet_number-number-clause-read
-returns-else-sheet_number-number-clause-read c =
+pub returns-else-sheet_number-number : goal.returns-else-sheet_number-number
+returns-else-sheet_number-number c =
     let args = c.args in
-    other_number (has_number args.words.now args.number) _ (read_record_by (carried args.outcomes) args.words.now) (ne_eqb (sheet_number args.words.now) args.number (λ e. c.if-sheet_number-number.false (c.sheet_number.ensures ∙ e)))
-    (c.in_ok-head.ensures ∙ ap (λ m. lead_of (read_record (below m) args.words.now)) c.most.ensures.counts)
+    λ g e.
+    other_number (has_number args.words.now args.number) _ (read_record_by g args.words.now) (ne_eqb (sheet_number args.words.now) args.number (λ e. c.if-sheet_number-number.false (c.sheet_number.ensures ∙ e)))
+    (c.in_ok-head.ensures ∙ ap (λ m. lead_of (read_record (below m) args.words.now)) e)

@@ -10,9 +10,9 @@ use Rattle.calls.proofs.narrow_residual_by_levels.Goals as goal
 pub returns-in_err-table : goal.returns-in_err-table
 returns-in_err-table c =
     let args = c.args in
-    passed_on _ _ c.from_residual.ensures.1 (table_refused (λ L. model.narrow_residual L (order_of args.in_order) args.number args.words.now args.facts.now (length args.out.now)) (table args.levels args.outcomes.now) c.in_err-table.ensures)
+    passed_on _ _ c.from_residual.ensures.1 (table_refused (λ L. model.narrow_residual L (order_of args.order) args.number args.words.now args.facts.now (length args.out.now)) (table args.levels args.outcomes.now) c.in_err-table.ensures)
 
 pub returns : goal.returns
 returns c =
     let args = c.args in
-    with_table (λ L. model.narrow_residual L (order_of args.in_order) args.number args.words.now args.facts.now (length args.out.now)) (table args.levels args.outcomes.now) c.in_ok-table.ensures c.narrow_residual_by.ensures
+    with_table (λ L. model.narrow_residual L (order_of args.order) args.number args.words.now args.facts.now (length args.out.now)) (table args.levels args.outcomes.now) c.in_ok-table.ensures c.narrow_residual_by.ensures

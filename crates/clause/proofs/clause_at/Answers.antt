@@ -1,11 +1,7 @@
 -- `clause::clause_at` meets its contract: each node by its head. Assumes nothing.
 use mathlib.Core.Path.{sym, ◌∙◌}
-use Rattle.clause.proofs.Nodes.{clause_past, clause_other, clause_grant, clause_permit, clause_deny}
-use borrow.Enum.Refused.{opened}
+use Rattle.clause.proofs.Nodes.{clause_grant, clause_permit, clause_deny}
 use Rattle.clause.proofs.clause_at.Goals as goal
-
-pub returns-then-words-at : goal.returns-then-words-at
-returns-then-words-at c = clause_past _ _ _ c.if-words-at.true c.clause_of.ensures
 
 pub returns-in-Grant : goal.returns-in-Grant
 returns-in-Grant c =
@@ -17,8 +13,4 @@ returns-in-PermitWithTrace c =
 
 pub returns-in-DenyWithTrace : goal.returns-in-DenyWithTrace
 returns-in-DenyWithTrace c =
-    clause_deny _ _ _ c.if-words-at.false _ _ _ _ _ (sym c.in-DenyWithTrace.is ∙ c.policy_head.ensures) c.word_at-marks.ensures c.then_some.ensures c.clause_of-in-DenyWithTrace.ensures
-
-pub returns-in_default : goal.returns-in_default
-returns-in_default c =
-    clause_other _ _ _ c.if-words-at.false _ c.policy_head.ensures (opened c.in_default.in_default-own.keys4) c.clause_of-in_default.ensures
+    clause_deny _ _ _ c.if-words-at.false _ _ _ (sym c.in-DenyWithTrace.is ∙ c.policy_head.ensures) c.word_at-marks.ensures c.clause_of-in-DenyWithTrace.ensures

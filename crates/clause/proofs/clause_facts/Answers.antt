@@ -1,12 +1,8 @@
 -- `clause::clause_facts` meets its contract: each node by its head. Assumes nothing.
 use mathlib.Core.Path.{refl, sym, ◌∙◌, ap}
 use Prim.Native.Nat.{◌+◌, ◌%◌}
-use Rattle.clause.proofs.Nodes.{facts_past, facts_none, facts_grant, facts_permit, facts_deny}
-use borrow.Enum.Refused.{opened}
+use Rattle.clause.proofs.Nodes.{facts_none, facts_grant, facts_permit, facts_deny}
 use Rattle.clause.proofs.clause_facts.Goals as goal
-
-pub returns-then-words-at : goal.returns-then-words-at
-returns-then-words-at c = facts_past _ _ _ _ c.if-words-at.true
 
 pub returns-in-Grant : goal.returns-in-Grant
 returns-in-Grant c =
@@ -18,8 +14,8 @@ returns-in-PermitWithTrace c =
 
 pub returns-in-DenyWithTrace : goal.returns-in-DenyWithTrace
 returns-in-DenyWithTrace c =
-    facts_deny _ _ _ _ _ _ _ _ _ _ c.if-words-at.false (sym c.in-DenyWithTrace.is ∙ c.policy_head.ensures) refl c.word_at.ensures c.load_facts-in-DenyWithTrace.ensures
+    facts_deny _ _ _ _ _ _ _ _ _ c.if-words-at.false (sym c.in-DenyWithTrace.is ∙ c.policy_head.ensures) refl c.word_at.ensures c.load_facts-in-DenyWithTrace.ensures
 
 pub returns-in_default : goal.returns-in_default
 returns-in_default c =
-    facts_none _ _ _ _ _ c.if-words-at.false c.policy_head.ensures (opened c.in_default.in_default-own.keys4)
+    facts_none _ _ _ _ _ c.if-words-at.false c.policy_head.ensures (record { no_grant = c.in_default.not-Grant; no_permit = c.in_default.not-PermitWithTrace; no_deny = c.in_default.not-DenyWithTrace })

@@ -5,9 +5,9 @@ use Rattle.clause.proofs.write_decision.Goals as goal
 pub returns-then-decision : goal.returns-then-decision
 returns-then-decision c =
     let written = c.write_permit_with_trace.ensures in
-    permit_written _ _ _ _ _ _ _ c.clause_at-clause.ensures _ _ _ c.if-decision.true c.requires.1 c.requires.2 written.0 written.1
+    permit_written _ _ _ _ _ c.clause_at-clause.ensures _ _ _ c.if-decision.true written.0 written.1
 
-pub returns : goal.returns
-returns c =
+pub returns-else-decision : goal.returns-else-decision
+returns-else-decision c =
     let written = c.write_deny_with_trace.ensures in
-    deny_written _ _ _ _ _ _ _ c.clause_at-clause.ensures _ _ _ c.if-decision.false c.requires.2 written.0 written.1
+    deny_written _ _ _ _ _ c.clause_at-clause.ensures _ _ _ c.if-decision.false written.0 written.1

@@ -8,7 +8,7 @@ returns-then-words-i c = load_cut _ _ _ _ _ c.loop-i-test.true c.if-words-i.true
 
 pub loop-i-preserved : goal.loop-i-preserved
 loop-i-preserved c =
-    load_more _ _ _ _ _ _ _ _ _ c.loop-i-test.true c.loop-i.invariant c.unpack_entry-field.ensures refl c.entry_presence.ensures.seen c.record.ensures
+    load_more _ _ _ _ _ _ _ _ _ c.loop-i-test.true c.loop-i.invariant c.unpack_entry-field.ensures refl c.entry_presence.ensures.seen c.consult.ensures
 
 pub returns : goal.returns
 returns c = load_all _ _ _ _ _ c.loop-i-test.false c.loop-i.invariant

@@ -1,16 +1,12 @@
 -- `contradiction::contradicted` meets its contract. The loop's invariant: none of the first i entries is contradicted. Assumes nothing.
-use mathlib.Core.Path.{sym, ◌∙◌}
 use native.Mathlib.Omega.{arith}
-use Rattle.contradiction.proofs.Contradicting.{seen_more, found, words_end}
+use Rattle.contradiction.proofs.Contradicting.{seen_more, found}
 use Rattle.contradiction.proofs.contradicted.Goals as goal
-
-pub returns-then-words-i : goal.returns-then-words-i
-returns-then-words-i c = words_end _ _ _ _ (omega (arith, c.loop-i-test.true)) c.if-words-i.true
 
 pub returns-then-contradicts : goal.returns-then-contradicts
 returns-then-contradicts c =
-    found _ _ _ _ _ (omega (arith, c.loop-i-test.true)) _ _ c.loop-i.invariant c.unpack_entry-field.ensures c.entry_presence.ensures.seen c.of-later.ensures.seen (sym c.contradicts.ensures ∙ c.if-contradicts.true)
+    found _ _ _ _ _ (omega (arith, c.loop-i-test.true)) _ _ c.loop-i.invariant c.unpack_entry-field.ensures c.entry_presence.ensures.seen c.of-later.ensures.seen c.contradicts.ensures c.if-contradicts.true
 
 pub loop-i-preserved : goal.loop-i-preserved
 loop-i-preserved c =
-    seen_more _ _ _ _ _ (omega (arith, c.loop-i-test.true)) _ _ c.loop-i.invariant c.unpack_entry-field.ensures c.entry_presence.ensures.seen c.of-later.ensures.seen (sym c.contradicts.ensures ∙ c.if-contradicts.false)
+    seen_more _ _ _ _ _ (omega (arith, c.loop-i-test.true)) _ _ c.loop-i.invariant c.unpack_entry-field.ensures c.entry_presence.ensures.seen c.of-later.ensures.seen c.contradicts.ensures c.if-contradicts.false

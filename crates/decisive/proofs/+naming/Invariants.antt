@@ -15,4 +15,4 @@ decreases-decisive_facts l = l.depth * 3
 
 -- what answers for the arms that are left answers for them all
 abbrev pub invariant-decisive_arms-loop-left : goal.invariant-decisive_arms-loop-left
-invariant-decisive_arms-loop-left l = Passing (table_of l.facts) l.stop l.words l.depth l.at l.arms l.initial.out l.out l.next l.left l.count
+invariant-decisive_arms-loop-left l = Passing (table_of l.walk.facts.now) l.stop l.walk.words.now l.depth l.at l.arms l.initial.out l.out l.next l.left l.count

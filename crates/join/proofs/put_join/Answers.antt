@@ -2,15 +2,10 @@
 use Rattle.std.proofs.Common.{refl, length, take, arith}
 use Rattle.model.specs.Join.{joined_bytes}
 use Rattle.packing.specs.WrittenLaws.{written_same}
-use Rattle.answer.proofs.Writing.{copy_no_room, copy_written}
+use Rattle.answer.proofs.Writing.{copy_written}
 use Rattle.join.specs.JoiningLaws.{length_joined, result_parts}
 use Rattle.join.proofs.Filling.{then_filled}
 use Rattle.join.proofs.put_join.Goals as goal
-
-pub returns-then-out-longer : goal.returns-then-out-longer
-returns-then-out-longer c =
-    let long = length_joined c.args.longer.now c.args.shorter.now c.requires.0.shorter_is in
-    copy_no_room (joined_bytes c.args.longer.now c.args.shorter.now) c.args.out.now (omega arith)
 
 pub returns : goal.returns
 returns c =

@@ -5,17 +5,8 @@ use lib.ListN.{length}
 use lib.Seq.{get_or-take}
 use Rattle.model.specs.Join.{joined_bytes}
 use Rattle.packing.specs.WrittenLaws.{sofar_more}
-use Rattle.join.specs.JoiningLaws.{agree_at, clean_at, joined_at, part_long}
+use Rattle.join.specs.JoiningLaws.{joined_at, part_long}
 use Rattle.join.proofs.write_joined.Goals as goal
-
-pub join_byte-requires : goal.join_byte-requires
-join_byte-requires c =
-    let i = c.loop-i.i in
-    let tables = c.requires.0 in (
-      clean_at i c.args.longer.now tables.longer_clean,
-      clean_at i c.args.shorter.now tables.shorter_clean,
-      agree_at i c.args.longer.now c.args.shorter.now (omega arith) tables.shorter_is c.requires.1,
-    )
 
 pub loop-i-preserved : goal.loop-i-preserved
 loop-i-preserved c =

@@ -16,7 +16,7 @@ put_named-requires c =
     let args = c.args in (
       omega arith,
       simp (length-take, length-drop)
-          (omega (arith, length_named (text "\nshape -\nobligations ") Obligations args.words.now (args.at + 2) c.obligations_of-obligations.result)),
+          (omega (arith, length_named (text "\nshape -\nobligations ") Obligations args.words.now (args.at + 2) c.obligations_of-held.result)),
     )
 
 pub returns : goal.returns
@@ -24,7 +24,10 @@ unfolding permit_lists
 returns c =
     let args = c.args in
     wrote_as
-    (ap₂ (λ n v. list_lines (fields_text Obligations args.words.now (args.at + 2) n) (fields_text Facts args.words.now (args.at + 2 + words_for 4 n) (v % 4096)))
-    (c.obligations_of-obligations.ensures ∙ ap obligations_in c.word_at.ensures)
+    (ap
+    (λ k. list_lines (fields_text Obligations args.words.now (args.at + 2) c.obligations_of-held.result) (fields_text Facts args.words.now (args.at + 2 + k) (c.word_at-2.result % 4096)))
+    c.obligation_words.ensures
+    ∙ ap₂ (λ n v. list_lines (fields_text Obligations args.words.now (args.at + 2) n) (fields_text Facts args.words.now (args.at + 2 + words_for 4 n) (v % 4096)))
+    (c.obligations_of-held.ensures ∙ ap obligations_in c.word_at.ensures)
     c.word_at-2.ensures)
     (wrote_then c.put_named-n.ensures c.put_named.ensures)

@@ -1,193 +1,50 @@
 -- `pack::put_deny_trace` meets its contract: one field after the other. Assumes nothing.
-use mathlib.Core.Path.{sym, ap, subst}
-use mathlib.Core.List.{◌++◌}
-use Prim.Native.Nat.{◌+◌, ◌/◌, ◌%◌}
-use native.Mathlib.Omega.{arith}
-use lib.ListN.{drop, get_or}
+use Rattle.std.proofs.Common.{◌≡◌, refl, List, [], ◌∷◌, ◌++◌, ℕ, ◌+◌, ◌/◌, ◌%◌, sym, arith, drop, get_or}
 use Rattle.bits.specs.Splice.{low}
-use Rattle.bits.specs.SpliceLaws.{then_spliced, same_spliced}
-use Rattle.pack.specs.Room.{Room, room_low, room_low_as, room_first, room_next, room_here}
 use Rattle.bits.specs.Widths.{denied_width}
 use Rattle.bits.specs.WidthLaws.{denied_few}
 use Rattle.pack.specs.Flat.{list_run, entry_in, mark_run, deny_run}
+use Rattle.pack.specs.Room.{Room}
+use Rattle.pack.proofs.Putting.{Parts, parted, next, last, room_part, room_field}
 use Rattle.pack.proofs.put_deny_trace.Goals as goal
 
-pub put_bits-a-requires : goal.put_bits-a-requires
-put_bits-a-requires c =
-    let ws = c.args.words.now in
-    let at = c.args.at in
+-- By its second and third word and the width of its outcome, as the code has them.
+fields : (ws : List ℕ) (at : ℕ) {v t d to : ℕ} {out : List ℕ} → v ≡ get_or ws (at + 1) 0 → t ≡ get_or ws (at + 2) 0 → d ≡ denied_width (get_or ws at 0) →
+    Room to (deny_run (get_or ws at 0) (get_or ws (at + 1) 0) (get_or ws (at + 2) 0) (drop (at + 3) ws)) out →
+    Parts (deny_run (get_or ws at 0) (get_or ws (at + 1) 0) (get_or ws (at + 2) 0) (drop (at + 3) ws)) out to
+    (low 6 (get_or ws at 0 / 67108864) ∷ low d (get_or ws at 0) ∷ mark_run (v / 65536) ∷ mark_run (v % 65536) ∷ low 12 t ∷ list_run (entry_in (drop (at + 3) ws)) 10 (t % 4096) ∷ []) out to
+fields ws at e f g r =
     let w = get_or ws at 0 in
-    let os = drop (at + 2) ws in
-    let second = c.word_at-second in
-    let v = second.result in
-    let third = c.word_at-third in
-    let t = third.result in
-    let fs = drop (at + 3) ws in
-    let t5 = list_run (entry_in fs) 10 (t % 4096) in
-    let t4 = low 12 t ++ t5 in
-    let t3 = mark_run (v % 65536) ++ t4 in
-    let t2 = mark_run (v / 65536) ++ t3 in
-    let t1 = low (denied_width w) w ++ t2 in
-    let r0 = subst (λ x. Room c.args.to (deny_run w v x fs) c.args.out.now) (sym third.ensures) (subst (λ x. Room c.args.to (deny_run w x (get_or ws (at + 2) 0) fs) c.args.out.now) (sym second.ensures) c.requires.2) in
-    room_low 6 (w / 67108864) _ t1 _ (omega arith) r0
+    parted _ (λ i. low 6 (w / 67108864) ++ (low (sym g i) w ++ (mark_run (sym e i / 65536) ++ (mark_run (sym e i % 65536) ++ (low 12 (sym f i) ++ list_run (entry_in (drop (at + 3) ws)) 10 (sym f i % 4096)))))) r
+
+pub put_bits-a-requires : goal.put_bits-a-requires
+put_bits-a-requires c = room_field 6 _ (fields c.args.words.now c.args.at c.word_at-second.ensures c.word_at-third.ensures refl c.requires.2) (omega arith)
 
 pub put_bits-b-requires : goal.put_bits-b-requires
 put_bits-b-requires c =
-    let ws = c.args.words.now in
-    let at = c.args.at in
-    let w = get_or ws at 0 in
-    let os = drop (at + 2) ws in
-    let second = c.word_at-second in
-    let v = second.result in
-    let third = c.word_at-third in
-    let t = third.result in
-    let fs = drop (at + 3) ws in
-    let den = c.denied_bits.ensures in
-    let t5 = list_run (entry_in fs) 10 (t % 4096) in
-    let t4 = low 12 t ++ t5 in
-    let t3 = mark_run (v % 65536) ++ t4 in
-    let t2 = mark_run (v / 65536) ++ t3 in
-    let t1 = low (denied_width w) w ++ t2 in
-    let r0 = subst (λ x. Room c.args.to (deny_run w v x fs) c.args.out.now) (sym third.ensures) (subst (λ x. Room c.args.to (deny_run w x (get_or ws (at + 2) 0) fs) c.args.out.now) (sym second.ensures) c.requires.2) in
-    let s0 = c.put_bits-a.ensures in
-    let r1 = room_next s0 t1 r0 in
-    room_low_as (denied_width w) _ w _ t2 _ den (omega (arith, denied_few w)) r1
+    room_field _ _ (next (fields c.args.words.now c.args.at c.word_at-second.ensures c.word_at-third.ensures c.denied_bits.ensures c.requires.2) c.put_bits-a.ensures) (omega (arith, c.denied_bits.ensures, denied_few (get_or c.args.words.now c.args.at 0)))
 
 pub put_mark-c-requires : goal.put_mark-c-requires
-put_mark-c-requires c =
-    let ws = c.args.words.now in
-    let at = c.args.at in
-    let w = get_or ws at 0 in
-    let os = drop (at + 2) ws in
-    let second = c.word_at-second in
-    let v = second.result in
-    let third = c.word_at-third in
-    let t = third.result in
-    let fs = drop (at + 3) ws in
-    let den = c.denied_bits.ensures in
-    let t5 = list_run (entry_in fs) 10 (t % 4096) in
-    let t4 = low 12 t ++ t5 in
-    let t3 = mark_run (v % 65536) ++ t4 in
-    let t2 = mark_run (v / 65536) ++ t3 in
-    let t1 = low (denied_width w) w ++ t2 in
-    let r0 = subst (λ x. Room c.args.to (deny_run w v x fs) c.args.out.now) (sym third.ensures) (subst (λ x. Room c.args.to (deny_run w x (get_or ws (at + 2) 0) fs) c.args.out.now) (sym second.ensures) c.requires.2) in
-    let s0 = c.put_bits-a.ensures in
-    let r1 = room_next s0 t1 r0 in
-    let s1 = same_spliced (ap (λ n. low n w) den) c.put_bits-b.ensures in
-    let r2 = room_next s1 t2 r1 in
-    room_first _ (mark_run (v / 65536)) t3 _ r2
+put_mark-c-requires c = room_part (next (next (fields c.args.words.now c.args.at c.word_at-second.ensures c.word_at-third.ensures c.denied_bits.ensures c.requires.2) c.put_bits-a.ensures) c.put_bits-b.ensures)
 
 pub put_mark-d-requires : goal.put_mark-d-requires
 put_mark-d-requires c =
-    let ws = c.args.words.now in
-    let at = c.args.at in
-    let w = get_or ws at 0 in
-    let os = drop (at + 2) ws in
-    let second = c.word_at-second in
-    let v = second.result in
-    let third = c.word_at-third in
-    let t = third.result in
-    let fs = drop (at + 3) ws in
-    let den = c.denied_bits.ensures in
-    let t5 = list_run (entry_in fs) 10 (t % 4096) in
-    let t4 = low 12 t ++ t5 in
-    let t3 = mark_run (v % 65536) ++ t4 in
-    let t2 = mark_run (v / 65536) ++ t3 in
-    let t1 = low (denied_width w) w ++ t2 in
-    let r0 = subst (λ x. Room c.args.to (deny_run w v x fs) c.args.out.now) (sym third.ensures) (subst (λ x. Room c.args.to (deny_run w x (get_or ws (at + 2) 0) fs) c.args.out.now) (sym second.ensures) c.requires.2) in
-    let s0 = c.put_bits-a.ensures in
-    let r1 = room_next s0 t1 r0 in
-    let s1 = same_spliced (ap (λ n. low n w) den) c.put_bits-b.ensures in
-    let r2 = room_next s1 t2 r1 in
-    let s2 = c.put_mark-c.ensures in
-    let r3 = room_next s2 t3 r2 in
-    room_first _ (mark_run (v % 65536)) t4 _ r3
+    room_part (next (next (next (fields c.args.words.now c.args.at c.word_at-second.ensures c.word_at-third.ensures c.denied_bits.ensures c.requires.2) c.put_bits-a.ensures) c.put_bits-b.ensures) c.put_mark-c.ensures)
 
 pub put_bits-e-requires : goal.put_bits-e-requires
 put_bits-e-requires c =
-    let ws = c.args.words.now in
-    let at = c.args.at in
-    let w = get_or ws at 0 in
-    let os = drop (at + 2) ws in
-    let second = c.word_at-second in
-    let v = second.result in
-    let third = c.word_at-third in
-    let t = third.result in
-    let fs = drop (at + 3) ws in
-    let den = c.denied_bits.ensures in
-    let t5 = list_run (entry_in fs) 10 (t % 4096) in
-    let t4 = low 12 t ++ t5 in
-    let t3 = mark_run (v % 65536) ++ t4 in
-    let t2 = mark_run (v / 65536) ++ t3 in
-    let t1 = low (denied_width w) w ++ t2 in
-    let r0 = subst (λ x. Room c.args.to (deny_run w v x fs) c.args.out.now) (sym third.ensures) (subst (λ x. Room c.args.to (deny_run w x (get_or ws (at + 2) 0) fs) c.args.out.now) (sym second.ensures) c.requires.2) in
-    let s0 = c.put_bits-a.ensures in
-    let r1 = room_next s0 t1 r0 in
-    let s1 = same_spliced (ap (λ n. low n w) den) c.put_bits-b.ensures in
-    let r2 = room_next s1 t2 r1 in
-    let s2 = c.put_mark-c.ensures in
-    let r3 = room_next s2 t3 r2 in
-    let s3 = c.put_mark-d.ensures in
-    let r4 = room_next s3 t4 r3 in
-    room_low 12 t _ t5 _ (omega arith) r4
+    let p = fields c.args.words.now c.args.at c.word_at-second.ensures c.word_at-third.ensures c.denied_bits.ensures c.requires.2 in
+    room_field 12 _ (next (next (next (next p c.put_bits-a.ensures) c.put_bits-b.ensures) c.put_mark-c.ensures) c.put_mark-d.ensures) (omega arith)
 
 pub put_entries-requires : goal.put_entries-requires
 put_entries-requires c =
-    let ws = c.args.words.now in
-    let at = c.args.at in
-    let w = get_or ws at 0 in
-    let os = drop (at + 2) ws in
-    let second = c.word_at-second in
-    let v = second.result in
-    let third = c.word_at-third in
-    let t = third.result in
-    let fs = drop (at + 3) ws in
-    let den = c.denied_bits.ensures in
-    let t5 = list_run (entry_in fs) 10 (t % 4096) in
-    let t4 = low 12 t ++ t5 in
-    let t3 = mark_run (v % 65536) ++ t4 in
-    let t2 = mark_run (v / 65536) ++ t3 in
-    let t1 = low (denied_width w) w ++ t2 in
-    let r0 = subst (λ x. Room c.args.to (deny_run w v x fs) c.args.out.now) (sym third.ensures) (subst (λ x. Room c.args.to (deny_run w x (get_or ws (at + 2) 0) fs) c.args.out.now) (sym second.ensures) c.requires.2) in
-    let s0 = c.put_bits-a.ensures in
-    let r1 = room_next s0 t1 r0 in
-    let s1 = same_spliced (ap (λ n. low n w) den) c.put_bits-b.ensures in
-    let r2 = room_next s1 t2 r1 in
-    let s2 = c.put_mark-c.ensures in
-    let r3 = room_next s2 t3 r2 in
-    let s3 = c.put_mark-d.ensures in
-    let r4 = room_next s3 t4 r3 in
-    let s4 = c.put_bits-e.ensures in
-    let r5 = room_next s4 t5 r4 in
-    (omega (arith, c.requires.0, c.requires.1), omega arith, r5)
+    let p = fields c.args.words.now c.args.at c.word_at-second.ensures c.word_at-third.ensures c.denied_bits.ensures c.requires.2 in (
+      omega (arith, c.requires.0, c.requires.1),
+      omega arith,
+      room_part (next (next (next (next (next p c.put_bits-a.ensures) c.put_bits-b.ensures) c.put_mark-c.ensures) c.put_mark-d.ensures) c.put_bits-e.ensures),
+    )
 
 pub returns : goal.returns
 returns c =
-    let ws = c.args.words.now in
-    let at = c.args.at in
-    let w = get_or ws at 0 in
-    let os = drop (at + 2) ws in
-    let second = c.word_at-second in
-    let v = second.result in
-    let third = c.word_at-third in
-    let t = third.result in
-    let fs = drop (at + 3) ws in
-    let den = c.denied_bits.ensures in
-    let t5 = list_run (entry_in fs) 10 (t % 4096) in
-    let t4 = low 12 t ++ t5 in
-    let t3 = mark_run (v % 65536) ++ t4 in
-    let t2 = mark_run (v / 65536) ++ t3 in
-    let t1 = low (denied_width w) w ++ t2 in
-    let r0 = subst (λ x. Room c.args.to (deny_run w v x fs) c.args.out.now) (sym third.ensures) (subst (λ x. Room c.args.to (deny_run w x (get_or ws (at + 2) 0) fs) c.args.out.now) (sym second.ensures) c.requires.2) in
-    let s0 = c.put_bits-a.ensures in
-    let r1 = room_next s0 t1 r0 in
-    let s1 = same_spliced (ap (λ n. low n w) den) c.put_bits-b.ensures in
-    let r2 = room_next s1 t2 r1 in
-    let s2 = c.put_mark-c.ensures in
-    let r3 = room_next s2 t3 r2 in
-    let s3 = c.put_mark-d.ensures in
-    let r4 = room_next s3 t4 r3 in
-    let s4 = c.put_bits-e.ensures in
-    let r5 = room_next s4 t5 r4 in
-    let s5 = c.put_entries.ensures in
-    same_spliced (ap (λ x. deny_run w x (get_or ws (at + 2) 0) fs) second.ensures) (same_spliced (ap (λ x. deny_run w v x fs) third.ensures) (then_spliced s0 (then_spliced s1 (then_spliced s2 (then_spliced s3 (then_spliced s4 s5 (room_here r4)) (room_here r3)) (room_here r2)) (room_here r1)) (room_here r0)))
+    let p = fields c.args.words.now c.args.at c.word_at-second.ensures c.word_at-third.ensures c.denied_bits.ensures c.requires.2 in
+    last (next (next (next (next (next p c.put_bits-a.ensures) c.put_bits-b.ensures) c.put_mark-c.ensures) c.put_mark-d.ensures) c.put_bits-e.ensures) c.put_entries.ensures

@@ -1,132 +1,35 @@
 -- `pack::put_grant` meets its contract: one field after the other. Assumes nothing.
-use mathlib.Core.Path.{sym, ap, subst}
-use mathlib.Core.List.{◌++◌}
-use Prim.Native.Nat.{◌+◌, ◌/◌, ◌%◌}
-use native.Mathlib.Omega.{arith}
-use lib.ListN.{drop, get_or}
+use Rattle.std.proofs.Common.{◌≡◌, refl, List, [], ◌∷◌, ℕ, ◌+◌, ◌/◌, ◌%◌, ◌++◌, sym, arith, drop, get_or}
 use Rattle.bits.specs.Splice.{low}
-use Rattle.bits.specs.SpliceLaws.{then_spliced, same_spliced}
-use Rattle.pack.specs.Room.{Room, room_low, room_first, room_next, room_here, same_room}
 use Rattle.pack.specs.Flat.{list_run, obligation_in, owed_in, mark_run, grant_run}
+use Rattle.pack.specs.Room.{Room}
+use Rattle.pack.proofs.Putting.{Parts, parted, next, last, room_part, room_field}
 use Rattle.pack.proofs.put_grant.Goals as goal
 
-pub put_bits-a-requires : goal.put_bits-a-requires
-put_bits-a-requires c =
-    let ws = c.args.words.now in
-    let at = c.args.at in
+-- By its second word and its count of obligations, as the code has them.
+fields : (ws : List ℕ) (at : ℕ) {v n to : ℕ} {out : List ℕ} → v ≡ get_or ws (at + 1) 0 → n ≡ owed_in (get_or ws at 0) → Room to (grant_run (get_or ws at 0) (get_or ws (at + 1) 0) (drop (at + 2) ws)) out →
+    Parts (grant_run (get_or ws at 0) (get_or ws (at + 1) 0) (drop (at + 2) ws)) out to
+    (low 12 (get_or ws at 0 / 1048576) ∷ low 16 (get_or ws at 0) ∷ mark_run (v / 65536) ∷ mark_run (v % 65536) ∷ list_run (obligation_in (drop (at + 2) ws)) 6 n ∷ []) out to
+fields ws at e f r =
     let w = get_or ws at 0 in
-    let os = drop (at + 2) ws in
-    let second = c.word_at-second in
-    let v = second.result in
-    let t4 = list_run (obligation_in os) 6 (owed_in w) in
-    let t3 = mark_run (v % 65536) ++ t4 in
-    let t2 = mark_run (v / 65536) ++ t3 in
-    let t1 = low 16 w ++ t2 in
-    let r0 = subst (λ x. Room c.args.to (grant_run w x os) c.args.out.now) (sym second.ensures) c.requires.2 in
-    room_low 12 (w / 1048576) _ t1 _ (omega arith) r0
+    parted _ (λ i. low 12 (w / 1048576) ++ (low 16 w ++ (mark_run (sym e i / 65536) ++ (mark_run (sym e i % 65536) ++ list_run (obligation_in (drop (at + 2) ws)) 6 (sym f i))))) r
+
+pub put_bits-a-requires : goal.put_bits-a-requires
+put_bits-a-requires c = room_field 12 _ (fields c.args.words.now c.args.at c.word_at-second.ensures refl c.requires.2) (omega arith)
 
 pub put_bits-b-requires : goal.put_bits-b-requires
-put_bits-b-requires c =
-    let ws = c.args.words.now in
-    let at = c.args.at in
-    let w = get_or ws at 0 in
-    let os = drop (at + 2) ws in
-    let second = c.word_at-second in
-    let v = second.result in
-    let t4 = list_run (obligation_in os) 6 (owed_in w) in
-    let t3 = mark_run (v % 65536) ++ t4 in
-    let t2 = mark_run (v / 65536) ++ t3 in
-    let t1 = low 16 w ++ t2 in
-    let r0 = subst (λ x. Room c.args.to (grant_run w x os) c.args.out.now) (sym second.ensures) c.requires.2 in
-    let s0 = c.put_bits-a.ensures in
-    let r1 = room_next s0 t1 r0 in
-    room_low 16 w _ t2 _ (omega arith) r1
+put_bits-b-requires c = room_field 16 _ (next (fields c.args.words.now c.args.at c.word_at-second.ensures refl c.requires.2) c.put_bits-a.ensures) (omega arith)
 
 pub put_mark-c-requires : goal.put_mark-c-requires
-put_mark-c-requires c =
-    let ws = c.args.words.now in
-    let at = c.args.at in
-    let w = get_or ws at 0 in
-    let os = drop (at + 2) ws in
-    let second = c.word_at-second in
-    let v = second.result in
-    let t4 = list_run (obligation_in os) 6 (owed_in w) in
-    let t3 = mark_run (v % 65536) ++ t4 in
-    let t2 = mark_run (v / 65536) ++ t3 in
-    let t1 = low 16 w ++ t2 in
-    let r0 = subst (λ x. Room c.args.to (grant_run w x os) c.args.out.now) (sym second.ensures) c.requires.2 in
-    let s0 = c.put_bits-a.ensures in
-    let r1 = room_next s0 t1 r0 in
-    let s1 = c.put_bits-b.ensures in
-    let r2 = room_next s1 t2 r1 in
-    room_first _ (mark_run (v / 65536)) t3 _ r2
+put_mark-c-requires c = room_part (next (next (fields c.args.words.now c.args.at c.word_at-second.ensures refl c.requires.2) c.put_bits-a.ensures) c.put_bits-b.ensures)
 
 pub put_mark-d-requires : goal.put_mark-d-requires
-put_mark-d-requires c =
-    let ws = c.args.words.now in
-    let at = c.args.at in
-    let w = get_or ws at 0 in
-    let os = drop (at + 2) ws in
-    let second = c.word_at-second in
-    let v = second.result in
-    let t4 = list_run (obligation_in os) 6 (owed_in w) in
-    let t3 = mark_run (v % 65536) ++ t4 in
-    let t2 = mark_run (v / 65536) ++ t3 in
-    let t1 = low 16 w ++ t2 in
-    let r0 = subst (λ x. Room c.args.to (grant_run w x os) c.args.out.now) (sym second.ensures) c.requires.2 in
-    let s0 = c.put_bits-a.ensures in
-    let r1 = room_next s0 t1 r0 in
-    let s1 = c.put_bits-b.ensures in
-    let r2 = room_next s1 t2 r1 in
-    let s2 = c.put_mark-c.ensures in
-    let r3 = room_next s2 t3 r2 in
-    room_first _ (mark_run (v % 65536)) t4 _ r3
+put_mark-d-requires c = room_part (next (next (next (fields c.args.words.now c.args.at c.word_at-second.ensures refl c.requires.2) c.put_bits-a.ensures) c.put_bits-b.ensures) c.put_mark-c.ensures)
 
 pub put_obligations-requires : goal.put_obligations-requires
 put_obligations-requires c =
-    let ws = c.args.words.now in
-    let at = c.args.at in
-    let w = get_or ws at 0 in
-    let os = drop (at + 2) ws in
-    let second = c.word_at-second in
-    let v = second.result in
-    let owed = c.obligations_of.ensures in
-    let t4 = list_run (obligation_in os) 6 (owed_in w) in
-    let t3 = mark_run (v % 65536) ++ t4 in
-    let t2 = mark_run (v / 65536) ++ t3 in
-    let t1 = low 16 w ++ t2 in
-    let r0 = subst (λ x. Room c.args.to (grant_run w x os) c.args.out.now) (sym second.ensures) c.requires.2 in
-    let s0 = c.put_bits-a.ensures in
-    let r1 = room_next s0 t1 r0 in
-    let s1 = c.put_bits-b.ensures in
-    let r2 = room_next s1 t2 r1 in
-    let s2 = c.put_mark-c.ensures in
-    let r3 = room_next s2 t3 r2 in
-    let s3 = c.put_mark-d.ensures in
-    let r4 = room_next s3 t4 r3 in
-    (omega (arith, c.requires.0, c.requires.1), same_room (ap (list_run (obligation_in os) 6) (sym owed)) r4)
+    (omega (arith, c.requires.0, c.requires.1), room_part (next (next (next (next (fields c.args.words.now c.args.at c.word_at-second.ensures c.obligations_of.ensures c.requires.2) c.put_bits-a.ensures) c.put_bits-b.ensures) c.put_mark-c.ensures) c.put_mark-d.ensures))
 
 pub returns : goal.returns
 returns c =
-    let ws = c.args.words.now in
-    let at = c.args.at in
-    let w = get_or ws at 0 in
-    let os = drop (at + 2) ws in
-    let second = c.word_at-second in
-    let v = second.result in
-    let owed = c.obligations_of.ensures in
-    let t4 = list_run (obligation_in os) 6 (owed_in w) in
-    let t3 = mark_run (v % 65536) ++ t4 in
-    let t2 = mark_run (v / 65536) ++ t3 in
-    let t1 = low 16 w ++ t2 in
-    let r0 = subst (λ x. Room c.args.to (grant_run w x os) c.args.out.now) (sym second.ensures) c.requires.2 in
-    let s0 = c.put_bits-a.ensures in
-    let r1 = room_next s0 t1 r0 in
-    let s1 = c.put_bits-b.ensures in
-    let r2 = room_next s1 t2 r1 in
-    let s2 = c.put_mark-c.ensures in
-    let r3 = room_next s2 t3 r2 in
-    let s3 = c.put_mark-d.ensures in
-    let r4 = room_next s3 t4 r3 in
-    let s4 = same_spliced (ap (list_run (obligation_in os) 6) owed) c.put_obligations.ensures in
-    same_spliced (ap (λ x. grant_run w x os) second.ensures) (then_spliced s0 (then_spliced s1 (then_spliced s2 (then_spliced s3 s4 (room_here r3)) (room_here r2)) (room_here r1)) (room_here r0))
+    last (next (next (next (next (fields c.args.words.now c.args.at c.word_at-second.ensures c.obligations_of.ensures c.requires.2) c.put_bits-a.ensures) c.put_bits-b.ensures) c.put_mark-c.ensures) c.put_mark-d.ensures) c.put_obligations.ensures

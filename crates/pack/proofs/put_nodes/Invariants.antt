@@ -1,11 +1,10 @@
 -- `pack::put_nodes` meets its contract: one node more in each turn. Assumes nothing.
-use Prim.Native.Nat.{◌-◌}
-use lib.ListN.{length}
-use Rattle.pack.proofs.Putting.{Putting}
+use Rattle.std.proofs.Common.{◌-◌, length}
+use Rattle.pack.proofs.Putting.{Nodes}
 use Rattle.pack.proofs.put_nodes.Given as goal
 
 abbrev pub invariant-loop-at : goal.invariant-loop-at
-invariant-loop-at l = Putting l.words l.initial.out l.out l.from l.to l.at l.next
+invariant-loop-at l = Nodes l.words l.initial.out l.out l.from l.to l.at l.next
 
 abbrev pub decreases-loop-at : goal.decreases-loop-at
 decreases-loop-at l = length l.words - l.at

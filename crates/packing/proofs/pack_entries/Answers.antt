@@ -16,9 +16,6 @@ loop-j-preserved c =
     let long = packed_number entry_bits values in
     sofar_more _ _ _ j _ c.loop-j.invariant (omega arith) (omega arith) (c.entries_word.ensures ∙ entries_full values j (omega arith))
 
-pub returns-then-count-eq0 : goal.returns-then-count-eq0
-returns-then-count-eq0 c = (omega arith, sofar_all c.loop-j.invariant (packed_number entry_bits c.args.values.now ∙ omega arith) (omega arith))
-
 pub returns : goal.returns
 returns c =
     let values = c.args.values.now in

@@ -1,9 +1,8 @@
 -- `packing::pack_obligations` meets its contract: one word more in each turn. Assumes nothing.
-use mathlib.Core.Path.{refl}
 use native.Mathlib.Omega.{arith}
 use Rattle.model.specs.Writing.{obligation_bits}
 use Rattle.packing.specs.PackedLaws.{packed_number}
-use Rattle.packing.specs.WrittenLaws.{sofar_more, sofar_all}
+use Rattle.packing.specs.WrittenLaws.{sofar_more}
 use Rattle.packing.proofs.Parts.{obligations_word}
 use Rattle.packing.proofs.pack_obligations.Goals as goal
 
@@ -16,6 +15,3 @@ loop-j-preserved c =
     obligations_word values j (omega arith) c.obligation_or_zero.ensures c.obligation_or_zero-in-loop-j.ensures c.obligation_or_zero-in-loop-j-2.ensures
     c.obligation_or_zero-in-loop-j-3.ensures c.obligations_word.ensures in
     sofar_more _ _ _ j _ c.loop-j.invariant (omega arith) (omega arith) word
-
-pub returns : goal.returns
-returns c = (refl, sofar_all c.loop-j.invariant (packed_number obligation_bits c.args.values.now) (omega arith))

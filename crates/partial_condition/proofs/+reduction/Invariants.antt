@@ -17,4 +17,4 @@ decreases-reduce_condition l = l.depth * 3
 
 abbrev pub invariant-reduce_arms-loop-left : goal.invariant-reduce_arms-loop-left
 invariant-reduce_arms-loop-left l =
-    Going l.any (table_of l.facts) l.words l.at l.depth l.arms (held l.initial.consulted) (held l.consulted) l.out l.kept l.next l.left
+    Going l.stop (table_of l.walk.facts.now) l.walk.words.now l.at l.depth l.arms (held l.initial.consulted) (held l.consulted) l.out l.kept l.next l.left

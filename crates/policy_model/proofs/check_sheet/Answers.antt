@@ -2,14 +2,8 @@
 use mathlib.Core.Path.{refl, ◌∙◌}
 use Rattle.policy_model.specs.Answers.{at_end}
 use Rattle.policy_model.proofs.Checking.{sheet_passed_on}
-use Rattle.policy_model.proofs.Whole.{no_sheet_lem, long_sheet, sheet_accepted, sheet_refused}
+use Rattle.policy_model.proofs.Whole.{sheet_accepted, sheet_refused}
 use Rattle.policy_model.proofs.check_sheet.Goals as goal
-
-pub returns-then-words-eq0 : goal.returns-then-words-eq0
-returns-then-words-eq0 c = no_sheet_lem _ c.args.words.now c.if-words-eq0.true
-
-pub returns-then-words-gt-SHEET_WORDS : goal.returns-then-words-gt-SHEET_WORDS
-returns-then-words-gt-SHEET_WORDS c = long_sheet _ c.args.words.now c.if-words-eq0.false c.if-words-gt-SHEET_WORDS.true
 
 pub returns-in_err-next : goal.returns-in_err-next
 unfolding at_end

@@ -1,10 +1,13 @@
 -- `policy_model::condition_step` meets its contract: by the head of the word. Assumes nothing.
+use Rattle.std.specs.Prelude.{Ok}
+use mathlib.Core.Logic.{◌⊎◌, inl, inr}
 use mathlib.Core.Path.{◌≡◌, sym, ◌∙◌}
-use Prim.Native.Nat.{◌+◌, ◌-◌}
+use Prim.Native.Nat.{ℕ, ◌+◌, ◌-◌}
 use borrow.Author.Rules.{rules}
 use lib.ListN.{drop}
-use Rattle.model.specs.Reading.{read_condition}
-use Rattle.laws.specs.Size.{words_c}
+use Rattle.model.specs.Condition.{cnil, ccons}
+use Rattle.model.specs.Reading.{many, read_condition}
+use Rattle.laws.specs.Size.{words_c, words_cs}
 use Rattle.policy_model.specs.declared.ConditionHead.{ConditionHead}
 use Rattle.policy_model.specs.declared.ConditionHead.TheVariants.{Always, Never, Has, Not, All, Any, BadKind, BadField}
 use Rattle.policy_model.specs.Answers.{checked}
@@ -30,24 +33,26 @@ by_the_head c h e = by_head _ _ _ h c.if-words-at.false c.if-depth-eq0.false (sy
 
 pub returns-in-Always : goal.returns-in-Always
 unfolding checked condition_node
-returns-in-Always c = (by_the_head (goal.at.returns-in-Always c).After-condition_head-head Always c.in-Always.is, search rules, search rules)
-
-pub returns-in-Never : goal.returns-in-Never
-unfolding checked condition_node
-returns-in-Never c = (by_the_head (goal.at.returns-in-Never c).After-condition_head-head Never c.in-Never.is, search rules, search rules)
-
-pub returns-in-Has : goal.returns-in-Has
-unfolding checked condition_node
-returns-in-Has c = (by_the_head (goal.at.returns-in-Has c).After-condition_head-head (Has _) c.in-Has.is, search rules, search rules)
+returns-in-Always c =
+    let m = (goal.at.returns-in-Always c).After-condition_head-head in
+    let passed : Ok (c.args.at + 1) ≡ Asked c.args.words.now c.args.at c.args.depth = elim c.in-Always.is [ inl e ↦ by_the_head m Always e | inr d ↦ elim d [ inl e ↦ by_the_head m Never e | inr e ↦ by_the_head m (Has _) e.1 ] ] in
+    (passed, search rules, search rules)
 
 pub returns-in-Not : goal.returns-in-Not
 returns-in-Not c = (after_not _ _ _ ∙ by_the_head (goal.at.returns-in-Not c).After-condition_head-head Not c.in-Not.is, search rules, search rules)
 
-pub returns-in-All : goal.returns-in-All
-returns-in-All c = (after_all _ _ _ _ ∙ by_the_head (goal.at.returns-in-All c).After-condition_head-head (All _) c.in-All.is, search rules, search rules)
+-- All or Any.
+by_arms : (c : Matching) (n : ℕ) → (c.condition_head-head.result ≡ All n) ⊎ (c.condition_head-head.result ≡ Any n) →
+    checked words_cs (c.args.at + 1) (many cnil ccons (read_condition (c.args.depth - 1)) n (drop (c.args.at + 1) c.args.words.now))
+    ≡ Asked c.args.words.now c.args.at c.args.depth
+by_arms c n (inl e) = after_all _ _ _ _ ∙ by_the_head c (All n) e
+by_arms c n (inr e) = after_any _ _ _ _ ∙ by_the_head c (Any n) e
 
-pub returns-in-Any : goal.returns-in-Any
-returns-in-Any c = (after_any _ _ _ _ ∙ by_the_head (goal.at.returns-in-Any c).After-condition_head-head (Any _) c.in-Any.is, search rules, search rules)
+pub returns-in-All : goal.returns-in-All
+returns-in-All c = (by_arms (goal.at.returns-in-All c).After-condition_head-head _ c.in-All.is, search rules, search rules)
+
+pub returns-in-All-2 : goal.returns-in-All-2
+returns-in-All-2 c = (by_arms (goal.at.returns-in-All-2 c).After-condition_head-head _ c.in-All.is, search rules, search rules)
 
 pub returns-in-BadKind : goal.returns-in-BadKind
 unfolding checked condition_node

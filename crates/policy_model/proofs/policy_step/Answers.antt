@@ -1,15 +1,19 @@
 -- `policy_model::policy_step` meets its contract: by the head of the word. Assumes nothing.
+use Rattle.std.specs.Prelude.{Ok}
+use mathlib.Core.Logic.{◌⊎◌, inl, inr}
 use mathlib.Core.Path.{◌≡◌, sym, ◌∙◌, ap}
-use Prim.Native.Nat.{◌+◌, ◌-◌}
+use Prim.Native.Nat.{ℕ, ◌+◌, ◌-◌}
 use borrow.Author.Rules.{rules}
 use lib.ListN.{drop}
-use Rattle.laws.specs.Size.{words}
+use Rattle.model.specs.Policy.{pnil, pcons}
+use Rattle.model.specs.Reading.{many}
+use Rattle.laws.specs.Size.{words, wordss}
 use Rattle.policy_model.specs.declared.PolicyHead.{PolicyHead}
 use Rattle.policy_model.specs.declared.PolicyHead.TheVariants.{Permit, Deny, Grant, All, Any, OrElse, PermitWithTrace, DenyWithTrace, BadKind, BadField}
 use Rattle.policy_model.specs.Answers.{checked}
 use Rattle.policy_model.specs.Heads.{within_most, policy_node}
 use Rattle.policy_model.proofs.Checking.{step_refused}
-use Rattle.policy_model.proofs.Policies.{node_by, Asked, no_policy, too_deep, by_head, not_within, after_all, after_any, after_or_else, after_permit_lem, after_deny_lem, whole_node}
+use Rattle.policy_model.proofs.Policies.{read_by, node_by, Asked, no_policy, too_deep, by_head, not_within, after_all, after_any, after_or_else, after_permit_lem, after_deny_lem, whole_node}
 use Rattle.policy_model.proofs.policy_step.Goals as goal
 use Rattle.policy_model.proofs.policy_step.Goals.{Else-not-within}
 
@@ -39,11 +43,10 @@ by_the_head c h e =
 
 pub returns-in-Permit : goal.returns-in-Permit
 unfolding checked policy_node
-returns-in-Permit c = (by_the_head (goal.at.returns-in-Permit c).Else-not-within (Permit _) c.in-Permit.is, search rules, search rules)
-
-pub returns-in-Deny : goal.returns-in-Deny
-unfolding checked policy_node
-returns-in-Deny c = (by_the_head (goal.at.returns-in-Deny c).Else-not-within Deny c.in-Deny.is, search rules, search rules)
+returns-in-Permit c =
+    let m = (goal.at.returns-in-Permit c).Else-not-within in
+    let passed : Ok (c.args.at + 1) ≡ Asked c.args.most c.args.words.now c.args.at c.args.depth c.args.residual = elim c.in-Permit.is [ inl e ↦ by_the_head m (Permit _) e.1 | inr e ↦ by_the_head m Deny e ] in
+    (passed, search rules, search rules)
 
 pub returns-in_err-after-in-Grant : goal.returns-in_err-after-in-Grant
 unfolding policy_node
@@ -55,11 +58,18 @@ unfolding policy_node
 returns-in_ok-after-in-Grant c =
     whole_node _ _ _ _ _ _ c.if-words-at.false (c.in_ok-after-in-Grant.ensures _ _ ∙ by_the_head (goal.at.returns-in_ok-after-in-Grant c).Else-not-within (Grant _ _ _) c.in-Grant.is)
 
-pub returns-in-All : goal.returns-in-All
-returns-in-All c = (after_all _ _ _ _ _ ∙ by_the_head (goal.at.returns-in-All c).Else-not-within (All _) c.in-All.is, search rules, search rules)
+-- All or Any.
+by_arms : (c : Matching) (n : ℕ) → (c.policy_head-head.result ≡ All n) ⊎ (c.policy_head-head.result ≡ Any n) →
+    checked wordss (c.args.at + 1) (many pnil pcons (read_by c.args.most c.args.residual (c.args.depth - 1)) n (drop (c.args.at + 1) c.args.words.now))
+    ≡ Asked c.args.most c.args.words.now c.args.at c.args.depth c.args.residual
+by_arms c n (inl e) = after_all _ _ _ _ _ ∙ by_the_head c (All n) e
+by_arms c n (inr e) = after_any _ _ _ _ _ ∙ by_the_head c (Any n) e
 
-pub returns-in-Any : goal.returns-in-Any
-returns-in-Any c = (after_any _ _ _ _ _ ∙ by_the_head (goal.at.returns-in-Any c).Else-not-within (Any _) c.in-Any.is, search rules, search rules)
+pub returns-in-All : goal.returns-in-All
+returns-in-All c = (by_arms (goal.at.returns-in-All c).Else-not-within _ c.in-All.is, search rules, search rules)
+
+pub returns-in-All-2 : goal.returns-in-All-2
+returns-in-All-2 c = (by_arms (goal.at.returns-in-All-2 c).Else-not-within _ c.in-All.is, search rules, search rules)
 
 pub returns-in-OrElse : goal.returns-in-OrElse
 returns-in-OrElse c = (after_or_else _ _ _ _ ∙ by_the_head (goal.at.returns-in-OrElse c).Else-not-within OrElse c.in-OrElse.is, search rules, search rules)
@@ -74,11 +84,11 @@ returns-in_ok-after-in-PermitWithTrace c =
 
 pub returns-in_err-after-in-DenyWithTrace : goal.returns-in_err-after-in-DenyWithTrace
 returns-in_err-after-in-DenyWithTrace c =
-    step_refused _ _ _ _ _ _ _ c.from_residual-in_err-after-in-DenyWithTrace.ensures.1 (c.in_err-after-in-DenyWithTrace.ensures _ _ _ ∙ after_deny_lem _ _ _ _ _ _ _ ∙ by_the_head (goal.at.returns-in_err-after-in-DenyWithTrace c).Else-not-within (DenyWithTrace _ _ _) c.in-DenyWithTrace.is)
+    step_refused _ _ _ _ _ _ _ c.from_residual-in_err-after-in-DenyWithTrace.ensures.1 (c.in_err-after-in-DenyWithTrace.ensures _ _ ∙ after_deny_lem _ _ _ _ _ _ ∙ by_the_head (goal.at.returns-in_err-after-in-DenyWithTrace c).Else-not-within (DenyWithTrace _ _) c.in-DenyWithTrace.is)
 
 pub returns-in_ok-after-in-DenyWithTrace : goal.returns-in_ok-after-in-DenyWithTrace
 returns-in_ok-after-in-DenyWithTrace c =
-    whole_node _ _ _ _ _ _ c.if-words-at.false (c.in_ok-after-in-DenyWithTrace.ensures _ _ _ ∙ after_deny_lem _ _ _ _ _ _ _ ∙ by_the_head (goal.at.returns-in_ok-after-in-DenyWithTrace c).Else-not-within (DenyWithTrace _ _ _) c.in-DenyWithTrace.is)
+    whole_node _ _ _ _ _ _ c.if-words-at.false (c.in_ok-after-in-DenyWithTrace.ensures _ _ ∙ after_deny_lem _ _ _ _ _ _ ∙ by_the_head (goal.at.returns-in_ok-after-in-DenyWithTrace c).Else-not-within (DenyWithTrace _ _) c.in-DenyWithTrace.is)
 
 pub returns-in-BadKind : goal.returns-in-BadKind
 unfolding checked policy_node

@@ -3,10 +3,9 @@
 use mathlib.Core.Path.{sym, ◌∙◌}
 use native.Mathlib.Omega.{arith}
 use Rattle.policy_model.specs.PlainLaws.{plain_inside}
-use Rattle.clause.proofs.AnswerLaws.{is_countable, not_countable}
+use Rattle.clause.proofs.AnswerLaws.{held_taken, named_taken}
 use Rattle.residual.proofs.Laying.{node_long, node_no_room, node_written}
 use Rattle.residual.proofs.Short.{node_bare, node_on_fact}
-use Rattle.std.proofs.Common.{ap, not}
 use Rattle.residual.proofs.policy_from_decision.Goals as goal
 
 pub returns-then-words-at : goal.returns-then-words-at
@@ -23,12 +22,18 @@ returns-then-plain_grant c =
 
 pub returns-then-not-countable : goal.returns-then-not-countable
 returns-then-not-countable c =
-    node_long (omega (arith, c.obligations-2-1.given)) c.obligations-held.ensures c.clause_facts-count.ensures _ (not_countable _ c.countable.ensures (ap not c.if-not-countable.true))
+    node_long (omega arith) c.obligations-held.ensures c.clause_facts-count.ensures _ (sym c.countable.ensures ∙ c.if-not-countable.true)
 
 pub returns-then-out-size : goal.returns-then-out-size
 returns-then-out-size c =
-    node_no_room (omega (arith, c.obligations-2-1.given)) c.obligations-held.ensures c.clause_facts-count.ensures (is_countable _ c.countable.ensures (ap not c.if-not-countable.false)) _ _ c.decision_words-size.ensures c.if-out-size.true
+    node_no_room (omega arith) c.obligations-held.ensures c.clause_facts-count.ensures (sym c.countable.ensures ∙ c.if-not-countable.false) _ c.decision_words-size.ensures _ c.if-out-size.true
+
+pub write_decision-requires : goal.write_decision-requires
+write_decision-requires c =
+    rw (held_taken c.obligations-held.ensures (omega arith), named_taken c.clause_facts-count.ensures)
+    (sym c.countable.ensures ∙ c.if-not-countable.false, omega (arith, c.decision_words-size.ensures, c.if-out-size.false))
 
 pub returns : goal.returns
 returns c =
-    node_written (omega (arith, c.obligations-2-1.given)) c.obligations-held.ensures c.clause_facts-count.ensures (is_countable _ c.countable.ensures (ap not c.if-not-countable.false)) _ _ _ c.write_decision.ensures
+    node_written (omega arith) c.obligations-held.ensures c.clause_facts-count.ensures (sym c.countable.ensures ∙ c.if-not-countable.false)
+    _ (rw (held_taken c.obligations-held.ensures (omega arith), named_taken c.clause_facts-count.ensures) at c.write_decision.ensures.number) _ _ c.write_decision.ensures

@@ -1,40 +1,25 @@
 -- `unpack::check_resolved` meets its contract. Assumes nothing.
-use mathlib.Core.Path.{sym, subst}
-use native.Mathlib.Omega.{arith}
-use lib.ListN.{drop}
+use Rattle.std.proofs.Common.{◌≡◌, sym, subst, ◌∙◌, ap, Err, rules, arith}
+use Rattle.model.specs.Reading.{refuse}
 use Rattle.refusal.specs.Numbers.{by_number}
-use Rattle.model.specs.Bits.{run_of}
-use Rattle.laws.proofs.BitLaws.{length_run}
 use Rattle.unpack.specs.Answers.{Says}
-use Rattle.unpack.specs.StepLaws.{kind_first}
-use Rattle.unpack.proofs.Fields.{bits_from}
-use Rattle.unpack.proofs.Steps.{here_ended, here_there}
 use Rattle.unpack.specs.RecordLaws.{resolved_ended, resolved_bad, resolved_is}
+use Rattle.unpack.proofs.Steps.{run, here, bits_here, lead_ended, lead_kind, there}
 use Rattle.unpack.proofs.check_resolved.Goals as goal
 
-pub overflow_add-place : goal.overflow_add-place
-overflow_add-place c = omega (arith, c.args.place.short, c.args.place.inside, length_run c.args.place.bytes.now)
+pub returns-in_err-lead : goal.returns-in_err-lead
+returns-in_err-lead c =
+    let p = c.args.place in
+    let x = lead_ended (here p) _ c.in_err-lead.ensures in
+    let e : c.from_residual.result ≡ Err c.in_err-lead.field-0.0 = search rules in
+    rw e (resolved_ended (here p) (bits_here p) p.words x.1 ∙ ap refuse (sym x.0))
 
-pub returns-then-ended : goal.returns-then-ended
-returns-then-ended c =
-    let bytes = c.args.place.bytes.now in
-    let run = run_of bytes in
-    let at = c.args.place.at in
-    let bits = bits_from bytes (λ i. omega (arith, c.args.place.octets i)) at in
-    resolved_ended (drop at run) bits c.args.place.words (here_ended run at 4 _ c.ended.ensures c.if-ended.true c.args.place.inside)
-
-pub returns-then-bits_at-lt-KIND_PERMIT_WITH_TRACE : goal.returns-then-bits_at-lt-KIND_PERMIT_WITH_TRACE
-returns-then-bits_at-lt-KIND_PERMIT_WITH_TRACE c =
-    let bytes = c.args.place.bytes.now in
-    let run = run_of bytes in
-    let at = c.args.place.at in
-    let bits = bits_from bytes (λ i. omega (arith, c.args.place.octets i)) at in
-    resolved_bad (drop at run) bits c.args.place.words (here_there run at 4 _ c.ended.ensures c.if-ended.false) (omega (arith, kind_first (drop at run) bits, c.bits_at.ensures.is, c.if-bits_at-lt-KIND_PERMIT_WITH_TRACE.true))
+pub returns-then-lead-lt-KIND_PERMIT_WITH_TRACE : goal.returns-then-lead-lt-KIND_PERMIT_WITH_TRACE
+returns-then-lead-lt-KIND_PERMIT_WITH_TRACE c =
+    let p = c.args.place in
+    resolved_bad (here p) (bits_here p) p.words (there p _ c.in_ok-lead.ensures) (omega (arith, lead_kind p _ c.in_ok-lead.ensures, c.if-lead-lt-KIND_PERMIT_WITH_TRACE.true))
 
 pub returns : goal.returns
 returns c =
-    let bytes = c.args.place.bytes.now in
-    let run = run_of bytes in
-    let at = c.args.place.at in
-    let bits = bits_from bytes (λ i. omega (arith, c.args.place.octets i)) at in
-    subst (λ q. Says run at q (by_number c.check.result)) (sym (resolved_is (drop at run) bits c.args.place.words (omega (arith, kind_first (drop at run) bits, c.bits_at.ensures.is, c.if-bits_at-lt-KIND_PERMIT_WITH_TRACE.false)))) c.check.ensures
+    let p = c.args.place in
+    subst (λ q. Says (run p) p.at q (by_number c.check.result)) (sym (resolved_is (here p) (bits_here p) p.words (omega (arith, lead_kind p _ c.in_ok-lead.ensures, c.if-lead-lt-KIND_PERMIT_WITH_TRACE.false)))) c.check.ensures

@@ -1,20 +1,10 @@
 -- `unpack::deny_trace_at` meets its contract. Assumes nothing.
-use mathlib.Core.Path.{◌∙◌, ap, ap₂}
-use Prim.Native.Nat.{◌+◌, ◌*◌}
-use native.Mathlib.Omega.{arith}
-use lib.ListN.{drop}
+use Rattle.std.proofs.Common.{◌∙◌, ap, ap₂, Some, ◌+◌, ◌*◌, drop}
 use Rattle.model.specs.Bits.{run_of}
 use Rattle.bits.specs.Widths.{mark_width, denied_width}
-use Rattle.bits.specs.WidthLaws.{mark_few, denied_few}
 use Rattle.unpack.specs.Nodes.{field_in, mark_in, deny_node}
 use Rattle.unpack.proofs.Fields.{at_field, at_mark}
 use Rattle.unpack.proofs.deny_trace_at.Goals as goal
-
-pub mark_at-label-requires : goal.mark_at-label-requires
-mark_at-label-requires c = omega (arith, c.requires, c.denied_bits.ensures, denied_few c.denied_at-first.result)
-
-pub mark_at-reason-requires : goal.mark_at-reason-requires
-mark_at-reason-requires c = omega (arith, c.requires, c.denied_bits.ensures, denied_few c.denied_at-first.result, c.mark_bits.ensures, mark_few c.mark_at-label.result)
 
 pub returns : goal.returns
 unfolding deny_node
@@ -29,4 +19,4 @@ returns c =
     let m = c.mark_at-reason.ensures.is ∙ at_mark run at (6 + c.denied_bits.result + c.mark_bits.result) ∙ ap₂ (λ x y. mark_in (6 + x + y) bs) d ml in
     let mm = c.mark_bits-2.ensures ∙ ap mark_width m in
     let n = c.bits_at-facts.ensures.is ∙ at_field run at (6 + c.denied_bits.result + c.mark_bits.result + c.mark_bits-2.result) 12 ∙ (λ i. field_in (6 + d i + ml i + mm i) 12 bs) in
-    λ i. record { first = f i; second = l i * 65536 + m i; third = n i; fixed = 3; width = 6 + d i + ml i + mm i + 12; obligations = 0; facts = n i }
+    λ i. record { first = f i; second = l i * 65536 + m i; third = Some (n i); width = 6 + d i + ml i + mm i + 12; obligations = 0; facts = n i }

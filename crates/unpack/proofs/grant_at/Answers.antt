@@ -1,20 +1,10 @@
 -- `unpack::grant_at` meets its contract. Assumes nothing.
-use mathlib.Core.Path.{◌∙◌, ap}
-use Prim.Native.Nat.{◌+◌, ◌*◌, ◌%◌}
-use native.Mathlib.Omega.{arith}
-use lib.ListN.{drop}
+use Rattle.std.proofs.Common.{◌∙◌, ap, None, ◌+◌, ◌*◌, ◌%◌, drop}
 use Rattle.model.specs.Bits.{run_of}
 use Rattle.bits.specs.Widths.{mark_width}
-use Rattle.bits.specs.WidthLaws.{mark_few}
 use Rattle.unpack.specs.Nodes.{mark_in, grant_node}
 use Rattle.unpack.proofs.Fields.{at_field, at_mark}
 use Rattle.unpack.proofs.grant_at.Goals as goal
-
-pub mark_at-label-requires : goal.mark_at-label-requires
-mark_at-label-requires c = omega (arith, c.requires)
-
-pub mark_at-reason-requires : goal.mark_at-reason-requires
-mark_at-reason-requires c = omega (arith, c.requires, c.mark_bits.ensures, mark_few c.mark_at-label.result)
 
 pub returns : goal.returns
 unfolding grant_node
@@ -28,4 +18,4 @@ returns c =
     let ml = c.mark_bits.ensures ∙ ap mark_width l in
     let m = c.mark_at-reason.ensures.is ∙ at_mark run at (28 + c.mark_bits.result) ∙ ap (λ x. mark_in (28 + x) bs) ml in
     let mm = c.mark_bits-2.ensures ∙ ap mark_width m in
-    λ i. record { first = f₀ i * 1048576 + f₁ i; second = l i * 65536 + m i; third = 0; fixed = 2; width = 28 + ml i + mm i; obligations = f₀ i % 128; facts = 0 }
+    λ i. record { first = f₀ i * 1048576 + f₁ i; second = l i * 65536 + m i; third = None; width = 28 + ml i + mm i; obligations = f₀ i % 128; facts = 0 }

@@ -1,16 +1,10 @@
 -- `unpack::permit_trace_at` meets its contract. Assumes nothing.
-use mathlib.Core.Path.{◌∙◌, ap}
-use Prim.Native.Nat.{◌+◌, ◌*◌}
-use native.Mathlib.Omega.{arith}
-use lib.ListN.{drop}
+use Rattle.std.proofs.Common.{◌∙◌, ap, None, ◌+◌, ◌*◌, drop}
 use Rattle.model.specs.Bits.{run_of}
 use Rattle.bits.specs.Widths.{mark_width}
 use Rattle.unpack.specs.Nodes.{field_in, permit_node}
 use Rattle.unpack.proofs.Fields.{at_field, at_mark}
 use Rattle.unpack.proofs.permit_trace_at.Goals as goal
-
-pub mark_at-label-requires : goal.mark_at-label-requires
-mark_at-label-requires c = omega (arith, c.requires)
 
 pub returns : goal.returns
 unfolding permit_node
@@ -23,4 +17,4 @@ returns c =
     let l = c.mark_at-label.ensures.is ∙ at_mark run at 27 in
     let ml = c.mark_bits.ensures ∙ ap mark_width l in
     let m = c.bits_at-facts.ensures.is ∙ at_field run at (27 + c.mark_bits.result) 12 ∙ ap (λ x. field_in (27 + x) 12 bs) ml in
-    λ i. record { first = 3221225472 + n i * 1048576 + o i; second = l i * 65536 + m i; third = 0; fixed = 2; width = 27 + ml i + 12; obligations = n i; facts = m i }
+    λ i. record { first = 3221225472 + n i * 1048576 + o i; second = l i * 65536 + m i; third = None; width = 27 + ml i + 12; obligations = n i; facts = m i }

@@ -19,22 +19,22 @@ loop-j-init c = (c.entry_words-words.ensures, sofar_none _ _)
 pub loop-j-preserved : goal.loop-j-preserved
 loop-j-preserved c =
     let l = c.loop-j in
-    let bs = drop c.args.at (run_of c.args.bytes.now) in
-    let fs = fields_in c.args.width c.args.count bs in
+    let bs = drop c.args.list.at (run_of c.args.list.bytes.now) in
+    let fs = fields_in c.args.list.width c.args.list.count bs in
     let vs = map loose_entry fs in
-    let n = length-map fs loose_entry ∙ length_fields c.args.width c.args.count bs in
+    let n = length-map fs loose_entry ∙ length_fields c.args.list.width c.args.list.count bs in
     let long = length_pack 16 vs ∙ ap (words_for 2) n in
     let inside = c.loop-j-test.true in (
       l.invariant.0,
-      sofar_more _ _ _ l.j _ l.invariant.1 (omega (arith, long, l.invariant.0)) (omega (arith, long, c.requires.2))
-          (pair_word vs l.j _ _ (omega (arith, n, l.invariant.0)) c.entry_or_zero.ensures.is c.entry_or_zero-in-loop-j.ensures.is),
+      sofar_more _ _ _ l.j _ l.invariant.1 (omega (arith, long, l.invariant.0)) (omega (arith, long, c.requires))
+          (pair_word vs l.j _ _ (omega (arith, n, l.invariant.0)) c.entry.ensures.is c.entry-in-loop-j.ensures.is),
     )
 
 pub returns : goal.returns
 returns c =
     let l = c.loop-j in
-    let bs = drop c.args.at (run_of c.args.bytes.now) in
-    let fs = fields_in c.args.width c.args.count bs in
+    let bs = drop c.args.list.at (run_of c.args.list.bytes.now) in
+    let fs = fields_in c.args.list.width c.args.list.count bs in
     let vs = map loose_entry fs in
-    let long = length_pack 16 vs ∙ ap (words_for 2) (length-map fs loose_entry ∙ length_fields c.args.width c.args.count bs) in
+    let long = length_pack 16 vs ∙ ap (words_for 2) (length-map fs loose_entry ∙ length_fields c.args.list.width c.args.list.count bs) in
     (omega (arith, l.invariant.0, l.auto.j-end, c.loop-j-test.false), sofar_all l.invariant.1 (omega (arith, long, l.invariant.0, l.auto.j-end, c.loop-j-test.false)) (omega arith))

@@ -8,4 +8,4 @@ use Rattle.unpack.specs.Nodes.{entry_words}
 use Rattle.unpack.proofs.restore_entries.Given as goal
 
 abbrev pub invariant-loop-j : goal.invariant-loop-j
-invariant-loop-j l = (l.words ≡ words_for 2 l.count) × Sofar (entry_words l.width l.count (drop l.at (run_of l.bytes))) l.initial.out l.out l.j
+invariant-loop-j l = (l.words ≡ words_for 2 l.list.count) × Sofar (entry_words l.list.width l.list.count (drop l.list.at (run_of l.list.bytes.now))) l.initial.out l.out l.j

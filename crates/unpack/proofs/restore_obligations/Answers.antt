@@ -1,7 +1,8 @@
 -- `unpack::restore_obligations` meets its contract: one word more in each turn. Assumes nothing.
-use mathlib.Core.Path.{◌∙◌, ap}
+use mathlib.Core.Path.{◌≡◌, ◌∙◌, ap}
 use native.Mathlib.Omega.{arith}
-use lib.ListN.{drop}
+use Prim.Native.Nat.{ℕ}
+use lib.ListN.{drop, get_or}
 use Rattle.model.specs.Bits.{run_of}
 use Rattle.model.specs.Fields.{words_for}
 use Rattle.laws.proofs.Lengths.{length_pack}
@@ -17,20 +18,21 @@ loop-j-init c = (c.obligation_words-words.ensures, sofar_none _ _)
 pub loop-j-preserved : goal.loop-j-preserved
 loop-j-preserved c =
     let l = c.loop-j in
-    let bs = drop c.args.at (run_of c.args.bytes.now) in
-    let vs = fields_in 6 c.args.count bs in
-    let long = length_pack 8 vs ∙ ap (words_for 4) (length_fields 6 c.args.count bs) in
-    let n = length_fields 6 c.args.count bs in
+    let bs = drop c.args.list.at (run_of c.args.list.bytes.now) in
+    let vs = fields_in 6 c.args.list.count bs in
+    let long = length_pack 8 vs ∙ ap (words_for 4) (length_fields 6 c.args.list.count bs) in
+    let n = length_fields 6 c.args.list.count bs in
+    let same : (i : ℕ) → get_or (fields_in c.args.list.width c.args.list.count bs) i 0 ≡ get_or vs i 0 = λ i. ap (λ w. get_or (fields_in w c.args.list.count bs) i 0) c.requires.0 in
     let inside = c.loop-j-test.true in (
       l.invariant.0,
       sofar_more _ _ _ l.j _ l.invariant.1 (omega (arith, long, l.invariant.0)) (omega (arith, long, c.requires.1))
-          (quad_word vs l.j _ _ _ _ (omega (arith, n, l.invariant.0)) c.field_or_zero.ensures.is c.field_or_zero-in-loop-j.ensures.is c.field_or_zero-in-loop-j-2.ensures.is c.field_or_zero-in-loop-j-3.ensures.is),
+          (quad_word vs l.j _ _ _ _ (omega (arith, n, l.invariant.0)) (c.field.ensures.is ∙ same _) (c.field-in-loop-j.ensures.is ∙ same _) (c.field-in-loop-j-2.ensures.is ∙ same _) (c.field-in-loop-j-3.ensures.is ∙ same _)),
     )
 
 pub returns : goal.returns
 returns c =
     let l = c.loop-j in
-    let bs = drop c.args.at (run_of c.args.bytes.now) in
-    let vs = fields_in 6 c.args.count bs in
-    let long = length_pack 8 vs ∙ ap (words_for 4) (length_fields 6 c.args.count bs) in
+    let bs = drop c.args.list.at (run_of c.args.list.bytes.now) in
+    let vs = fields_in 6 c.args.list.count bs in
+    let long = length_pack 8 vs ∙ ap (words_for 4) (length_fields 6 c.args.list.count bs) in
     (omega (arith, l.invariant.0, l.auto.j-end, c.loop-j-test.false), sofar_all l.invariant.1 (omega (arith, long, l.invariant.0, l.auto.j-end, c.loop-j-test.false)) (omega arith))

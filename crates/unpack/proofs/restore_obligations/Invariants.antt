@@ -8,4 +8,4 @@ use Rattle.unpack.specs.Nodes.{obligation_words}
 use Rattle.unpack.proofs.restore_obligations.Given as goal
 
 abbrev pub invariant-loop-j : goal.invariant-loop-j
-invariant-loop-j l = (l.words ≡ words_for 4 l.count) × Sofar (obligation_words l.count (drop l.at (run_of l.bytes))) l.initial.out l.out l.j
+invariant-loop-j l = (l.words ≡ words_for 4 l.list.count) × Sofar (obligation_words l.list.count (drop l.list.at (run_of l.list.bytes.now))) l.initial.out l.out l.j

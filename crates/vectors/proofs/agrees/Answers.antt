@@ -1,33 +1,19 @@
--- `vectors::agrees` meets its contract. Assumes nothing.
+-- `vectors::agrees` meets its contract: number and value, then the output. Assumes nothing.
 use mathlib.Core.Path.{sym, ◌∙◌}
 use native.Mathlib.Omega.{arith}
-use lib.Seq.{length-take-le}
-use Rattle.vectors.proofs.Agreeing.{agrees_long, agrees_fits}
-use borrow.Author.Rules.{rules}
+use Rattle.vectors.proofs.Agreeing.{agrees_long, agrees_fits, answers_yes, answers_no}
+use Rattle.vectors.proofs.Same.{same_by_words}
 use Rattle.vectors.proofs.agrees.Goals as goal
 
 pub returns-then-room-number_in : goal.returns-then-room-number_in
-returns-then-room-number_in c = agrees_long c.args.case.now (omega arith)
+returns-then-room-number_in c = agrees_long c.args.call c.args.case.now (omega arith)
 
-pub slice_bounds-answers-end-2 : goal.slice_bounds-answers-end-2
-slice_bounds-answers-end-2 c = sym (length-take-le _ _ (omega arith))
+pub returns-then-returned : goal.returns-then-returned
+returns-then-returned c =
+    agrees_fits c.args.call c.args.case.now _ (omega arith)
+    (c.eq.ensures ∙ same_by_words _ _ ∙ answers_yes c.args.call c.args.case.now _ _ _ c.run-given.ensures (sym c.returned.ensures ∙ c.if-returned.true))
 
-pub slice_bounds-answers-end-4 : goal.slice_bounds-answers-end-4
-slice_bounds-answers-end-4 c = sym (length-take-le _ _ (omega arith))
-
-pub slice_bounds-answers-end-6 : goal.slice_bounds-answers-end-6
-slice_bounds-answers-end-6 c = sym (length-take-le _ _ (omega arith))
-
-pub answers-requires : goal.answers-requires
-answers-requires c =
-    record {
-      whole = search rules;
-      words_fit = length-take-le _ _ (omega arith) ∙ c.number_in-count.ensures.0;
-      answer_fits = omega arith;
-      room = omega arith;
-      expected_fits = length-take-le _ _ (omega arith) ∙ c.number_in-room.ensures.0;
-      out_fits = length-take-le _ _ (omega arith) ∙ c.number_in-room.ensures.0;
-    }
-
-pub returns : goal.returns
-returns c = agrees_fits c.args.case.now _ (omega (arith, c.if-room-number_in.false, c.number_in.ensures, c.number_in-room.ensures)) c.answers.ensures
+pub returns-else-returned : goal.returns-else-returned
+returns-else-returned c =
+    agrees_fits c.args.call c.args.case.now _ (omega arith)
+    (c.if-returned.false ∙ answers_no c.args.call c.args.case.now _ _ _ c.run-given.ensures (sym c.returned.ensures ∙ c.if-returned.false))

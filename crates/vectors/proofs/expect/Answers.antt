@@ -10,5 +10,5 @@ use Rattle.vectors.proofs.expect.Goals as goal
 pub returns : goal.returns
 returns c =
     let args = c.args in
-    words_stand c.read_words.result args.case.now args.at args.count _ _ (omega arith) c.read_words.ensures
+    words_stand c.read_words.result args.case.now args.at args.count _ _ (omega arith) (omega arith) c.read_words.ensures
     ∙ ap (λ l. words_in args.case.now args.at args.count ++ drop args.count l) c.fill.ensures

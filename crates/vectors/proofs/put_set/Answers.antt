@@ -1,36 +1,42 @@
--- `vectors::put_set` meets its contract. The loop's invariant: halves of the set's numbers stand before what stood there. Assumes nothing.
-use mathlib.Core.Path.{◌≡◌, refl, sym, ap, ◌∙◌}
+-- `vectors::put_set` meets its contract. Assumes nothing.
+use mathlib.Core.Path.{◌≡◌, refl, sym, ap}
 use mathlib.Core.Bool.{cond}
-use mathlib.Core.List.{List}
-use Prim.Native.Nat.{ℕ, ◌/◌, ◌%◌}
+use Prim.Native.Nat.{ℕ, ◌+◌, ◌*◌, ◌/◌, ◌%◌}
 use native.Mathlib.Omega.{arith}
-use lib.ListN.{length, get_or, set as set_at}
+use mathlib.Core.List.{List}
+use lib.Bits.{bit_and, and_mask}
+use lib.ListN.{get_or, length-set}
 use Rattle.laws.specs.FieldAt.{firsts}
-use borrow.Author.Tests.{eq-eqb, ne_eqb}
+use borrow.Author.Tests.{ne_eqb}
 use Rattle.listing.proofs.Words.{store_next}
-use Rattle.vectors.specs.Words.{half_of, halves}
-use Rattle.vectors.proofs.Reading.{firsts_all}
+use Rattle.vectors.specs.Words.{half_at, halves}
 use Rattle.vectors.proofs.put_set.Goals as goal
-
-abbrev Half : List ℕ → ℕ → ℕ
-Half set k = half_of (get_or set (k / 2) 0) (k % 2)
 
 pub returns-then-out-ne32 : goal.returns-then-out-ne32
 returns-then-out-ne32 c = sym (ap (λ b. cond b (halves c.args.set.now) c.args.out.now) (ne_eqb _ _ c.if-out-ne32.true))
 
 pub loop-i-init : goal.loop-i-init
 unfolding firsts
-loop-i-init c = refl
+loop-i-init c = (c.if-out-ne32.false, refl)
+
+-- The two halves of the i-th number.
+upper : (set : List ℕ) (i : ℕ) → get_or set i 0 / 4294967296 ≡ half_at set (2 * i)
+upper set i =
+    let place : 2 * i % 2 ≡ 0 = omega arith in
+    let number : 2 * i / 2 ≡ i = omega arith in
+    rw (place, number)
+
+lower : (set : List ℕ) (i : ℕ) → bit_and (get_or set i 0) 4294967295 ≡ half_at set (2 * i + 1)
+lower set i =
+    let place : (2 * i + 1) % 2 ≡ 1 = omega arith in
+    let number : (2 * i + 1) / 2 ≡ i = omega arith in
+    rw (place, number) (and_mask (get_or set i 0) 32)
 
 pub loop-i-preserved : goal.loop-i-preserved
 loop-i-preserved c =
-    let args = c.args in
     let at = c.loop-i in
-    ap (set_at at.out at.i) c.half.ensures ∙ store_next (Half args.set.now) at.i at.out args.out.now (omega arith) at.invariant
-
-pub returns : goal.returns
-returns c =
-    let args = c.args in
-    let at = c.loop-i in
-    let all : at.out ≡ firsts (Half args.set.now) (length args.out.now) = firsts_all (Half args.set.now) at.i at.out args.out.now (omega arith) at.invariant in
-    all ∙ ap (firsts (Half args.set.now)) c.if-out-ne32.false ∙ sym (ap (λ b. cond b (halves args.set.now) args.out.now) (eq-eqb _ _ c.if-out-ne32.false))
+    let set = c.args.set.now in
+    let first = store_next (half_at set) (2 * at.i) at.out c.args.out.now (omega arith) at.invariant.1 in
+    let both = store_next (half_at set) (2 * at.i + 1) _ c.args.out.now (omega arith) first in
+    let next : 2 * at.i + 1 + 1 ≡ 2 * (at.i + 1) = omega arith in
+    (simp length-set at.invariant.0, rw (upper set at.i, lower set at.i, ← next) both)

@@ -1,5 +1,6 @@
 -- `vectors::size_of` meets its contract. Assumes nothing.
-use mathlib.Core.Path.{sym}
+use mathlib.Core.Path.{sym, ap, ◌∙◌}
+use Rattle.std.specs.Prelude.{Some}
 use native.Mathlib.Omega.{arith}
 use Rattle.vectors.proofs.Reading.{size_none, size_short, size_whole}
 use Rattle.vectors.proofs.size_of.Goals as goal
@@ -11,7 +12,4 @@ pub returns-then-input-size : goal.returns-then-input-size
 returns-then-input-size c = sym (size_short c.args.input.now (omega arith) (omega arith))
 
 pub returns-else-input-size : goal.returns-else-input-size
-returns-else-input-size c =
-    let bs = c.args.input.now in
-    let whole = size_whole bs (omega arith) (omega arith) in
-    omega arith
+returns-else-input-size c = sym (size_whole c.args.input.now (omega arith) (omega arith) ∙ ap Some (omega arith))

@@ -1,11 +1,12 @@
 -- `vectors::tally_of` meets its contract. The loop's invariant: what is left gives what all give. Assumes nothing.
 use borrow.Author.Rules.{rules}
-use mathlib.Core.Path.{◌≡◌, refl, sym, ◌∙◌, ap}
+use Rattle.std.specs.Prelude.{None}
+use mathlib.Core.Path.{◌≡◌, ap}
 use Prim.Native.Nat.{◌+◌, ◌-◌}
 use native.Mathlib.Omega.{arith}
 use lib.ListN.{length}
 use Rattle.vectors.specs.Tallies.{tally_from}
-use Rattle.vectors.proofs.Reading.{whole_of}
+use Rattle.vectors.proofs.Reading.{sized_of}
 use Rattle.vectors.proofs.Tallying.{sofar_done, sofar_fits, sofar_end, sofar_next}
 use Rattle.vectors.proofs.tally_of.Goals as goal
 
@@ -18,32 +19,25 @@ loop-before-init c =
       places = search rules;
       replayed = search rules;
       differ = search rules;
-      rest = ap (λ n. tally_from n c.args.call cases 1 (record { replayed = 0; differ = 0; first = 0 })) all;
+      rest = ap (λ n. tally_from n c.args.call cases 1 (record { replayed = 0; differ = 0; first = None })) all;
     }
 
-pub returns-then-size-eq0 : goal.returns-then-size-eq0
-returns-then-size-eq0 c = sofar_end _ _ _ _ _ _ c.loop-before.invariant (omega arith) (sym c.size_of-size.ensures ∙ c.if-size-eq0.true)
+pub returns-in_default : goal.returns-in_default
+returns-in_default c = sofar_end _ _ _ _ _ _ c.loop-before.invariant (omega arith) c.in_default.ensures
 
 pub step-tally-requires : goal.step-tally-requires
 step-tally-requires c =
     let sofar = c.loop-before.invariant in
-    let pre = c.requires in (
-      whole_of _ (λ e. c.if-size-eq0.false (c.size_of-size.ensures ∙ e)),
-      omega (arith, sofar.within, sofar.places, sofar.replayed),
-      sofar.differ,
-      omega arith,
-      omega arith,
-      omega arith,
-    )
+    ((sized_of _ c.in-Some.ensures).whole, omega (arith, sofar.within, sofar.places, sofar.replayed), sofar.differ)
 
 pub overflow_add-at : goal.overflow_add-at
-overflow_add-at c = omega (arith, sofar_fits _ _ _ _ _ _ c.loop-before.invariant _ c.size_of-size.ensures c.if-size-eq0.false)
+overflow_add-at c = omega (arith, sofar_fits _ _ _ _ _ _ c.loop-before.invariant c.in-Some.ensures)
 
 pub loop-before-preserved : goal.loop-before-preserved
 loop-before-preserved c =
     let at = c.loop-before in
     let one_less : length c.args.cases.now - (at.before + 1) ≡ length c.args.cases.now - at.before - 1 = omega arith in
-    rw one_less (sofar_next _ _ _ _ _ _ at.invariant _ _ (omega (arith, c.loop-before-test)) c.size_of-size.ensures c.if-size-eq0.false c.step-tally.ensures)
+    rw one_less (sofar_next _ _ _ _ _ _ at.invariant _ _ (omega (arith, c.loop-before-test)) c.in-Some.ensures c.step-tally.ensures)
 
 pub returns : goal.returns
 returns c = sofar_done _ _ _ _ _ _ c.loop-before.invariant (omega arith)

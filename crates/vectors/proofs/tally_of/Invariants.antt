@@ -1,5 +1,4 @@
 -- `vectors::tally_of` meets its contract. The loop's invariant: what is left gives what all give. Assumes nothing.
-use mathlib.Core.Path.{◌≡◌}
 use Prim.Native.Nat.{◌+◌, ◌-◌}
 use lib.ListN.{length}
 use Rattle.vectors.proofs.Tallying.{Sofar}

@@ -12,7 +12,7 @@ use Rattle.laws.proofs.WindowLaws.{judged}
 use Rattle.calendar.specs.Answers.{date_of}
 use Rattle.windows.specs.Setting.{number_of, held_as, fields_by, set_where, marked}
 use Rattle.windows.specs.SettingLaws.{by_both}
-use Rattle.windows.proofs.Parts.{pairs_are, known_exists, finished, unknown_marked, all_loops}
+use Rattle.windows.proofs.Parts.{windows_are, known_exists, finished, unknown_marked, all_loops}
 use Rattle.windows.proofs.write.Goals as goal
 use Rattle.windows.proofs.write.Goals.{then-is_unknown-via-then-is_unknown, then-is_unknown-via-else-is_unknown+then-is_unknown-2}
 
@@ -44,7 +44,7 @@ returns-then-is_unknown c =
       | then-is_unknown-via-else-is_unknown+then-is_unknown-2 w ↦
           ap₂ (λ a b. a || b) (sym c.is_unknown.ensures ∙ w.if-is_unknown.false) (sym w.is_unknown-else-is_unknown.ensures ∙ w.if-is_unknown-2.true)
     ] in
-    let marks = c.mark.ensures ∙ ap₂ (λ ws l. fields_by (marked 2 ws) 0 (table_fields l)) (pairs_are list _ c.as_chunks.ensures.front) (ap (λ l. l ++ drop (length table) c.args.out.now) c.copy_from_slice.ensures.after) in
+    let marks = c.mark.ensures ∙ ap₂ (λ ws l. fields_by (marked 2 ws) 0 (table_fields l)) (windows_are list _ c.as_chunks.ensures.front) (ap (λ l. l ++ drop (length table) c.args.out.now) c.copy_from_slice.ensures.after) in
     finished list reading today table j (marked 2 (windows_of list)) c.requires.1 (omega arith) marks (unknown_marked list reading today table j unknown)
 
 pub age_in_days-requires : goal.age_in_days-requires
@@ -71,7 +71,7 @@ returns c =
     let days = c.number in
     let years = c.number-2 in
     let ws = windows_of list in
-    let pairs = pairs_are list _ c.as_chunks.ensures.front in
+    let pairs = windows_are list _ c.as_chunks.ensures.front in
     let opens = set_where (held_as 1 days.result years.result) 1 in
     let closes = set_where (held_as 0 days.result years.result) 0 in
     let fields = table_fields (table ++ drop (length table) c.args.out.now) in

@@ -7,7 +7,8 @@ use Rattle.model.specs.Products.{read_all, read_any}
 use Rattle.outcome.specs.Carried.{carried}
 use Rattle.policy_model.specs.declared.PolicyHead.TheVariants.{All, Any}
 use Rattle.consulted.specs.Listing.{held}
-use Rattle.evaluate.specs.Evaluating.{EvaluatesBy}
+use Rattle.decision.specs.Room.{Few}
+use Rattle.evaluate.specs.Evaluating.{EvaluatesBy, Permits}
 use Rattle.evaluate.proofs.Arms.{ArmsLeft, all_left, any_left, Going}
 use Rattle.evaluate.proofs.Evaluation.+evaluation.Given as goal
 
@@ -29,8 +30,9 @@ decreases-eval_policy l = l.depth * 3
 abbrev pub invariant-eval_all-loop-left : goal.invariant-eval_all-loop-left
 invariant-eval_all-loop-left l =
     Going
-    (ArmsLeft (all_left (carried l.self.outcomes) (table_of l.self.facts.now) l.self.words.now l.sofar l.buf) (read_all (carried l.self.outcomes) (table_of l.self.facts.now)) (table_of l.self.facts.now) l.self.words.now l.sofar l.buf l.next l.depth l.left (held l.consulted))
-    (EvaluatesBy (carried l.self.outcomes) (All l.arms) (table_of l.self.facts.now) l.self.words.now l.at l.depth (held l.initial.consulted))
+    (ArmsLeft (all_left (carried l.self.outcomes) (table_of l.self.walk.facts.now) l.self.walk.words.now l.sofar l.buf) (read_all (carried l.self.outcomes) (table_of l.self.walk.facts.now)) (table_of l.self.walk.facts.now) l.self.walk.words.now l.sofar l.buf l.next l.depth l.left (held l.consulted))
+    (EvaluatesBy (carried l.self.outcomes) (All l.arms) (table_of l.self.walk.facts.now) l.self.walk.words.now l.at l.depth (held l.initial.consulted))
+    Permits
     l.sofar
     l.initial.buf
     l.buf
@@ -38,8 +40,9 @@ invariant-eval_all-loop-left l =
 abbrev pub invariant-eval_any-loop : goal.invariant-eval_any-loop
 invariant-eval_any-loop l =
     Going
-    (ArmsLeft (any_left (carried l.self.outcomes) (table_of l.self.facts.now) l.self.words.now l.begun l.sofar l.buf) (read_any (carried l.self.outcomes) (table_of l.self.facts.now)) (table_of l.self.facts.now) l.self.words.now l.sofar l.buf l.next l.depth (l.arms - l.counter) (held l.consulted))
-    (EvaluatesBy (carried l.self.outcomes) (Any l.arms) (table_of l.self.facts.now) l.self.words.now l.at l.depth (held l.initial.consulted))
+    (ArmsLeft (any_left (carried l.self.outcomes) (table_of l.self.walk.facts.now) l.self.walk.words.now l.sofar l.buf) (read_any (carried l.self.outcomes) (table_of l.self.walk.facts.now)) (table_of l.self.walk.facts.now) l.self.walk.words.now l.sofar l.buf l.next l.depth (l.arms - l.counter) (held l.consulted))
+    (EvaluatesBy (carried l.self.outcomes) (Any l.arms) (table_of l.self.walk.facts.now) l.self.walk.words.now l.at l.depth (held l.initial.consulted))
+    Few
     l.sofar
     l.initial.buf
     l.buf

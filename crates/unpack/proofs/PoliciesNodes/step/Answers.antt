@@ -1,108 +1,57 @@
 -- `step` of Policies meets its contract. Assumes nothing.
-use mathlib.Core.Path.{sym, ◌∙◌, ap, subst}
-use Prim.Native.Nat.{◌-◌}
-use native.Mathlib.Omega.{arith}
-use lib.ListN.{drop, length-drop}
+use Rattle.std.proofs.Common.{◌≡◌, ◌-◌, Err, rules, true, sym, ap, subst, arith, length-drop}
 use Rattle.refusal.specs.Numbers.{by_number}
-use Rattle.model.specs.Bits.{run_of}
-use Rattle.laws.proofs.BitLaws.{length_run}
-use Rattle.unpack.specs.Answers.{Steps, plain_step, one_policy, all_policies}
-use Rattle.unpack.proofs.Fields.{bits_from}
-use mathlib.Core.Bool.{true}
 use Rattle.model.specs.Products.{last_kind}
-use Rattle.unpack.specs.StepLaws.{policy_bad, policy_deep, policy_ended}
-use Rattle.unpack.proofs.Steps.{here_ended, here_there, policy_steps, residual_true, down}
+use Rattle.unpack.specs.Answers.{Steps, one_policy, all_policies}
+use Rattle.unpack.proofs.Steps.{run, here, policy_short, lead_small, lead_kind, there, no_policy, deep_policy, plain_policy, residual_true, down}
 use Rattle.unpack.proofs.PoliciesNodes.step.Goals as goal
 
-pub overflow_add-at : goal.overflow_add-at
-overflow_add-at c = omega (arith, c.args.place.short, c.args.place.inside, length_run c.args.place.bytes.now)
-
-pub returns-then-ended : goal.returns-then-ended
-returns-then-ended c =
-    let bytes = c.args.place.bytes.now in
-    let run = run_of bytes in
-    let at = c.args.place.at in
-    let bits = bits_from bytes (λ i. omega (arith, c.args.place.octets i)) at in
-    policy_ended (drop at run) bits c.args.self.now.residual c.args.depth c.args.place.words (here_ended run at 4 _ c.ended.ensures c.if-ended.true c.args.place.inside)
+pub returns-in_err-lead : goal.returns-in_err-lead
+returns-in_err-lead c =
+    let e : c.from_residual.result ≡ Err c.in_err-lead.field-0.0 = search rules in
+    rw e (policy_short c.args.place c.args.self.now.residual c.args.depth _ c.in_err-lead.ensures)
 
 pub returns-then-kind-lt-KIND_PERMIT : goal.returns-then-kind-lt-KIND_PERMIT
-returns-then-kind-lt-KIND_PERMIT c =
-    let bytes = c.args.place.bytes.now in
-    let run = run_of bytes in
-    let at = c.args.place.at in
-    let bits = bits_from bytes (λ i. omega (arith, c.args.place.octets i)) at in
-    let lead = c.bits_at-lead.ensures.is in
-    policy_bad (drop at run) bits c.args.self.now.residual c.args.depth c.args.place.words (here_there run at 4 _ c.ended.ensures c.if-ended.false) (λ six. absurd (let z : ⊥ = omega (arith, lead, c.if-kind-lt-KIND_PERMIT.true, six) in z))
+returns-then-kind-lt-KIND_PERMIT c = no_policy c.args.place _ c.in_ok-lead.ensures c.args.self.now.residual c.args.depth (λ six. absurd (omega (arith, six, c.if-kind-lt-KIND_PERMIT.true)))
 
 pub returns-then-kind-last_kind : goal.returns-then-kind-last_kind
-returns-then-kind-last_kind c =
-    let bytes = c.args.place.bytes.now in
-    let run = run_of bytes in
-    let at = c.args.place.at in
-    let bits = bits_from bytes (λ i. omega (arith, c.args.place.octets i)) at in
-    let lead = c.bits_at-lead.ensures.is in
-    policy_bad (drop at run) bits c.args.self.now.residual c.args.depth c.args.place.words (here_there run at 4 _ c.ended.ensures c.if-ended.false) (λ six. omega (arith, lead, c.last_kind.ensures, c.if-kind-last_kind.true))
+returns-then-kind-last_kind c = no_policy c.args.place _ c.in_ok-lead.ensures c.args.self.now.residual c.args.depth (λ six. omega (arith, c.last_kind.ensures, c.if-kind-last_kind.true))
 
 pub returns-then-depth-eq0 : goal.returns-then-depth-eq0
-returns-then-depth-eq0 c =
-    let bytes = c.args.place.bytes.now in
-    let run = run_of bytes in
-    let at = c.args.place.at in
-    let bits = bits_from bytes (λ i. omega (arith, c.args.place.octets i)) at in
-    let lead = c.bits_at-lead.ensures.is in
-    ap (λ d. one_policy c.args.self.now.residual d c.args.place.words (drop at run)) c.if-depth-eq0.true
-    ∙ policy_deep (drop at run) bits c.args.self.now.residual c.args.place.words (here_there run at 4 _ c.ended.ensures c.if-ended.false) (omega (arith, lead, c.if-kind-lt-KIND_PERMIT.false)) (omega (arith, lead, c.last_kind.ensures, c.if-kind-last_kind.false))
+returns-then-depth-eq0 c = deep_policy c.args.place _ c.in_ok-lead.ensures c.args.self.now.residual c.args.depth c.if-depth-eq0.true (omega (arith, c.if-kind-lt-KIND_PERMIT.false)) (omega (arith, c.last_kind.ensures, c.if-kind-last_kind.false))
 
 pub grant_step-requires : goal.grant_step-requires
 grant_step-requires c =
-    let bytes = c.args.place.bytes.now in
-    let run = run_of bytes in
-    let at = c.args.place.at in
-    let bits = bits_from bytes (λ i. omega (arith, c.args.place.octets i)) at in
-    let lead = c.bits_at-lead.ensures.is in
-    let here = here_there run at 4 _ c.ended.ensures c.if-ended.false in
-    (omega (arith, c.requires, c.if-depth-eq0.false), omega (arith, lead, c.if-kind-eq-KIND_GRANT.true), omega (arith, here, length-drop at run))
+    let p = c.args.place in
+    (omega (arith, c.requires, c.if-depth-eq0.false), omega (arith, lead_kind p _ c.in_ok-lead.ensures, c.if-kind-eq-KIND_GRANT.true), omega (arith, there p _ c.in_ok-lead.ensures, length-drop p.at (run p)))
 
 pub returns-then-kind-eq-KIND_GRANT : goal.returns-then-kind-eq-KIND_GRANT
 returns-then-kind-eq-KIND_GRANT c =
-    let bytes = c.args.place.bytes.now in
-    let run = run_of bytes in
-    let at = c.args.place.at in
-    let bits = bits_from bytes (λ i. omega (arith, c.args.place.octets i)) at in
-    down c.if-depth-eq0.false (λ d. Steps run at d (one_policy c.args.self.now.residual d c.args.place.words (drop at run)) (all_policies c.args.self.now.residual (c.args.depth - 1)) (by_number c.grant_step.result)) (c.grant_step.ensures c.args.self.now.residual)
+    let p = c.args.place in
+    let res = c.args.self.now.residual in
+    down c.if-depth-eq0.false (λ d. Steps (run p) p.at d (one_policy res d p.words (here p)) (all_policies res (c.args.depth - 1)) (by_number c.grant_step.result)) (c.grant_step.ensures res)
 
 pub stored_step-requires : goal.stored_step-requires
 stored_step-requires c =
-    let bytes = c.args.place.bytes.now in
-    let run = run_of bytes in
-    let at = c.args.place.at in
-    let bits = bits_from bytes (λ i. omega (arith, c.args.place.octets i)) at in
-    let lead = c.bits_at-lead.ensures.is in
-    let here = here_there run at 4 _ c.ended.ensures c.if-ended.false in
+    let p = c.args.place in
     let k = c.last_kind.ensures in
-    let r = residual_true c.args.self.now.residual (omega (arith, k, c.if-kind-last_kind.false, c.if-kind-gt-KIND_OR_ELSE.true)) in
-    (omega (arith, lead), omega (arith, c.if-kind-gt-KIND_OR_ELSE.true), omega (arith, k, ap last_kind r, c.if-kind-last_kind.false), omega (arith, here, length-drop at run))
+    let r = residual_true c.args.self.now.residual (omega (arith, k, c.if-kind-last_kind.false, c.if-kind-gt-KIND_OR_ELSE.true)) in (
+      omega (arith, lead_kind p _ c.in_ok-lead.ensures),
+      omega (arith, c.if-kind-gt-KIND_OR_ELSE.true),
+      omega (arith, k, ap last_kind r, c.if-kind-last_kind.false),
+      omega (arith, there p _ c.in_ok-lead.ensures, length-drop p.at (run p)),
+    )
 
 pub returns-then-kind-gt-KIND_OR_ELSE : goal.returns-then-kind-gt-KIND_OR_ELSE
 returns-then-kind-gt-KIND_OR_ELSE c =
-    let bytes = c.args.place.bytes.now in
-    let run = run_of bytes in
-    let at = c.args.place.at in
-    let bits = bits_from bytes (λ i. omega (arith, c.args.place.octets i)) at in
-    let k = c.last_kind.ensures in
-    let r = residual_true c.args.self.now.residual (omega (arith, k, c.if-kind-last_kind.false, c.if-kind-gt-KIND_OR_ELSE.true)) in
-    subst (λ b. Steps run at c.args.depth (one_policy b c.args.depth c.args.place.words (drop at run)) (all_policies b (c.args.depth - 1)) (by_number c.stored_step.result)) (sym r)
-    (down c.if-depth-eq0.false (λ d. Steps run at d (one_policy true d c.args.place.words (drop at run)) (all_policies true (c.args.depth - 1)) (by_number c.stored_step.result)) (c.stored_step.ensures (c.args.depth - 1)))
+    let p = c.args.place in
+    let r = residual_true c.args.self.now.residual (omega (arith, c.last_kind.ensures, c.if-kind-last_kind.false, c.if-kind-gt-KIND_OR_ELSE.true)) in
+    subst (λ b. Steps (run p) p.at c.args.depth (one_policy b c.args.depth p.words (here p)) (all_policies b (c.args.depth - 1)) (by_number c.stored_step.result)) (sym r)
+    (down c.if-depth-eq0.false (λ d. Steps (run p) p.at d (one_policy true d p.words (here p)) (all_policies true (c.args.depth - 1)) (by_number c.stored_step.result)) (c.stored_step.ensures (c.args.depth - 1)))
+
+pub plain_step-requires : goal.plain_step-requires
+plain_step-requires c = lead_small c.args.place _ c.in_ok-lead.ensures
 
 pub returns : goal.returns
 returns c =
-    let bytes = c.args.place.bytes.now in
-    let run = run_of bytes in
-    let at = c.args.place.at in
-    let bits = bits_from bytes (λ i. omega (arith, c.args.place.octets i)) at in
-    let lead = c.bits_at-lead.ensures.is in
-    let depth = c.args.depth in
-    let words = c.args.place.words in
-    let res = c.args.self.now.residual in
-    subst (Steps run at depth (one_policy res depth words (drop at run)) (all_policies res (depth - 1))) (sym (c.plain_step.ensures ∙ ap (plain_step run at words) lead))
-    (policy_steps run at depth words res bits c.args.place.inside c.args.place.fewer c.if-depth-eq0.false (omega (arith, lead, c.if-kind-lt-KIND_PERMIT.false)) (λ z. c.if-kind-eq-KIND_GRANT.false (omega (arith, lead, z))) (omega (arith, lead, c.if-kind-gt-KIND_OR_ELSE.false)))
+    plain_policy c.args.place _ c.in_ok-lead.ensures c.args.self.now.residual c.args.depth _ c.plain_step.ensures c.if-depth-eq0.false (omega (arith, c.if-kind-lt-KIND_PERMIT.false)) c.if-kind-eq-KIND_GRANT.false (omega (arith, c.if-kind-gt-KIND_OR_ELSE.false))

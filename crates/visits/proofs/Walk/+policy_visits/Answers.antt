@@ -77,7 +77,7 @@ visit_policy-returns-in-PermitWithTrace t c =
     elim c.in-PermitWithTrace.is [
       | inl e ↦ no_permit_trace (table_of s.facts.now) s.words.now a.at s.allowance a.nodes a.depth c.if-self-at.false c.if-depth-eq0.false _ _ _ (sym e.2 ∙ c.policy_head.ensures)
       | inr d ↦ elim d [
-        | inl e ↦ no_deny_trace (table_of s.facts.now) s.words.now a.at s.allowance a.nodes a.depth c.if-self-at.false c.if-depth-eq0.false _ _ _ _ (sym e.3 ∙ c.policy_head.ensures)
+        | inl e ↦ no_deny_trace (table_of s.facts.now) s.words.now a.at s.allowance a.nodes a.depth c.if-self-at.false c.if-depth-eq0.false _ _ _ (sym e.2 ∙ c.policy_head.ensures)
         | inr b ↦ elim b [
           | inl e ↦ bad_kind (table_of s.facts.now) s.words.now a.at s.allowance a.nodes a.depth c.if-self-at.false c.if-depth-eq0.false _ (sym e ∙ c.policy_head.ensures)
           | inr e ↦ bad_field (table_of s.facts.now) s.words.now a.at s.allowance a.nodes a.depth c.if-self-at.false c.if-depth-eq0.false _ (sym e ∙ c.policy_head.ensures)

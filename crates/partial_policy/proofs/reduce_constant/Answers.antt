@@ -1,7 +1,0 @@
--- `partial_policy::reduce_constant` meets its contract. Assumes nothing.
-use mathlib.Core.Path.{refl}
-use Rattle.partial_policy.proofs.reduce_constant.Goals as goal
-
-pub returns : goal.returns
-returns c =
-    rw c.resolved.ensures (record { eval = c.eval_policy-eval.result; is = refl; evaluates = c.eval_policy-eval.ensures })

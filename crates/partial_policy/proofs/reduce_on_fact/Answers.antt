@@ -1,7 +1,0 @@
--- `partial_policy::reduce_on_fact` meets its contract. Assumes nothing.
-use Rattle.partial_policy.proofs.Nodes.{reduce_plain}
-use Rattle.partial_policy.proofs.reduce_on_fact.Goals as goal
-
-pub returns : goal.returns
-returns c =
-    λ g order depth buf room out. rw c.granted.ensures (reduce_plain _ _ _ depth _ _ _ buf room out c.requires c.eval_has-satisfied.ensures)

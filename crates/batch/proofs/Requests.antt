@@ -3,12 +3,12 @@ use mathlib.Core.Path.{◌≡◌, refl, sym, ap, subst}
 use mathlib.Core.Bool.{Bool, true, cond, and-eq-true_iff}
 use mathlib.Core.Option.{Option, some}
 use mathlib.Core.List.{List, [], ◌∷◌, ◌++◌}
-use Prim.Native.Nat.{ℕ, ◌-◌, ◌%◌, ◌^◌, ◌≤◌, ◌<◌}
+use Prim.Native.Nat.{ℕ, ◌%◌, ◌^◌, ◌≤◌, ◌<◌}
 use native.Mathlib.Omega.{arith}
 use borrow.Author.Tests.{le-leb, lt-leb}
 use lib.Dec.{leb}
 use lib.ListN.{length, take, drop, get_or, length-append, length-take, length-drop}
-use lib.Seq.{length-take-le, take_all}
+use lib.Seq.{length-take-le}
 use Rattle.model.specs.Facts.{table_of, table_bytes, known_facts, table_fault, first_fault, table_fields}
 use Rattle.model.specs.Outcome.{Outcomes}
 use Rattle.model.specs.Reading.{sheet_words, sheet_length, read_sheet}
@@ -23,10 +23,6 @@ use Rattle.refusal.specs.declared.Refusal.TheVariants as refusal
 use Rattle.batch.specs.declared.Decided.{Decided}
 use Rattle.batch.specs.Answers.{handed, Replies}
 use Rattle.batch.proofs.Bytes.{length_bytes}
-
--- ---- what a slice from a place on holds
-pub from_there : (k : ℕ) (ws : List ℕ) → take (length ws - k) (drop k ws) ≡ drop k ws
-from_there k ws = take_all (length ws - k) (drop k ws) (omega (arith, length-drop k ws))
 
 -- ---- a length beyond the table's bytes
 long_table : (ws : List ℕ) (n : ℕ) → length ws ≡ 64 → 256 < n → table_fault known_facts (table_in n ws) ≡ some 2

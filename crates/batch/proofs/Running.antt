@@ -1,17 +1,19 @@
 -- A turn of the loop over requests: what the requests so far left, and the replies to those still to come. Assumes nothing.
-use mathlib.Core.Path.{◌≡◌, refl, sym, ◌∙◌, ap, subst}
+use mathlib.Core.Path.{◌≡◌, refl, sym, ◌∙◌, ap, ap₂, subst}
 use mathlib.Core.Bool.{true}
 use mathlib.Core.Option.{Option, none, some}
-use mathlib.Core.List.{List, [], ◌∷◌, ◌++◌, append_assoc, append-nil}
-use Prim.Native.Nat.{ℕ, suc, ◌+◌, ◌-◌, ◌*◌, ◌/◌, ◌≤◌, ◌<◌}
+use mathlib.Core.List.{List, [], ◌∷◌, ◌++◌, map, append_assoc, append-nil}
+use Prim.Native.Nat.{ℕ, zero, suc, ◌+◌, ◌-◌, ◌/◌, ◌%◌, ◌^◌, ◌≤◌, ◌<◌}
 use native.Mathlib.Omega.{arith}
-use lib.ListN.{length, take, drop, set, length-append, length-drop, take-append-drop, drop_of_length-le}
-use lib.Seq.{length-take-le, take-suc-set, drop-set-lt, drop-drop, take_all, take_at, drop_at}
+use lib.ListN.{length, take, drop, get_or, set, length-append, length-drop, take-append-drop, drop_of_length-le}
+use lib.Seq.{length-take-le, take-suc-set, take-take, get_or-take, drop-set-lt, drop-drop, drop-cons, take_all, take_at, drop_at}
+use Rattle.std.proofs.lemmas.List.{drop-take}
+use Rattle.std.specs.Simd.{first_chunks}
 use Rattle.model.specs.Outcome.{Outcomes}
 use Rattle.model.specs.Reading.{record_words}
 use Rattle.model.specs.Register.{Entry, in_force}
 use Rattle.model.specs.Batch as model
-use Rattle.model.specs.Batch.{Handed, handed_over, Request, request_words, request_of, requests_of, request_count, nodes_of, record_of, reply_number, records_of, numbers_of, answers, output_after, replies_after, of_entry, reply, replies}
+use Rattle.model.specs.Batch.{Handed, handed_over, Request, length_bits, table_words, request_words, table_in, request_of, requests_of, nodes_of, record_of, reply_number, records_of, numbers_of, answers, output_after, replies_after, of_entry, reply, replies}
 use Rattle.laws.proofs.BatchLaws.{decided_within, decided_fits, decided_few}
 use Rattle.std.specs.Prelude.{Option as Maybe, Result, Ok}
 use Rattle.refusal.specs.declared.Refusal.{Refusal}
@@ -94,60 +96,60 @@ module _ (out rec : List ℕ) (used : ℕ) (h : used ≤ length out) where
       let X = drop (length (rec ++ rs)) (drop used out) in
       sym (ap (λ l. take (used + length rec) Put ++ (rs ++ l)) tail ∙ ap (λ l. l ++ (rs ++ X)) taken ∙ append_assoc (take used out) rec (rs ++ X) ∙ ap (λ l. take used out ++ l) (sym (append_assoc rec rs X)))
 
--- ---- the invariant
-abbrev pub rest : List ℕ → List Request
-rest ws = requests_of (request_count ws) ws
+-- ---- the requests as chunks
+request_first : (ws : List ℕ) → request_of ws ≡ request_of (take request_words ws)
+request_first ws =
+    let lead = sym (get_or-take request_words ws 0 0 (omega arith)) in
+    let day = sym (get_or-take request_words ws 1 0 (omega arith)) in
+    let table : take table_words (drop 2 ws) ≡ take table_words (drop 2 (take request_words ws)) = sym (ap (take table_words) (drop-take 2 table_words ws) ∙ take-take table_words table_words (drop 2 ws) (omega arith)) in
+    λ i. record { group = lead i / 2 ^ length_bits; day = day i; facts = table_in (lead i % 2 ^ length_bits) (table i) }
 
+pub requests_are : (n : ℕ) (ws : List ℕ) → requests_of n ws ≡ map request_of (first_chunks request_words n ws)
+requests_are zero ws = refl
+requests_are (suc n) ws = ap₂ (λ q qs. q ∷ qs) (request_first ws) (requests_are n (drop request_words ws))
+
+-- ---- the invariant
 pub record Sofar (all to_come_lem : List model.Reply) (places₀ out₀ places out : List ℕ) (used i : ℕ) : Type 0 where
   pub numbers : replies_after (answers all) places₀ ≡ take i places ++ replies_after (answers to_come_lem) (drop i places)
   pub records : output_after (answers all) out₀ ≡ take used out ++ output_after (answers to_come_lem) (drop used out)
   pub words : length (records_of all) ≡ used + length (records_of to_come_lem)
 
-abbrev pub ToCome : Outcomes → List Entry → List Handed → List ℕ → List ℕ → ℕ → ℕ → ℕ → List model.Reply
-ToCome L es hs requests out left used i = replies L es hs left (length (drop used out)) (rest (drop (i * request_words) requests))
+abbrev pub ToCome : Outcomes → List Entry → List Handed → List (List ℕ) → List ℕ → ℕ → ℕ → ℕ → List model.Reply
+ToCome L es hs whole out left used i = replies L es hs left (length (drop used out)) (map request_of (drop i whole))
 
 -- What holds at the loop's test.
-pub record Standing (L : Outcomes) (es : List Entry) (sheets requests : List ℕ) (allowance : ℕ) (places₀ out₀ places out : List ℕ) (left used i : ℕ) : Type 0 where
+pub record Standing (L : Outcomes) (es : List Entry) (sheets : List ℕ) (whole : List (List ℕ)) (allowance : ℕ) (places₀ out₀ places out : List ℕ) (left used i : ℕ) : Type 0 where
   pub inside : used ≤ length out
   pub same_out : length out ≡ length out₀
   pub same_places : length places ≡ length places₀
-  pub sofar : (hs : List Handed) → handed_over sheets ≡ some hs → Sofar (replies L es hs allowance (length out₀) (rest requests)) (ToCome L es hs requests out left used i) places₀ out₀ places out used i
+  pub sofar : (hs : List Handed) → handed_over sheets ≡ some hs → Sofar (replies L es hs allowance (length out₀) (map request_of whole)) (ToCome L es hs whole out left used i) places₀ out₀ places out used i
 
-module _ (L : Outcomes) (es : List Entry) (hs : List Handed) (requests out : List ℕ) (left used i : ℕ) where
+module _ (L : Outcomes) (es : List Entry) (hs : List Handed) (whole : List (List ℕ)) (out : List ℕ) (left used i : ℕ) where
   abbrev Now : model.Reply
-  Now = reply L es hs left (length (drop used out)) (request_of (drop (i * request_words) requests))
+  Now = reply L es hs left (length (drop used out)) (request_of (get_or whole i []))
 
   abbrev Later : List model.Reply
-  Later = replies L es hs (left - nodes_of Now) (length (drop used out) - length (record_of Now)) (rest (drop ((i + 1) * request_words) requests))
+  Later = replies L es hs (left - nodes_of Now) (length (drop used out) - length (record_of Now)) (map request_of (drop (i + 1) whole))
 
-  one_more : i * request_words + request_words ≤ length requests → ToCome L es hs requests out left used i ≡ Now ∷ Later
-  one_more h =
-      let ws = drop (i * request_words) requests in
-      let room = length (drop used out) in
-      let count : request_count ws ≡ suc (request_count (drop request_words ws)) = omega (arith, length-drop (i * request_words) requests, length-drop request_words ws) in
-      let further : i * request_words + request_words ≡ (i + 1) * request_words = omega arith in
-      ap (λ n. replies L es hs left room (requests_of n ws)) count
-      ∙ ap (λ v. Now ∷ replies L es hs (left - nodes_of Now) (room - length (record_of Now)) (rest v)) (drop-drop request_words (i * request_words) requests ∙ ap (λ k. drop k requests) further)
+  one_more : i < length whole → ToCome L es hs whole out left used i ≡ Now ∷ Later
+  one_more h = ap (λ qs. replies L es hs left (length (drop used out)) (map request_of qs)) (drop-cons whole i [] h ∙ ap (λ k. get_or whole i [] ∷ drop k whole) (let e : suc i ≡ i + 1 = omega arith in e))
 
-  pub no_more : length requests / request_words ≤ i → ToCome L es hs requests out left used i ≡ []
-  no_more h =
-      let ws = drop (i * request_words) requests in
-      let none : request_count ws ≡ 0 = omega (arith, length-drop (i * request_words) requests) in
-      ap (λ n. replies L es hs left (length (drop used out)) (requests_of n ws)) none
+  pub no_more : length whole ≤ i → ToCome L es hs whole out left used i ≡ []
+  no_more h = ap (λ qs. replies L es hs left (length (drop used out)) (map request_of qs)) (drop_of_length-le whole h)
 
-  module _ (all : List model.Reply) (places₀ out₀ places : List ℕ) (sofar : Sofar all (ToCome L es hs requests out left used i) places₀ out₀ places out used i)
-      (h : i * request_words + request_words ≤ length requests) (k : i < length places) (l : used ≤ length out) where
+  module _ (all : List model.Reply) (places₀ out₀ places : List ℕ) (sofar : Sofar all (ToCome L es hs whole out left used i) places₀ out₀ places out used i)
+      (h : i < length whole) (k : i < length places) (l : used ≤ length out) where
     abbrev After : List ℕ
     After = Put out (record_of Now) used l
 
     abbrev Lent : List ℕ
     Lent = take (length out - used) (drop used out)
 
-    later : Later ≡ ToCome L es hs requests After (left - nodes_of Now) (used + length (record_of Now)) (i + 1)
+    later : Later ≡ ToCome L es hs whole After (left - nodes_of Now) (used + length (record_of Now)) (i + 1)
     later =
         let room : length (drop used out) - length (record_of Now) ≡ length (drop (used + length (record_of Now)) After) =
         sym (ap length (dropped out (record_of Now) used l) ∙ length-drop (length (record_of Now)) (drop used out)) in
-        ap (λ n. replies L es hs (left - nodes_of Now) n (rest (drop ((i + 1) * request_words) requests))) room
+        ap (λ n. replies L es hs (left - nodes_of Now) n (map request_of (drop (i + 1) whole))) room
 
     by_later : Sofar all Later places₀ out₀ (set places i (reply_number Now)) After (used + length (record_of Now)) (i + 1)
     by_later =
@@ -157,18 +159,18 @@ module _ (L : Outcomes) (es : List Entry) (hs : List Handed) (requests out : Lis
           words = omega (arith, sofar.words, ap (λ rs. length (records_of rs)) (one_more h), length-append (record_of Now) (records_of Later));
         }
 
-    exactly : Sofar all (ToCome L es hs requests After (left - nodes_of Now) (used + length (record_of Now)) (i + 1)) places₀ out₀ (set places i (reply_number Now)) After (used + length (record_of Now)) (i + 1)
+    exactly : Sofar all (ToCome L es hs whole After (left - nodes_of Now) (used + length (record_of Now)) (i + 1)) places₀ out₀ (set places i (reply_number Now)) After (used + length (record_of Now)) (i + 1)
     exactly = rw (← later) by_later
 
     -- After the turn that gave this reply: what was left of the output was lent, and comes back in its place.
-    pub next : {part : List ℕ} {r : Result (Maybe Decided) Refusal} (number : ℕ) (took : Decided) → Replies (reply L es hs left (length Lent) (request_of (drop (i * request_words) requests))) Lent part r →
+    pub next : {part : List ℕ} {r : Result (Maybe Decided) Refusal} (number : ℕ) (took : Decided) → Replies (reply L es hs left (length Lent) (request_of (get_or whole i []))) Lent part r →
         number ≡ number_of (by_number r) → took ≡ takes (by_number r) → let out' = take used out ++ (part ++ drop (length out - used) (drop used out)) in
-        Sofar all (ToCome L es hs requests out' (left - took.nodes) (used + took.words) (i + 1)) places₀ out₀ (set places i number) out' (used + took.words) (i + 1)
+        Sofar all (ToCome L es hs whole out' (left - took.nodes) (used + took.words) (i + 1)) places₀ out₀ (set places i number) out' (used + took.words) (i + 1)
     next {part} {r} number took lent p t =
         let long = length-drop used out in
         let all-lent : Lent ≡ drop used out = take_all (length out - used) (drop used out) (omega arith) in
         let none_kept : drop (length out - used) (drop used out) ≡ [] = drop_of_length-le (drop used out) {i = length out - used} (omega arith) in
-        let a = subst (λ x. Replies (reply L es hs left (length x) (request_of (drop (i * request_words) requests))) x part r) all-lent lent in
+        let a = subst (λ x. Replies (reply L es hs left (length x) (request_of (get_or whole i []))) x part r) all-lent lent in
         let p' : number ≡ reply_number Now = p ∙ ap number_of a.reply_is ∙ number_meant Now in
         let o' : take used out ++ (part ++ drop (length out - used) (drop used out)) ≡ After = ap (λ x. take used out ++ (part ++ x)) none_kept ∙ ap (λ x. take used out ++ x) (append-nil part ∙ a.output_is) in
         let n' : took.nodes ≡ nodes_of Now = ap (λ (d : Decided). d.nodes) t ∙ ap (λ x. (takes x).nodes) a.reply_is ∙ nodes_meant Now in

@@ -8,7 +8,7 @@ ghost use Rattle.model.specs.Writing.{sheet_bits};
 ghost use Rattle.model.specs.Reading.{record_words};
 ghost use Rattle.model.specs.Register.{register_words, entries_of};
 ghost use Rattle.model.specs.Levels.{outcomes_of};
-ghost use Rattle.model.specs.Batch.{table_words, request_words, table_in, request_of, requests_of, request_count, Handed, handed_over, is_batch, decide_by, reply, answers, batch, evaluate_batch};
+ghost use Rattle.model.specs.Batch.{table_words, table_in, request_of, requests_of, request_count, Handed, handed_over, is_batch, decide_by, reply, answers, batch, evaluate_batch};
 ghost use Rattle.model.specs.Batch.{replies as batch_replies};
 ghost use Rattle.outcome.specs.Carried.{table, carried};
 ghost use Rattle.refusal.specs.Numbers.{by_number};
@@ -124,11 +124,11 @@ fn decide_request(
     outcomes: Option<OutcomeTable<'_>>,
     sheet: &[u32],
     number: u32,
-    request: &[u32],
+    request: &[u32; REQUEST_WORDS],
     left: u32,
     out: &mut [u32],
 ) -> Reply
-    requires { (number < 2 ^ sheet_bits) × (request_words ≤ list_length request.now) }
+    requires { number < 2 ^ sheet_bits }
     ensures { Replies (decide_by (outcomes_of (carried outcomes.entry)) (some (handed number sheet.now)) (request_of request.now).facts left (list_length out.old)) out.old out.new result }
 {
     let length = (request[0] % LENGTHS) as usize;
@@ -153,7 +153,7 @@ fn taken(reply: Reply) -> Decided
     }
 }
 
-// A reply as one number.
+// A reply as one number, as the C interface has it: 0 where no sheet decides.
 fn number_of(reply: Reply) -> u64
     requires { (taken (by_number reply)).words ≤ record_words }
     ensures { result ≡ number_of (by_number reply) }
@@ -161,15 +161,15 @@ fn number_of(reply: Reply) -> u64
     match reply {
         Ok(None) => 0,
         Ok(Some(decided)) => u64::from(decided.nodes) * 65536 + decided.words as u64,
-        Err(cause) => u64::from(cause.number()) * 4294967296,
+        Err(cause) => cause.high_half(),
     }
 }
 
 impl Desk<'_> {
     // The reply to a request: none where no sheet is in force or that one wasn't handed over.
     #[tactic(auto, using(crate::proofs::Handed::found))]
-    fn reply_to(&self, request: &[u32], left: u32, out: &mut [u32]) -> Reply
-        requires { (list_length self.now.entries.now ≤ register_words) × (request_words ≤ list_length request.now) }
+    fn reply_to(&self, request: &[u32; REQUEST_WORDS], left: u32, out: &mut [u32]) -> Reply
+        requires { list_length self.now.entries.now ≤ register_words }
         ensures { (hs : List Handed) → handed_over self.now.sheets.now ≡ some hs → Replies (reply (outcomes_of (carried self.now.outcomes)) (entries_of self.now.entries.now) hs left (list_length out.old) (request_of request.now)) out.old out.new result }
     {
         let Some(entry) = register::in_force(self.entries, request[0] / LENGTHS, request[1]) else {
@@ -188,8 +188,9 @@ impl Desk<'_> {
     {
         let mut left = allowance;
         let mut used = 0;
-        for i in 0..requests.len() / REQUEST_WORDS {
-            let reply = self.reply_to(&requests[i * REQUEST_WORDS..], left, &mut out[used..]);
+        let whole = requests.as_chunks::<REQUEST_WORDS>().0;
+        for (i, request) in whole.iter().enumerate() {
+            let reply = self.reply_to(request, left, &mut out[used..]);
             replies[i] = number_of(reply);
             let taken = taken(reply);
             left -= taken.nodes;
@@ -224,7 +225,7 @@ impl Desk<'_> {
     }
 }
 
-// Runs a batch, and returns the words written in all. Two functions, one for each exported call.
+// Runs a batch, and returns the words written in all. Beside it is one by an outcome table, since that one judges its table first.
 pub fn evaluate_batch<'a>(
     entries: &'a [u32],
     sheets: &'a [u32],

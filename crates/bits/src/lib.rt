@@ -74,13 +74,6 @@ pub fn denied_bits(word: u32) -> u32
     }
 }
 
-// A byte, 0 past the end.
-fn byte_at(bytes: &[u8], at: usize) -> u8
-    ensures { result ≡ get_or bytes.now at 0 }
-{
-    bytes.get(at).copied().unwrap_or(0)
-}
-
 // Four bytes as one number, 0 past the end: one test where all are there, as they nearly always are.
 fn window_at(bytes: &[u8], at: usize) -> u32
     requires { at < 2 ^ 62 }
@@ -91,10 +84,10 @@ fn window_at(bytes: &[u8], at: usize) -> u32
         return u32::from_be_bytes([bytes[at], bytes[at + 1], bytes[at + 2], bytes[at + 3]]);
     }
     u32::from_be_bytes([
-        byte_at(bytes, at),
-        byte_at(bytes, at + 1),
-        byte_at(bytes, at + 2),
-        byte_at(bytes, at + 3),
+        policy_model::value_at(bytes, at, 0),
+        policy_model::value_at(bytes, at + 1, 0),
+        policy_model::value_at(bytes, at + 2, 0),
+        policy_model::value_at(bytes, at + 3, 0),
     ])
 }
 
@@ -108,25 +101,16 @@ pub fn bits_at(bytes: &[u8], at: usize, width: u32) -> u32
     ((u64::from(window_at(bytes, at / 8)) >> (32 - skipped - width)) % (1 << width)) as u32
 }
 
-// Stores the first `count` of a number's four bytes. By shifts, since a copy of so few bytes is a call that costs more than the loop.
-fn put_few(window: u32, count: usize, out: &mut [u8])
-    requires { (count ≤ 4) × (count ≤ length out.old) }
-    ensures { Stored count window out.old out.new }
-{
-    for i in 0..count {
-        out[i] = ((window >> (24 - 8 * i)) % 256) as u8;
-    }
-}
-
-// The same, but all four where there is room, as there nearly always is: the end of a loop of 1 to 4 turns is mispredicted.
+// Stores the first `count` of a number's four bytes, and all four where there is room, as there nearly always is: a copy of 1 to 4 is mispredicted.
 fn put_bytes(window: u32, count: usize, out: &mut [u8])
     requires { (count ≤ 4) × (count ≤ length out.old) }
     ensures { Stored count window out.old out.new }
 {
+    let bytes = window.to_be_bytes();
     if out.len() < 4 {
-        put_few(window, count, out);
+        out[..count].copy_from_slice(&bytes[..count]);
     } else {
-        out[..4].copy_from_slice(&window.to_be_bytes());
+        out[..4].copy_from_slice(&bytes);
     }
 }
 
@@ -138,7 +122,8 @@ pub fn put_bits(out: &mut [u8], at: usize, width: u32, value: u32) -> usize
 {
     let skipped = (at % 8) as u32;
     let count = (skipped + width + 7) / 8;
-    let kept = (u64::from(byte_at(out, at / 8)) >> (8 - skipped)) << (8 - skipped);
+    let kept = (u64::from(policy_model::value_at(out, at / 8, 0)) >> (8 - skipped))
+        << (8 - skipped);
     let field = (u64::from(value) % (1 << width)) << (32 - width);
     let window = (kept << 24) + (field >> skipped);
     put_bytes(window as u32, count as usize, &mut out[at / 8..]);

@@ -66,7 +66,7 @@ impl Date {
             && self.day <= month_days(self.year, self.month)
     }
 
-    // Year, month and day all 0.
+    // Year, month and day all 0: so document 02 has a date that is unknown, in place of none.
     pub fn is_unknown(self) -> bool
         ensures { result ≡ unknown_date (date_of self) }
     {

@@ -3,16 +3,14 @@ use mathlib.Core.Path.{◌≡◌, refl, ap}
 use mathlib.Core.Bool.{false}
 use mathlib.Core.Option.{Option, none, some}
 use mathlib.Core.List.{List, []}
-use Prim.Native.Nat.{ℕ, ◌^◌, ◌≤◌, ◌<◌}
+use Prim.Native.Nat.{ℕ, ◌≤◌}
 use native.Mathlib.Omega.{arith}
-use borrow.Author.Tests.{ltb-true}
 use lib.ListN.{length, drop}
 use Rattle.std.specs.Prelude.{Err}
 use Rattle.model.specs.Facts.{TableKind, table_fault}
 use Rattle.model.specs.Policy.{Policy}
 use Rattle.model.specs.Consulted.{Consulted}
 use Rattle.model.specs.Record.{Record}
-use Rattle.model.specs.Writing.{sheet_bits}
 use Rattle.model.specs.Reading.{Parsed, refuse, got, sheet_words, record_words, sheet_length}
 use Rattle.model.specs.Calls as model
 use Rattle.model.specs.Calls.{is_sheet_number}

@@ -1,5 +1,7 @@
-// The calls that write a record, after gatekeep's evaluate and partial: words and bytes in, a record of words out, or a refusal that leaves the output as it was.
-// Each is a function for sets of products, of a reduction one for each order, and one by an outcome table, since the C interface exports one for each.
+// The calls that write a record, after gatekeep's evaluate and partial: words and bytes in, a record of words out, or a refusal that leaves the output as it
+// was. Each call is a function for sets of products and one by an outcome table, since that one judges its table first. A reduction takes the order of what it
+// leaves. A table's levels and bytes are two parameters, as the C interface has them. An `Evaluation` is made by a literal where it is lent: a function would
+// hand back what it is given.
 #![tactic(auto)]
 
 ghost use Rattle.std.specs.Prelude.{◌≡◌, ◌≤◌, length};
@@ -9,7 +11,6 @@ ghost use Rattle.outcome.specs.Carried.{table, carried};
 ghost use Rattle.model.specs.Facts.{table_of};
 ghost use Rattle.model.specs.Levels.{outcome_count};
 ghost use Rattle.model.specs.Levels as model;
-ghost use Rattle.model.specs.Partial.{permits_first, sheet_order};
 ghost use Rattle.model.specs.Reading.{record_words};
 ghost use Rattle.model.specs.Calls.{has_number, is_sheet_number};
 ghost use Rattle.model.specs.Products.{evaluate_by, partial_evaluate_by, narrow_residual_by, complete_residual_by};
@@ -54,7 +55,7 @@ fn check_record(words: &[u32], number: u32, most: u32) -> Result<RecordHead, Ref
     }
 }
 
-// Judges a sheet and its table: the length, the table, the words, the number.
+// Judges a sheet and its table: the length, the table, the words, the number. `policy_model` judges the length too, but after the table.
 pub fn judge_sheet(
     sheet: &[u32],
     number: u32,
@@ -172,26 +173,20 @@ fn partial_evaluate_by(
     answer::under_number(reduced, number, out)
 }
 
-// Reduces a sheet, with permits first in a list that is left.
-pub fn partial_evaluate(sheet: &[u32], number: u32, facts: &[u8], out: &mut [u32]) -> Answer
-    ensures { Answered (partial_evaluate_by none permits_first number sheet.now facts.now (length out.old)) out.old out.new result }
-{
-    partial_evaluate_by(None, sheet, number, Order::PermitsFirst, facts, out)
-}
-
-// Reduces a sheet, and leaves arms in sheet order.
-pub fn partial_evaluate_in_order(
+// Reduces a sheet, with permits first or in sheet order.
+pub fn partial_evaluate(
     sheet: &[u32],
     number: u32,
+    order: Order,
     facts: &[u8],
     out: &mut [u32],
 ) -> Answer
-    ensures { Answered (partial_evaluate_by none sheet_order number sheet.now facts.now (length out.old)) out.old out.new result }
+    ensures { Answered (partial_evaluate_by none (order_of order) number sheet.now facts.now (length out.old)) out.old out.new result }
 {
-    partial_evaluate_by(None, sheet, number, Order::SheetOrder, facts, out)
+    partial_evaluate_by(None, sheet, number, order, facts, out)
 }
 
-// Reduces a sheet by an outcome table, with permits first or in sheet order.
+// The same by an outcome table.
 pub fn partial_evaluate_by_levels(
     levels: u32,
     outcomes: &[u8],
@@ -238,21 +233,20 @@ fn narrow_residual_by(
     }
 }
 
-// Narrows a record, with permits first in a list that is left.
-pub fn narrow_residual(words: &[u32], number: u32, facts: &[u8], out: &mut [u32]) -> Answer
-    ensures { Answered (narrow_residual_by none permits_first number words.now facts.now (length out.old)) out.old out.new result }
+// Narrows a record, with permits first or in sheet order.
+pub fn narrow_residual(
+    words: &[u32],
+    number: u32,
+    order: Order,
+    facts: &[u8],
+    out: &mut [u32],
+) -> Answer
+    ensures { Answered (narrow_residual_by none (order_of order) number words.now facts.now (length out.old)) out.old out.new result }
 {
-    narrow_residual_by(None, words, number, Order::PermitsFirst, facts, out)
+    narrow_residual_by(None, words, number, order, facts, out)
 }
 
-// Narrows a record, and leaves arms in sheet order.
-pub fn narrow_residual_in_order(words: &[u32], number: u32, facts: &[u8], out: &mut [u32]) -> Answer
-    ensures { Answered (narrow_residual_by none sheet_order number words.now facts.now (length out.old)) out.old out.new result }
-{
-    narrow_residual_by(None, words, number, Order::SheetOrder, facts, out)
-}
-
-// Narrows a record by an outcome table, with permits first or in sheet order.
+// The same by an outcome table.
 pub fn narrow_residual_by_levels(
     levels: u32,
     outcomes: &[u8],

@@ -1,5 +1,5 @@
 -- For callers: what is gathered for a decision, how many words its node takes, and whether its lists can be counted.
-use Rattle.std.specs.Prelude.{◌≡◌, Bool, cond, ◌&&◌, List, ℕ, ◌+◌, ◌≤◌, length, take}
+use Rattle.std.specs.Prelude.{◌≡◌, Bool, cond, Option, ◌&&◌, List, ℕ, ◌+◌, ◌≤◌, length, take}
 use Rattle.std.proofs.Math.Path.{refl, ap, ap₂}
 use Rattle.std.proofs.Common.{sym, ◌∙◌, arith, leb-true, length-take-le}
 use Rattle.std.proofs.Math.Bool.{true, false}
@@ -24,7 +24,7 @@ use Rattle.clause.specs.Answers.{ClauseFacts, Gathered}
 pub held_taken : {words : List ℕ} {buf os : List ℕ} {d : Decision} {held : ℕ} → Held words d buf os held → list_room ≤ length os → length (take held os) ≡ held
 held_taken {os = os} {held = held} h wide = length-take-le held os (omega (arith, h.few))
 
-pub named_taken : {words : List ℕ} {T : Table} {at : ℕ} {fs : List ℕ} {count : ℕ} → ClauseFacts words T at fs count → length (take count fs) ≡ count
+pub named_taken : {words : List ℕ} {T : Table} {node : Option ℕ} {fs : List ℕ} {count : ℕ} → ClauseFacts words T node fs count → length (take count fs) ≡ count
 named_taken {fs = fs} {count = count} f = length-take-le count fs f.within
 
 -- From `decision::obligations` and `clause_facts`.

@@ -29,9 +29,9 @@ use Rattle.policy_model.specs.declared.PolicyHead.TheVariants.{Permit, Deny, Gra
 use Rattle.policy_model.specs.Heads.{policy_head, bit_of, denied_by, grant_node, permit_trace_node, deny_trace_node, policy_node}
 use Rattle.policy_model.proofs.Skipping.{grant_says}
 use Rattle.grant.specs.Fields.{obligations_at, before_condition_at}
-use Rattle.decision.specs.Nodes.{named, clause_of_d, clause_of, clause_read, clause_at}
-use Rattle.decision.specs.Meaning.{Names, past, reads}
-use Rattle.decision.proofs.Nodes.{node_there, no_clause}
+use Rattle.decision.specs.Nodes.{reached, named, clause_of_d, clause_of, clause_read, clause_at}
+use Rattle.decision.specs.Meaning.{Stands, past, reads, Names}
+use Rattle.decision.proofs.Nodes.{node_there, reached_is, no_clause}
 use Rattle.decisive.specs.declared.Named.{Named}
 use Rattle.decisive.specs.Naming.{eval_of, Decisive}
 use Rattle.decisive.specs.NamingLaws.{told}
@@ -158,15 +158,21 @@ abbrev policy_below : List ℕ → Parsed (Policy Outcome)
 policy_below vs = read_policy true 31 vs
 
 -- What holds of the clause of every node that reads with this head holds of the clause there.
-clause_has : (words : List ℕ) (at : ℕ) (T : Table) (h : PolicyHead) (Q : Denial Outcome → Type 0) → at < length words → h ≡ policy_head (get_or words at 0) true →
-    Holds (λ t _. Q (clause_of T t)) (policy_node condition_below policy_below h (drop (at + 1) words)) → Names words at → Q (clause_at words T at)
+clause_there : (words : List ℕ) (at : ℕ) (T : Table) (h : PolicyHead) (Q : Denial Outcome → Type 0) → at < length words → h ≡ policy_head (get_or words at 0) true →
+    Holds (λ t _. Q (clause_of T t)) (policy_node condition_below policy_below h (drop (at + 1) words)) → Stands words at → Q (clause_at words T (prelude.Some at))
 unfolding clause_at
-clause_has words at T h Q here e k (past p) = let z : ⊥ = omega arith in absurd z
-clause_has words at T h Q here e k (reads t vs r) =
+clause_there words at T h Q here e k (past p) = let z : ⊥ = omega arith in absurd z
+clause_there words at T h Q here e k (reads t vs r) =
     let there : policy_node condition_below policy_below h (drop (at + 1) words) ≡ got t vs =
     ap (λ x. policy_node condition_below policy_below x (drop (at + 1) words)) e ∙ sym (node_there words at here) ∙ r in
     let k₁ : Holds (λ t _. Q (clause_of T t)) (got t vs) = subst (Holds (λ t _. Q (clause_of T t))) there k in
     subst (λ q. Q (clause_read T q)) (sym r) k₁.it
+
+clause_has : (words : List ℕ) (place : prelude.Option ℕ) (at : ℕ) (T : Table) (h : PolicyHead) (Q : Denial Outcome → Type 0) → prelude.Some at ≡ reached words place →
+    h ≡ policy_head (get_or words at 0) true → Holds (λ t _. Q (clause_of T t)) (policy_node condition_below policy_below h (drop (at + 1) words)) → Names words place → Q (clause_at words T place)
+clause_has words place at T h Q reach e k =
+    let r = reached_is words place at reach in
+    rw r.0 (clause_there words at T h Q r.1 e k)
 
 -- Words after the first ones.
 later : (words : List ℕ) (at m k : ℕ) → at + 1 + suc m ≡ k → drop (suc m) (drop (at + 1) words) ≡ drop k words
@@ -176,31 +182,31 @@ word_later : (words : List ℕ) (at i k : ℕ) → at + 1 + i ≡ k → get_or (
 word_later words at i k e = get_or-drop (at + 1) words i 0 ∙ ap (λ j. get_or words j 0) e
 
 -- ---- facts
-pub counted : (words : List ℕ) (T : Table) (at : ℕ) (out : List ℕ) (r : ℕ) → r ≤ length out → (Names words at → take r out ≡ (clause_at words T at).facts) → ClauseFacts words T at out r
-counted words T at out r h f = record { within = h; front = f; number = λ n. sym (length-take-le r out h) ∙ ap length (f n) }
+pub counted : (words : List ℕ) (T : Table) (place : prelude.Option ℕ) (out : List ℕ) (r : ℕ) → r ≤ length out → (Names words place → take r out ≡ (clause_at words T place).facts) → ClauseFacts words T place out r
+counted words T place out r h f = record { within = h; front = f; number = λ n. sym (length-take-le r out h) ∙ ap length (f n) }
 
 named_of : (b : Bool) (fs : List ℕ) → named (eval_of b fs) ≡ fs
 named_of true fs = refl
 named_of false fs = refl
 
-module _ (words : List ℕ) (T : Table) (at : ℕ) (out : List ℕ) where
-  pub facts_past : length words ≤ at → ClauseFacts words T at out 0
-  facts_past h = counted words T at out 0 (omega arith) (λ _. ap (λ (d : Denial Outcome). d.facts) (sym (no_clause words T at h)))
+module _ (words : List ℕ) (T : Table) (place : prelude.Option ℕ) (out : List ℕ) where
+  pub facts_past : prelude.None ≡ reached words place → ClauseFacts words T place out 0
+  facts_past e = counted words T place out 0 (omega arith) (λ _. ap (λ (d : Denial Outcome). d.facts) (sym (no_clause words T place e)))
 
-  module _ (h : PolicyHead) (here : at < length words) (head : h ≡ policy_head (get_or words at 0) true) where
-    pub facts_none : Nameless h → ClauseFacts words T at out 0
+  module _ (at : ℕ) (h : PolicyHead) (here : prelude.Some at ≡ reached words place) (head : h ≡ policy_head (get_or words at 0) true) where
+    pub facts_none : Nameless h → ClauseFacts words T place out 0
     facts_none k =
-        counted words T at out 0 (omega arith)
-        (clause_has words at T h (λ d. [] ≡ d.facts) here head
+        counted words T place out 0 (omega arith)
+        (clause_has words place at T h (λ d. [] ≡ d.facts) here head
         (weaker (policy_node condition_below policy_below h (drop (at + 1) words)) (λ t vs e. ap (λ (d : Denial Outcome). d.facts) e) (none_there condition_below policy_below T h (drop (at + 1) words) k)))
 
-  pub facts_grant : (shape : DenyShape) (n o start : ℕ) (r : Named) → at < length words → Grant shape n o ≡ policy_head (get_or words at 0) true → start ≡ at + before_condition_at words at →
-      Decisive T start (read_condition 31 (drop start words)) out r → ClauseFacts words T at out r.count
+  pub facts_grant : (at : ℕ) (shape : DenyShape) (n o start : ℕ) (r : Named) → prelude.Some at ≡ reached words place → Grant shape n o ≡ policy_head (get_or words at 0) true → start ≡ at + before_condition_at words at →
+      Decisive T start (read_condition 31 (drop start words)) out r → ClauseFacts words T place out r.count
   unfolding policy_node
-  facts_grant shape n o start r here head s d =
+  facts_grant at shape n o start r here head s d =
       let words_of : words_for 4 n ≡ words_for 4 (obligations_at words at) = ap (words_for 4) (grant_says true (get_or words at 0) shape n o head).0 in
-      counted words T at out r.count d.within
-      (clause_has words at T (Grant shape n o) (λ q. take r.count out ≡ q.facts) here head
+      counted words T place out r.count d.within
+      (clause_has words place at T (Grant shape n o) (λ q. take r.count out ≡ q.facts) here head
       (weaker (grant_node condition_below shape n o (drop (at + 1) words))
       (λ t us g.
       let place : read_condition 31 (drop start words) ≡ got g.condition us = ap (read_condition 31) (sym (later words at (words_for 4 n) start (omega arith))) ∙ g.read in
@@ -211,13 +217,13 @@ module _ (words : List ℕ) (T : Table) (at : ℕ) (out : List ℕ) where
   list_is : (start count r : ℕ) (fs us : List ℕ) → FactsListed words start count out r → count ≤ most_listed → read_list listed entry_bits count (drop start words) ≡ got fs us → take r out ≡ fs
   list_is start count r fs us l few e = (subst (Holds (λ gs _. take r out ≡ gs)) e (l.front few)).it
 
-  pub facts_permit : (n o start count r : ℕ) → at < length words → PermitWithTrace n o ≡ policy_head (get_or words at 0) true → start ≡ at + 2 + words_for 4 n → count ≡ get_or words (at + 1) 0 % 65536 →
-      FactsListed words start count out r → ClauseFacts words T at out r
+  pub facts_permit : (at n o start count r : ℕ) → prelude.Some at ≡ reached words place → PermitWithTrace n o ≡ policy_head (get_or words at 0) true → start ≡ at + 2 + words_for 4 n → count ≡ get_or words (at + 1) 0 % 65536 →
+      FactsListed words start count out r → ClauseFacts words T place out r
   unfolding policy_node
-  facts_permit n o start count r here head s e l =
+  facts_permit at n o start count r here head s e l =
       let second : get_or (drop (at + 1) words) 0 0 % 65536 ≡ count = ap (λ w. w % 65536) (word_later words at 0 (at + 1) (omega arith)) ∙ sym e in
-      counted words T at out r l.within
-      (clause_has words at T (PermitWithTrace n o) (λ q. take r out ≡ q.facts) here head
+      counted words T place out r l.within
+      (clause_has words place at T (PermitWithTrace n o) (λ q. take r out ≡ q.facts) here head
       (then_holds (permit_trace_node n o (drop (at + 1) words)) _ (permit_there n o (drop (at + 1) words))
       (λ d us g.
       let place : read_list listed entry_bits count (drop start words) ≡ got g.facts us =
@@ -225,13 +231,13 @@ module _ (words : List ℕ) (T : Table) (at : ℕ) (out : List ℕ) where
       let few : count ≤ most_listed = omega (arith, g.few) in
       fine (list_is start count r g.facts us l few place ∙ sym (ap (λ x. (clause_of_d x).facts) g.is)))))
 
-  pub facts_deny : (shape : DenyShape) (denied : prelude.Option ℕ) (start count r : ℕ) → at < length words → DenyWithTrace shape denied ≡ policy_head (get_or words at 0) true → start ≡ at + 3 → count ≡ get_or words (at + 2) 0 →
-      FactsListed words start count out r → ClauseFacts words T at out r
+  pub facts_deny : (at : ℕ) (shape : DenyShape) (denied : prelude.Option ℕ) (start count r : ℕ) → prelude.Some at ≡ reached words place → DenyWithTrace shape denied ≡ policy_head (get_or words at 0) true → start ≡ at + 3 → count ≡ get_or words (at + 2) 0 →
+      FactsListed words start count out r → ClauseFacts words T place out r
   unfolding policy_node
-  facts_deny shape denied start count r here head s e l =
+  facts_deny at shape denied start count r here head s e l =
       let third : get_or (drop (at + 1) words) 1 0 ≡ count = word_later words at 1 (at + 2) (omega arith) ∙ sym e in
-      counted words T at out r l.within
-      (clause_has words at T (DenyWithTrace shape denied) (λ q. take r out ≡ q.facts) here head
+      counted words T place out r l.within
+      (clause_has words place at T (DenyWithTrace shape denied) (λ q. take r out ≡ q.facts) here head
       (then_holds (deny_trace_node shape denied (drop (at + 1) words)) _ (deny_there shape denied (drop (at + 1) words))
       (λ d us g.
       let place : read_list listed entry_bits count (drop start words) ≡ got g.facts us =
@@ -240,7 +246,7 @@ module _ (words : List ℕ) (T : Table) (at : ℕ) (out : List ℕ) where
       fine (list_is start count r g.facts us l few place ∙ sym (ap (λ x. (clause_of_d x).facts) g.is)))))
 
 -- ---- the clause but for its facts
-module _ (words : List ℕ) (at : ℕ) (r : Clause) where
+module _ (words : List ℕ) (place : prelude.Option ℕ) (r : Clause) where
   -- Its facts are its own.
   with_facts_lem : (d : Denial Outcome) (fs : List ℕ) → d ≡ denial_of r fs → d ≡ denial_of r d.facts
   with_facts_lem d fs e = e ∙ ap (denial_of r) (sym (ap (λ (q : Denial Outcome). q.facts) e))
@@ -248,27 +254,27 @@ module _ (words : List ℕ) (at : ℕ) (r : Clause) where
   clause_none : ((fs : List ℕ) → denial_of r fs ≡ clause_by 0 0 Forbidden none fs) → (d : Denial Outcome) → generic_deny ≡ d → d ≡ denial_of r d.facts
   clause_none c d e = with_facts_lem d [] (sym e ∙ sym (c []))
 
-  pub clause_past : length words ≤ at → ((fs : List ℕ) → denial_of r fs ≡ clause_by 0 0 Forbidden none fs) → ClauseIs words at r
-  clause_past h c = record { is = λ T _. clause_none c (clause_at words T at) (sym (no_clause words T at h)) }
+  pub clause_past : prelude.None ≡ reached words place → ((fs : List ℕ) → denial_of r fs ≡ clause_by 0 0 Forbidden none fs) → ClauseIs words place r
+  clause_past h c = record { is = λ T _. clause_none c (clause_at words T place) (sym (no_clause words T place h)) }
 
-  module _ (here : at < length words) where
+  module _ (at : ℕ) (here : prelude.Some at ≡ reached words place) where
     pub clause_other : (h : PolicyHead) → h ≡ policy_head (get_or words at 0) true → Nameless h →
-        ((fs : List ℕ) → denial_of r fs ≡ clause_by 0 0 Forbidden none fs) → ClauseIs words at r
+        ((fs : List ℕ) → denial_of r fs ≡ clause_by 0 0 Forbidden none fs) → ClauseIs words place r
     clause_other h head k c =
         record {
           is = λ T.
-              clause_has words at T h (λ d. d ≡ denial_of r d.facts) here head
+              clause_has words place at T h (λ d. d ≡ denial_of r d.facts) here head
               (weaker (policy_node condition_below policy_below h (drop (at + 1) words)) (λ t vs e. clause_none c (clause_of T t) e) (none_there condition_below policy_below T h (drop (at + 1) words) k));
         }
 
     pub clause_grant : (shape : DenyShape) (n o marks : ℕ) → Grant shape n o ≡ policy_head (get_or words at 0) true → marks ≡ get_or words (at + 1) 0 →
-        ((fs : List ℕ) → denial_of r fs ≡ clause_by (marks / 65536) (marks % 65536) shape (some o) fs) → ClauseIs words at r
+        ((fs : List ℕ) → denial_of r fs ≡ clause_by (marks / 65536) (marks % 65536) shape (some o) fs) → ClauseIs words place r
     unfolding policy_node
     clause_grant shape n o marks head e c =
         let second : get_or (drop (at + 1) words) 0 0 ≡ marks = word_later words at 0 (at + 1) (omega arith) ∙ sym e in
         record {
           is = λ T.
-              clause_has words at T (Grant shape n o) (λ d. d ≡ denial_of r d.facts) here head
+              clause_has words place at T (Grant shape n o) (λ d. d ≡ denial_of r d.facts) here head
               (weaker (grant_node condition_below shape n o (drop (at + 1) words))
               (λ t us g.
               let fs = named (eval_condition T g.condition) in
@@ -277,25 +283,25 @@ module _ (words : List ℕ) (at : ℕ) (r : Clause) where
         }
 
     pub clause_permit : (n o marks : ℕ) → PermitWithTrace n o ≡ policy_head (get_or words at 0) true → marks ≡ get_or words (at + 1) 0 →
-        ((fs : List ℕ) → denial_of r fs ≡ clause_by (marks / 65536) 0 Forbidden none fs) → ClauseIs words at r
+        ((fs : List ℕ) → denial_of r fs ≡ clause_by (marks / 65536) 0 Forbidden none fs) → ClauseIs words place r
     unfolding policy_node
     clause_permit n o marks head e c =
         let second : get_or (drop (at + 1) words) 0 0 ≡ marks = word_later words at 0 (at + 1) (omega arith) ∙ sym e in
         record {
           is = λ T.
-              clause_has words at T (PermitWithTrace n o) (λ d. d ≡ denial_of r d.facts) here head
+              clause_has words place at T (PermitWithTrace n o) (λ d. d ≡ denial_of r d.facts) here head
               (then_holds (permit_trace_node n o (drop (at + 1) words)) _ (permit_there n o (drop (at + 1) words))
               (λ d us g. fine (with_facts_lem (clause_of_d d) g.facts (ap clause_of_d g.is ∙ ap (λ w. clause_by (w / 65536) 0 Forbidden none g.facts) second ∙ sym (c g.facts)))));
         }
 
     pub clause_deny : (shape : DenyShape) (denied : prelude.Option ℕ) (marks : ℕ) → DenyWithTrace shape denied ≡ policy_head (get_or words at 0) true → marks ≡ get_or words (at + 1) 0 →
-        ((fs : List ℕ) → denial_of r fs ≡ clause_by (marks / 65536) (marks % 65536) shape (denied_by denied) fs) → ClauseIs words at r
+        ((fs : List ℕ) → denial_of r fs ≡ clause_by (marks / 65536) (marks % 65536) shape (denied_by denied) fs) → ClauseIs words place r
     unfolding policy_node
     clause_deny shape denied marks head e c =
         let second : get_or (drop (at + 1) words) 0 0 ≡ marks = word_later words at 0 (at + 1) (omega arith) ∙ sym e in
         record {
           is = λ T.
-              clause_has words at T (DenyWithTrace shape denied) (λ d. d ≡ denial_of r d.facts) here head
+              clause_has words place at T (DenyWithTrace shape denied) (λ d. d ≡ denial_of r d.facts) here head
               (then_holds (deny_trace_node shape denied (drop (at + 1) words)) _ (deny_there shape denied (drop (at + 1) words))
               (λ d us g. fine (with_facts_lem (clause_of_d d) g.facts (ap clause_of_d g.is ∙ ap (λ w. clause_by (w / 65536) (w % 65536) shape (denied_by denied) g.facts) second ∙ sym (c g.facts)))));
         }

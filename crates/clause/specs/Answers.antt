@@ -1,5 +1,5 @@
 -- What the functions answer of the node at a position, and of a decision that names it.
-use Rattle.std.specs.Prelude.{◌≡◌, true, List, ℕ, ◌≤◌, length, take, drop}
+use Rattle.std.specs.Prelude.{◌≡◌, true, Option, List, ℕ, ◌≤◌, length, take, drop}
 use Rattle.model.specs.Facts.{Table}
 use Rattle.model.specs.Decision.{Decision as Decided}
 use Rattle.model.specs.Writing.{entry_bits, most_listed}
@@ -19,15 +19,15 @@ pub record FactsListed (words : List ℕ) (at count : ℕ) (out : List ℕ) (r :
   pub within : r ≤ length out
   pub front : count ≤ most_listed → Holds (λ fs _. take r out ≡ fs) (read_list listed entry_bits count (drop at words))
 
--- The facts of the clause at `at` stand at the front.
-pub record ClauseFacts (words : List ℕ) (T : Table) (at : ℕ) (out : List ℕ) (r : ℕ) : Type 0 where
+-- The facts of the clause of the node that is named stand at the front.
+pub record ClauseFacts (words : List ℕ) (T : Table) (node : Option ℕ) (out : List ℕ) (r : ℕ) : Type 0 where
   pub within : r ≤ length out
-  pub front : Names words at → take r out ≡ (clause_at words T at).facts
-  pub number : Names words at → r ≡ length (clause_at words T at).facts
+  pub front : Names words node → take r out ≡ (clause_at words T node).facts
+  pub number : Names words node → r ≡ length (clause_at words T node).facts
 
--- The clause at `at`, but for its facts.
-pub record ClauseIs (words : List ℕ) (at : ℕ) (r : Clause) : Type 0 where
-  pub is : (T : Table) → Names words at → clause_at words T at ≡ denial_of r (clause_at words T at).facts
+-- The clause of the node that is named, but for its facts.
+pub record ClauseIs (words : List ℕ) (node : Option ℕ) (r : Clause) : Type 0 where
+  pub is : (T : Table) → Names words node → clause_at words T node ≡ denial_of r (clause_at words T node).facts
 
 -- What is given to write a decision: os are its obligations, where it permits, and fs its clause's facts.
 pub record Gathered (words : List ℕ) (T : Table) (buf : List ℕ) (d : Decision) (os fs : List ℕ) : Type 0 where

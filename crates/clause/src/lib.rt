@@ -35,17 +35,17 @@ fn load_facts(words: &[u32], at: usize, count: usize, out: &mut [u16]) -> usize
     count
 }
 
-// Writes the facts of the clause of the node at `at` to the front of `out`, and returns how many there are: of a Grant those that decide its condition,
-// of a stored decision those of its list. Other nodes, and a position past the end, have none.
-#[tactic(auto, using(crate::proofs::Nodes::facts_past))]
-pub fn clause_facts(walk: &Walk<'_>, at: usize, out: &mut [u16]) -> usize
+// Writes the facts of the clause of the node that is named to the front of `out`, and returns how many there are: of a Grant those that decide its
+// condition, of a stored decision those of its list. Other nodes have none.
+#[tactic(auto, using(crate::proofs::Nodes::facts_past, decision::proofs::Nodes::reached_inside))]
+pub fn clause_facts(walk: &Walk<'_>, node: Option<usize>, out: &mut [u16]) -> usize
     requires { RoomToName walk.now.words.now out.old }
-    ensures { ClauseFacts walk.now.words.now (table_of walk.now.facts.now) at out.new result }
+    ensures { ClauseFacts walk.now.words.now (table_of walk.now.facts.now) node out.new result }
 {
     let words = walk.words;
-    if words.len() <= at {
+    let Some(at) = decision::node_in(words, node) else {
         return 0;
-    }
+    };
     match policy_model::policy_head(words[at], true) {
         PolicyHead::Grant { .. } => {
             let start = at + grant::before_condition_in(words, at) as usize;
@@ -79,15 +79,14 @@ fn clause_of(label: u32, reason: u32, shape: DenyShape, denied: Option<u16>) -> 
     }
 }
 
-// The clause of the node at `at`: of a Grant, or of a stored decision, where a permit has no more than a label. Other nodes, and a position past the
-// end, name nothing.
-#[tactic(auto, using(crate::proofs::Nodes::clause_past, crate::proofs::Nodes::clause_other))]
-fn clause_at(words: &[u32], at: usize) -> Clause
-    ensures { ClauseIs words.now at result }
+// The clause of the node that is named: of a Grant, or of a stored decision, where a permit has no more than a label. Other nodes have none.
+#[tactic(auto, using(crate::proofs::Nodes::clause_past, decision::proofs::Nodes::reached_inside))]
+fn clause_at(words: &[u32], node: Option<usize>) -> Clause
+    ensures { ClauseIs words.now node result }
 {
-    if words.len() <= at {
+    let Some(at) = decision::node_in(words, node) else {
         return clause_of(0, 0, DenyShape::Forbidden, None);
-    }
+    };
     let marks = policy_model::word_at(words, at + 1);
     let label = marks / policy_model::HALF;
     let reason = marks % policy_model::HALF;
@@ -99,14 +98,15 @@ fn clause_at(words: &[u32], at: usize) -> Clause
     }
 }
 
-// Whether a decision's node can say so many obligations and so many facts.
+// Whether a decision's node can say so many obligations and so many facts. `permit` is the decision's own field, which says which of two nodes is meant:
+// an enum would be made from it at each call.
 pub fn countable(permit: bool, held: usize, count: usize) -> bool
     ensures { result ≡ countable_of permit held count }
 {
     count <= policy_model::MOST_LISTED && (!permit || held <= decision::MOST_HELD)
 }
 
-// How many words a decision's node takes, with so many obligations and so many facts.
+// How many words a decision's node takes, with so many obligations and so many facts. A flag, as at `countable`.
 pub fn decision_words(permit: bool, held: usize, count: usize) -> usize
     requires { (held < 2 ^ 32) × (count < 2 ^ 32) }
     ensures { result ≡ decision_size permit held count }

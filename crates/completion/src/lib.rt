@@ -15,21 +15,19 @@ use consulted::Consulted;
 use evaluate::Evaluation;
 use policy_model::{LEVELS, RECORD_WORDS, SHEET_WORDS};
 
-// Lists the `count` entries of a record, once each, the first one kept.
+// Lists the `count` entries of a record, once each, the first one kept. It reads them as `contradiction::contradicted` does, which ends at the first that
+// contradicts. What the two loops share is how an entry is taken apart: a walk that is lent what to do with each entry would be longer than both.
 pub fn load_consulted(words: &[u32], count: usize, consulted: &mut Consulted<'_>)
     ensures { LoadsConsulted words.now count (held consulted.old) (held consulted.new) }
 {
     for i in 0..count {
-        if words.len() <= 1 + i / 2 {
-            return;
-        }
         let field = packing::unpack_entry(words, 1, i) as u32;
         consulted.consult(field % policy_model::FACTS, facts::entry_presence(field));
     }
 }
 
-// The entries in use. No walk leaves more than it was lent, nor more than there are facts, but of words that don't read none says so. An invariant of `Consulted`
-// would say it of all, and would ask of the callers of each walk what none asks now.
+// The entries in use. No walk leaves more than it was lent, nor more than there are facts, but of words that don't read none says so. An invariant of
+// `Consulted` would say it of all, and would ask of the callers of each walk what none asks now.
 pub fn in_use<'a>(consulted: &'a Consulted<'_>) -> &'a [u16]
     ensures few { length result.now ≤ fact_count }
     ensures listed { InUse (held consulted.now) result.now }

@@ -25,7 +25,6 @@ use Rattle.condition.specs.declared.OpenNode.{OpenNode}
 use Rattle.condition.specs.declared.OpenNode.TheVariants.{Not as not_node, Arms}
 use Rattle.condition.specs.declared.Node.TheVariants.{Value, Open}
 use Rattle.condition.specs.declared.Node.TheVariants as node
-use Rattle.condition.specs.declared.AfterArm.TheVariants.{Closed, More}
 use Rattle.consulted.specs.Listing.{Lent, Consults}
 use Rattle.condition.specs.Evaluating.{is_satisfied, answer_of, EvaluatesC, EvaluatesHas}
 use Rattle.condition.specs.Walking.{node_of, opens, list_value, list_read, value_on, read_on, Known, Unread, Settles}
@@ -124,12 +123,11 @@ module _ (T : Table) (words : List ℕ) (s : Lent) (r : ConditionEval) (t : Lent
     decided n end e a k = weaker (many cnil ccons (read_condition d) n (drop at words)) (λ cs rest i. rw e (rw i at k)) (a.ends d)
 
     -- One that does not, and no arm after it; or more.
-    ended : Known T words s r t (suc d) fs v at (λ l. l) → Known T words s r t d (Arms stop 0 ∷ fs) v at (λ l. l)
+    ended : (end : ℕ) → SkippedConditions words at 0 end → Known T words s r t (suc d) fs v end (λ l. l) → Known T words s r t d (Arms stop 0 ∷ fs) v at (λ l. l)
     unfolding Known
-    ended k =
-        let end : at ≡ at + 0 = omega arith in
+    ended end a k =
         fine (known_from T words r t consults_none fs (suc d) (value_on stop T v cnil) (at + 0) (λ l. read_on stop T v cnil l) (λ l. l) (none_read T v stop)
-        (rw (none_value T v stop) (rw end at k)))
+        (rw (none_value T v stop) (rw (a.ends d).it at k)))
 
     more : (m : ℕ) → beq v stop ≡ false → Unread T words s r t d (Arms stop m ∷ fs) at → Known T words s r t d (Arms stop (suc m) ∷ fs) v at (λ l. l)
     unfolding Known
@@ -137,18 +135,19 @@ module _ (T : Table) (words : List ℕ) (s : Lent) (r : ConditionEval) (t : Lent
 
 -- ---- an open node whose arm has its value
 module _ (words : List ℕ) (v : Bool) (at : ℕ) where
-  pub settles_not : Settles words not_node v at (Closed (answer_of (not v) at))
+  pub settles_not : (m : OpenNode) → Settles words not_node v at m (Some (answer_of (not v) at))
   unfolding Known
-  settles_not = record { onward = omega arith; goes = λ T s r t d fs k. k }
+  settles_not m = record { onward = omega arith; goes = λ T s r t d fs k. k }
 
   module _ (stop : Bool) (n : ℕ) where
-    pub settles_decided : (end : ℕ) → beq v stop ≡ true → SkippedConditions words at n end → Settles words (Arms stop n) v at (Closed (answer_of v end))
-    settles_decided end e a = record { onward = a.onward; goes = λ T s r t d fs k. decided T words s r t fs d stop v at n end e a k }
+    module _ (m : OpenNode) (end : ℕ) (a : SkippedConditions words at n end) where
+      pub settles_decided : beq v stop ≡ true → Settles words (Arms stop n) v at m (Some (answer_of v end))
+      settles_decided e = record { onward = a.onward; goes = λ T s r t d fs k. decided T words s r t fs d stop v at n end e a k }
 
-    pub settles_ended : n ≡ 0 → Settles words (Arms stop n) v at (Closed (answer_of v at))
-    settles_ended z = record { onward = omega arith; goes = λ T s r t d fs k. rw z (ended T words s r t fs d stop v at k) }
+      pub settles_ended : n ≡ 0 → Settles words (Arms stop n) v at m (Some (answer_of v end))
+      settles_ended z = record { onward = a.onward; goes = λ T s r t d fs k. rw z (ended T words s r t fs d stop v at end (rw z at a) k) }
 
-    pub settles_more : beq v stop ≡ false → (n ≡ 0 → ⊥) → Settles words (Arms stop n) v at (More (Arms stop (n - 1)))
+    pub settles_more : beq v stop ≡ false → (n ≡ 0 → ⊥) → Settles words (Arms stop n) v at (Arms stop (n - 1)) None
     settles_more e f = record {
       onward = omega arith;
       goes = λ T s r t d fs k. let one : n ≡ suc (n - 1) = omega arith in rw one (more T words s r t fs d stop v at (n - 1) e k);
@@ -250,13 +249,13 @@ module _ (T : Table) (words : List ℕ) (depth : ℕ) (above : List OpenNode) wh
 
       -- The innermost node is closed, or goes on.
       module _ (inner : ℕ) (i : level ≡ inner + 1) (v : Bool) where
-        pub node_closed : (w : Bool) (end : ℕ) → level ≤ depth → Settles words (get_or above inner not_node) v at (Closed (answer_of w end)) →
-            Known T words s r t (depth - inner) (opens above inner) w end (λ l. l) → Known T words s r t (depth - level) (opens above level) v at (λ l. l)
-        node_closed w end h a k =
+        pub node_closed : (m : OpenNode) (w : Bool) (end : ℕ) → level ≤ depth → Settles words (get_or above inner not_node) v at m (Some (answer_of w end)) →
+            Known T words s r t (depth - inner) (opens (set above inner m) inner) w end (λ l. l) → Known T words s r t (depth - level) (opens above level) v at (λ l. l)
+        node_closed m w end h a k =
             let e : depth - inner ≡ suc (depth - (inner + 1)) = omega arith in
-            rw (i, opens_last above inner) (a.goes T s r t (depth - (inner + 1)) (opens above inner) (rw e at k))
+            rw (i, opens_last above inner) (a.goes T s r t (depth - (inner + 1)) (opens above inner) (rw (e, opens_below above inner m inner (omega arith)) at k))
 
-        pub node_more : (n : OpenNode) → inner < length above → Settles words (get_or above inner not_node) v at (More n) →
+        pub node_more : (n : OpenNode) → inner < length above → Settles words (get_or above inner not_node) v at n None →
             Unread T words s r t (depth - level) (opens (set above inner n) level) at → Known T words s r t (depth - level) (opens above level) v at (λ l. l)
         node_more n h a k = rw (i, opens_last above inner) (a.goes T s r t (depth - (inner + 1)) (opens above inner) (rw (i, opens_put above n inner h) at k))
 

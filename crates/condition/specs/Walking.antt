@@ -1,5 +1,5 @@
 -- A walk over a condition in one loop: the nodes that are open, and what is still asked of them.
-use Rattle.std.specs.Prelude.{Bool, true, false, not, cond, List, [], ◌∷◌, ℕ, zero, suc, ◌+◌, ◌≤◌, drop, get_or}
+use Rattle.std.specs.Prelude.{Bool, true, false, not, cond, Option, Some, None, List, [], ◌∷◌, ℕ, zero, suc, ◌+◌, ◌≤◌, drop, get_or}
 use Rattle.std.specs.Bool.{beq}
 use Rattle.model.specs.Facts.{Table}
 use Rattle.model.specs.Condition.{Conditions, cnil, ccons, eval_condition, eval_condition_all, eval_condition_any}
@@ -14,8 +14,6 @@ use Rattle.condition.specs.declared.OpenNode.{OpenNode}
 use Rattle.condition.specs.declared.OpenNode.TheVariants.{Not, Arms}
 use Rattle.condition.specs.declared.Node.{Node}
 use Rattle.condition.specs.declared.Node.TheVariants.{Value, Has, Open}
-use Rattle.condition.specs.declared.AfterArm.{AfterArm}
-use Rattle.condition.specs.declared.AfterArm.TheVariants.{Closed, More}
 use Rattle.consulted.specs.Listing.{Lent}
 use Rattle.condition.specs.Evaluating.{is_satisfied, Evaluated}
 
@@ -74,17 +72,17 @@ Unread T words s r t d fs next =
     (λ c rest. Known T words s r t d fs (is_satisfied (eval_condition T c)) (next + words_c c) (λ l. read_c T c l))
     (read_condition d (drop next words))
 
--- What is asked where the innermost node is done with an arm.
-abbrev pub Left : Table → List ℕ → Lent → ConditionEval → Lent → ℕ → List OpenNode → ℕ → AfterArm → Type 0
-Left T words s r t d fs next (Closed e) = Known T words s r t (suc d) fs e.satisfied e.next (λ l. l)
-Left T words s r t d fs next (More n) = Unread T words s r t d (n ∷ fs) next
+-- What is asked where the innermost node is done with an arm: it has its answer, or it is m then and its next arm is read.
+abbrev pub Left : Table → List ℕ → Lent → ConditionEval → Lent → ℕ → List OpenNode → ℕ → OpenNode → Option ConditionEval → Type 0
+Left T words s r t d fs next m (Some e) = Known T words s r t (suc d) fs e.satisfied e.next (λ l. l)
+Left T words s r t d fs next m None = Unread T words s r t d (m ∷ fs) next
 
-abbrev pub end_of : ℕ → AfterArm → ℕ
-end_of next (Closed e) = e.next
-end_of next (More n) = next
+abbrev pub end_of : ℕ → Option ConditionEval → ℕ
+end_of next (Some e) = e.next
+end_of next None = next
 
--- An open node whose arm before `next` has the value v: whatever answers the walk after it answers the walk before.
-pub record Settles (words : List ℕ) (n : OpenNode) (v : Bool) (next : ℕ) (a : AfterArm) : Type 0 where
+-- An open node n whose arm before `next` has the value v: whatever answers the walk after it answers the walk before.
+pub record Settles (words : List ℕ) (n : OpenNode) (v : Bool) (next : ℕ) (m : OpenNode) (a : Option ConditionEval) : Type 0 where
   pub onward : next ≤ end_of next a
   pub goes : (T : Table) (s : Lent) (r : ConditionEval) (t : Lent) (d : ℕ) (fs : List OpenNode) →
-      Left T words s r t d fs next a → Known T words s r t d (n ∷ fs) v next (λ l. l)
+      Left T words s r t d fs next m a → Known T words s r t d (n ∷ fs) v next (λ l. l)

@@ -1,13 +1,13 @@
 // Conditions, after gatekeep's evaluate.rs: whether a condition is satisfied, with the facts that were consulted listed on the way.
 #![tactic(auto)]
 
-ghost use Rattle.std.specs.Prelude.{◌≡◌, ◌^◌, ◌<◌, ◌≤◌};
+ghost use Rattle.std.specs.Prelude.{◌≡◌, false, ◌^◌, ◌<◌, ◌≤◌};
 ghost use Rattle.model.specs.Facts.{fact_count, table_of};
 ghost use Rattle.model.specs.Writing.{count_bits};
 ghost use Rattle.model.specs.Reading.{levels};
 ghost use Rattle.policy_model.specs.Heads.{condition_head};
 ghost use Rattle.consulted.specs.Listing.{held};
-ghost use Rattle.condition.specs.Evaluating.{EvaluatesC, EvaluatesHas};
+ghost use Rattle.condition.specs.Evaluating.{answer_of, EvaluatesC, EvaluatesHas};
 ghost use Rattle.condition.specs.Walking.{list_node, node_of, Settles};
 
 use consulted::Consulted;
@@ -71,39 +71,36 @@ fn node_of(word: u32) -> Node
     }
 }
 
-// What becomes of an open node when an arm has its value: it is closed, with an answer of its own, or its next arm is read.
-#[derive(Drop)]
-enum AfterArm {
-    Closed(ConditionEval),
-    More(OpenNode),
-}
-
-// The open node whose arm before `next` has this value. A Not flips it. A false arm decides an All and a true arm an Any, and the arms after it aren't
-// read.
-fn after_arm(words: &[u32], node: OpenNode, value: bool, next: usize) -> AfterArm
-    ensures { Settles words.now node value next result }
+// The answer of the open node whose arm before `next` has this value, or none where its next arm is to be read. A Not flips the value. A false arm decides
+// an All and a true arm an Any, and the arms after it aren't read.
+fn after_arm(words: &[u32], node: &mut OpenNode, value: bool, next: usize) -> Option<ConditionEval>
+    ensures { Settles words.now node.old value next node.new result }
 {
     match node {
-        OpenNode::Not => AfterArm::Closed(ConditionEval {
+        OpenNode::Not => Some(ConditionEval {
             satisfied: !value,
             next,
         }),
         OpenNode::Arms { stop, left } => {
-            if value == stop {
-                return AfterArm::Closed(ConditionEval {
-                    satisfied: value,
-                    next: policy_model::skip_conditions(words, next, left as u32),
-                });
+            if value != *stop && *left != 0 {
+                *left -= 1;
+                return None;
             }
-            if left == 0 {
-                return AfterArm::Closed(ConditionEval {
-                    satisfied: value,
-                    next,
-                });
-            }
-            let left = left - 1;
-            AfterArm::More(OpenNode::Arms { stop, left })
+            Some(ConditionEval {
+                satisfied: value,
+                next: policy_model::skip_conditions(words, next, *left as u32),
+            })
         }
+    }
+}
+
+// The answer where the words end, or the levels do: no condition reads there, so nothing is asked of it.
+fn unsatisfied(next: usize) -> ConditionEval
+    ensures { result ≡ answer_of false next }
+{
+    ConditionEval {
+        satisfied: false,
+        next,
     }
 }
 
@@ -119,8 +116,8 @@ impl<'a> Walk<'a> {
         facts::present(self.facts, fact)
     }
 
-    // The condition at `at`, of at most `depth` levels. The first `level` of `above` are the nodes that are open, the innermost last. `value` is that
-    // of the condition that ends at `next`, or none where a condition is still to be read there.
+    // The condition at `at`, of at most `depth` levels. The first `level` of `above`, an array as there is no heap, are the nodes that are open, the
+    // innermost last. `value` is that of the condition that ends at `next`, or none where a condition is still to be read there.
     // One loop in place of a call for each level, which costs more than the level itself. Its turns aren't counted, so it is no `for`: each reads a word,
     // closes a node, or goes on to a node's next arm.
     fn eval_condition(
@@ -143,24 +140,18 @@ impl<'a> Walk<'a> {
                         return ConditionEval { satisfied, next };
                     }
                     let inner = level - 1;
-                    match after_arm(self.words, above[inner], satisfied, next) {
-                        AfterArm::Closed(node) => {
+                    match after_arm(self.words, &mut above[inner], satisfied, next) {
+                        Some(node) => {
                             value = Some(node.satisfied);
                             next = node.next;
                             level = inner;
                         }
-                        AfterArm::More(node) => {
-                            above[inner] = node;
-                            value = None;
-                        }
+                        None => value = None,
                     }
                 }
                 None => {
                     if self.words.len() <= next || depth <= level {
-                        return ConditionEval {
-                            satisfied: false,
-                            next,
-                        };
+                        return unsatisfied(next);
                     }
                     match node_of(self.words[next]) {
                         Node::Value(of) => value = Some(of),
@@ -182,10 +173,7 @@ impl<'a> Walk<'a> {
         ensures { EvaluatesC (table_of self.now.facts.now) self.now.words.now at depth (held consulted.old) result (held consulted.new) }
     {
         if self.words.len() <= at {
-            return ConditionEval {
-                satisfied: false,
-                next: at,
-            };
+            return unsatisfied(at);
         }
         let word = self.words[at];
         if word / policy_model::FACTS == policy_model::HAS {

@@ -11,6 +11,7 @@ ghost use Rattle.consulted.specs.Listing.{held, Recorded};
 
 use facts::Presence;
 
+// Entries and length are document 01's form of the list.
 #[derive(Drop)]
 pub struct Consulted<'a> {
     pub entries: &'a mut [u16],
@@ -18,7 +19,8 @@ pub struct Consulted<'a> {
     pub length: usize,
 }
 
-// Puts the entry at the end, unless its fact is listed `already`, and returns how many are in use then. The flag is document 01's.
+// Puts the entry at the end, unless its fact is listed `already`, and returns how many are in use then. Slice, length and flag are plain values: document 01
+// has `record` thin over such a core, and the set says whether the fact is listed.
 pub fn recorded(entries: &mut [u16], length: usize, already: bool, entry: u16) -> usize
     requires { length < long entries.old }
     ensures listed { (result ≡ length_with length already) × (entries.new ≡ entries_with entries.old length already entry) }

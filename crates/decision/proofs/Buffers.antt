@@ -7,14 +7,15 @@ use Prim.Native.Nat.{ℕ, ◌-◌, ◌/◌, ◌%◌, ◌≤◌, ◌<◌}
 use native.Mathlib.Omega.{arith}
 use lib.ListN.{length, take, drop, get_or, length-drop}
 use lib.Seq.{length-take-le, take_all, take-append-le, take-take, drop_at}
+use Rattle.std.specs.Prelude.{None, Some}
 use Rattle.model.specs.Facts.{Table}
 use Rattle.model.specs.Decision.{permits, denies}
 use Rattle.laws.specs.FieldAt.{firsts}
 use Rattle.decision.specs.declared.Decision.{Decision}
-use Rattle.decision.specs.Nodes.{clause_at, obligations_at, obligation_fields}
+use Rattle.decision.specs.Nodes.{reached, clause_at, obligations_at, obligation_fields}
 use Rattle.decision.specs.Meaning.{obligations_in, Appended, permit_of, decision_of, Names, Sound}
 use Rattle.decision.specs.Answers.{Unobliged, Kept}
-use Rattle.decision.proofs.Nodes.{none_held, obligations_there, no_obligations}
+use Rattle.decision.proofs.Nodes.{reached_is, none_held, obligations_there, no_obligations}
 use Rattle.decision.specs.Room.{obligation_room}
 
 -- ---- a decision stands for the same where its bytes are the same
@@ -70,10 +71,16 @@ unobliged_node : (words : List ℕ) (d : Decision) → d.united ≡ 0 → (Names
 unfolding obligations_in
 unobliged_node words d e h = record { none = λ names buf. ap₂ (λ os n. os ++ take n buf) (h names) e }
 
-pub unobliged_past : (words : List ℕ) (d : Decision) → d.united ≡ 0 → length words ≤ d.obligations → Unobliged words d
+pub unobliged_past : (words : List ℕ) (d : Decision) → d.united ≡ 0 → None ≡ reached words d.obligations → Unobliged words d
 unobliged_past words d e h = unobliged_node words d e (λ _. none_held words d.obligations h)
 
-pub unobliged_there : (words : List ℕ) (d : Decision) → d.united ≡ 0 → d.obligations < length words → get_or words d.obligations 0 / 1048576 % 128 ≡ 0 → Unobliged words d
+-- A node at a position whose word counts no obligations has none.
+none_there : (words : List ℕ) (at : ℕ) → at < length words → get_or words at 0 / 1048576 % 128 ≡ 0 → Names words (Some at) → obligations_at words (Some at) ≡ []
 unfolding firsts
-unobliged_there words d e h z =
-    unobliged_node words d e (λ names. sym (obligations_there words d.obligations h names) ∙ ap (λ k. obligation_fields k (drop 2 (drop d.obligations words))) (no_obligations (get_or words d.obligations 0) z))
+none_there words at h z stands =
+    sym (obligations_there words at h stands) ∙ ap (λ k. obligation_fields k (drop 2 (drop at words))) (no_obligations (get_or words at 0) z)
+
+pub unobliged_there : (words : List ℕ) (d : Decision) (at : ℕ) → d.united ≡ 0 → Some at ≡ reached words d.obligations → get_or words at 0 / 1048576 % 128 ≡ 0 → Unobliged words d
+unobliged_there words d at e reach z =
+    let r = reached_is words d.obligations at reach in
+    unobliged_node words d e (rw r.0 (none_there words at r.1 z))

@@ -7,16 +7,16 @@ use Prim.Native.Nat.{ℕ, ◌≤◌}
 use native.Mathlib.Omega.{arith}
 use borrow.Author.Tests.{eqb-true}
 use lib.Dec.{eqb}
-use lib.ListN.{length, drop}
+use lib.ListN.{drop}
+use Rattle.std.specs.Prelude.{Option as Place, None}
 use Rattle.model.specs.Facts.{Table}
 use Rattle.model.specs.Levels.{OutcomeTable, meet_of, join_of}
-use Rattle.model.specs.Decision.{Permit, Denial, combined, union_obligations}
+use Rattle.model.specs.Decision.{Permit, combined, union_obligations}
 use Rattle.model.specs.Products.{Outcome, meet_permit, join_permit}
 use Rattle.decision.specs.declared.Decision.{Decision}
 use Rattle.decision.specs.Nodes.{clause_at}
-use Rattle.decision.specs.Meaning.{permitted_at, obligations_in, permit_of, Names, past, Sound}
+use Rattle.decision.specs.Meaning.{permitted_at, obligations_in, permit_of, Names, Sound}
 use Rattle.decision.specs.Answers.{Unobliged, Both, Kept, Folded}
-use Rattle.decision.proofs.Nodes.{no_clause}
 use Rattle.decision.proofs.Standing.{permitted_is, sound_permitted}
 use Rattle.decision.proofs.Buffers.{same_permit, same_sound}
 use Rattle.decision.specs.Room.{obligation_room}
@@ -61,14 +61,14 @@ module _ (g : Option OutcomeTable) (words before : List ℕ) (sofar incoming : D
   meet_second after r few k n e =
       keeps_second (meet_permit g) words before sofar incoming after r few k (λ T. meets T false true n e)
 
-  pub meet_neither : (r : Decision) → r ≡ permitted_at o (length words) (length words) 0 → eqb o sofar.outcome ≡ false → eqb o incoming.outcome ≡ false →
+  pub meet_neither : (r : Decision) → r ≡ permitted_at o None None 0 → eqb o sofar.outcome ≡ false → eqb o incoming.outcome ≡ false →
       Folded (meet_permit g) words before before sofar incoming r
   meet_neither r e n m =
       rw e (record {
         few = omega arith;
         permit = λ _ _. refl;
-        sound = λ _ _. sound_permitted words before o (length words) (past (omega arith));
-        folded = λ _ _ T. permitted_is words T before o (length words) (omega arith) ∙ sym (meets T false false n m);
+        sound = λ _ _. sound_permitted words before o None tt;
+        folded = λ _ _ T. permitted_is words T before o ∙ sym (meets T false false n m);
       })
 
 -- ---- join
@@ -104,12 +104,12 @@ module _ (g : Option OutcomeTable) (words before : List ℕ) (sofar incoming : D
       keeps_second (join_permit g) words before sofar incoming after r few k (λ T. joins T false true n e)
 
   -- the permit with the obligations of the permit so far and those that were appended
-  united : (after : List ℕ) (at n : ℕ) → Both words sofar incoming before after n → (T : Table) → Sound words before sofar → Sound words (drop obligation_room before) incoming →
+  united : (after : List ℕ) (at : Place ℕ) (n : ℕ) → Both words sofar incoming before after n → (T : Table) → Sound words before sofar → Sound words (drop obligation_room before) incoming →
       permit_of words T after (permitted_at o at sofar.obligations n) ≡ record { outcome = o; obligations = union; label = (clause_at words T at).label; facts = (clause_at words T at).facts }
   unfolding permit_of obligations_in
   united after at n u T s t = ap (λ os. record { outcome = o; obligations = os; label = (clause_at words T at).label; facts = (clause_at words T at).facts }) (u.united s t)
 
-  united_sound : (after : List ℕ) (at n : ℕ) → Both words sofar incoming before after n → Names words at → Sound words before sofar → Sound words (drop obligation_room before) incoming →
+  united_sound : (after : List ℕ) (at : Place ℕ) (n : ℕ) → Both words sofar incoming before after n → Names words at → Sound words before sofar → Sound words (drop obligation_room before) incoming →
       Sound words after (permitted_at o at sofar.obligations n)
   united_sound after at n u names s t =
       record { clause = names; held = s.held; appended = u.appended s t; bare = λ e. let z : ◌≡◌ {A = ℕ} 0 1 = cc in absurd (omega arith) }
@@ -140,16 +140,15 @@ module _ (g : Option OutcomeTable) (words before : List ℕ) (sofar incoming : D
             ∙ ap (λ os. with_obligations (permit_of words T before sofar) (union_obligations (obligations_in words before sofar) os)) (u.none t.held (drop obligation_room before)));
       }
 
-  pub join_neither : (after : List ℕ) (n : ℕ) (r : Decision) → r ≡ permitted_at o (length words) sofar.obligations n → Both words sofar incoming before after n →
+  pub join_neither : (after : List ℕ) (n : ℕ) (r : Decision) → r ≡ permitted_at o None sofar.obligations n → Both words sofar incoming before after n →
       eqb o sofar.outcome ≡ false → eqb o incoming.outcome ≡ false → Folded (join_permit g) words before after sofar incoming r
+  unfolding clause_at
   join_neither after n r e u m k =
-      let none = length words in
       rw e (record {
         few = u.few;
         permit = λ _ _. refl;
-        sound = λ s t. united_sound after none n u (past (omega arith)) s t;
+        sound = λ s t. united_sound after None n u tt s t;
         folded = λ s t T.
-            united after none n u T s t
-            ∙ ap (λ (c : Denial Outcome). record { outcome = o; obligations = union; label = c.label; facts = c.facts }) (no_clause words T none (omega arith))
+            united after None n u T s t
             ∙ sym (joins T false false m k);
       })

@@ -2,9 +2,11 @@
 use mathlib.Core.Path.{◌≡◌, refl, sym, ◌∙◌, ap, ap₂, subst}
 use mathlib.Core.Bool.{Bool, true, false, cond, ◌||◌, or-false, or_assoc}
 use mathlib.Core.List.{List, [], ◌∷◌, ◌++◌}
-use Prim.Native.Nat.{ℕ, zero, suc, ◌/◌, ◌%◌, ◌^◌, ◌<◌}
+use Prim.Native.Nat.{ℕ, zero, suc, ◌+◌, ◌/◌, ◌%◌, ◌^◌, ◌<◌}
 use native.Mathlib.Nat.{zero-div, pow-suc, mul-mod_left, div-one, div-eq_of_lt, mul-div-mul_right, mod-lt}
 use native.Mathlib.Omega.{arith}
+use lib.ListN.{length, take, get_or}
+use Rattle.std.proofs.lemmas.List.{take_more}
 use lib.Dec.{eqb, eqb-zero-suc, eqb-suc-zero, eqb-suc-suc}
 use lib.Pow.{pow-lt}
 use lib.Bits.{bit_or, or_shr, or_mod}
@@ -68,10 +70,14 @@ pub below_second : (n : ℕ) (ps qs : List ℕ) → Below n (ps ++ qs) → Below
 below_second n [] qs h = h
 below_second n (p ∷ ps) qs h = below_second n ps qs h.1
 
-masked_end : (m : ℕ) (os : List ℕ) (o x y : ℕ) → Masked m os x → (o < obligation_count → y ≡ bit_or x (2 ^ o)) → Masked m (os ++ o ∷ []) y
-masked_end m os o x y k e =
-    record { is = λ b. e (below_second obligation_count os (o ∷ []) b).0 ∙ ap (λ n. bit_or n (2 ^ o)) (k.is (below_first obligation_count os (o ∷ []) b)) ∙ sym (mask_end m o os) }
-
--- One more, where the list is longer by it.
-pub masked_more : (m : ℕ) (os ps : List ℕ) (o x y : ℕ) → ps ≡ os ++ o ∷ [] → Masked m os x → (o < obligation_count → y ≡ bit_or x (2 ^ o)) → Masked m ps y
-masked_more m os ps o x y e k f = subst (λ l. Masked m l y) (sym e) (masked_end m os o x y k f)
+-- One more, in a turn of a loop.
+pub masked_more : (m : ℕ) (os : List ℕ) (i x y : ℕ) → i < length os → Masked m (take i os) x →
+    (get_or os i 0 < obligation_count → y ≡ bit_or x (2 ^ get_or os i 0)) → Masked m (take (i + 1) os) y
+masked_more m os i x y h k e =
+    let o : ℕ = get_or os i 0 in
+    subst (λ l. Masked m l y) (sym (take_more os i 0 h)) (record {
+      is = λ b.
+          e (below_second obligation_count (take i os) (o ∷ []) b).0
+          ∙ ap (λ n. bit_or n (2 ^ o)) (k.is (below_first obligation_count (take i os) (o ∷ []) b))
+          ∙ sym (mask_end m o (take i os));
+    })

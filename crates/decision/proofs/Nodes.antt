@@ -1,6 +1,6 @@
 -- A node that reads has the obligations that stand two words after its first, each below 64. Assumes nothing.
 use mathlib.Core.Path.{◌≡◌, refl, sym, ◌∙◌, ap, subst}
-use mathlib.Core.Bool.{Bool, true, false}
+use mathlib.Core.Bool.{Bool, true, false, cond}
 use mathlib.Core.Option.{Option}
 use mathlib.Core.List.{List, [], ◌∷◌, ◌++◌, map-id}
 use Prim.Native.Nat.{ℕ, ◌+◌, ◌-◌, ◌/◌, ◌%◌, ◌≤◌, ◌<◌}
@@ -9,8 +9,8 @@ use native.Mathlib.Omega.{arith}
 use borrow.Author.Tests.{ltb-true, ltb-false}
 use lib.Dec.{ltb}
 use lib.ListN.{length, take, drop, get_or, length-drop, drop_of_length-le}
-use lib.Seq.{take_all, drop-cons}
-use Rattle.std.specs.Prelude.{Option as Carried}
+use lib.Seq.{length-take-le, take_all, take_at, drop-cons}
+use Rattle.std.specs.Prelude.{Option as Carried, None, Some}
 use Rattle.model.specs.Facts.{Table}
 use Rattle.model.specs.Fields.{pack}
 use Rattle.model.specs.Condition.{Condition}
@@ -30,9 +30,9 @@ use Rattle.policy_model.specs.declared.PolicyHead.TheVariants.{Permit, Deny, Gra
 use Rattle.policy_model.specs.Heads.{policy_head, bit_of, denied_by, grant_node, permit_trace_node, deny_trace_node, policy_node}
 use Rattle.policy_model.specs.HeadLaws.{policy_node_lem}
 use Rattle.policy_model.proofs.Skipping.{grant_says, permit_says}
-use Rattle.decision.specs.Nodes.{node_at, obligations_of_d, obligations_of, clause_read, obligations_read, clause_at, obligations_at, obligation_fields, head_count, obligation_count_of}
-use Rattle.decision.specs.Meaning.{Names, past, reads}
-use Rattle.decision.specs.Answers.{Listed, Loaded}
+use Rattle.decision.specs.Nodes.{reached, node_at, obligations_of_d, obligations_of, clause_read, obligations_read, clause_at, obligations_at, obligation_fields, head_count, obligation_count_of}
+use Rattle.decision.specs.Meaning.{Stands, past, reads}
+use Rattle.decision.specs.Answers.{Loaded}
 
 -- A list that was read is the fields of its words.
 abbrev ReadO : ℕ → List ℕ → List ℕ → List ℕ → Type 0
@@ -126,21 +126,43 @@ node_past : (words : List ℕ) (at : ℕ) → length words ≤ at → node_at wo
 unfolding node_at
 node_past words at h = ap (read_policy true 32) (drop_of_length-le words h)
 
--- Nothing is named past the end.
-pub none_held : (words : List ℕ) (at : ℕ) → length words ≤ at → obligations_at words at ≡ []
-unfolding obligations_at
-none_held words at h = ap obligations_read (node_past words at h)
+-- ---- what is named, if the words reach it
+by_end : (words : List ℕ) (at : ℕ) (b : Bool) → ltb at (length words) ≡ b → None ≡ cond b (Some at) None → length words ≤ at
+by_end words at true e k = cc
+by_end words at false e k = ltb-false at (length words) e
 
-pub no_clause : (words : List ℕ) (T : Table) (at : ℕ) → length words ≤ at → clause_at words T at ≡ generic_deny
+inside : (words : List ℕ) (place at : ℕ) (b : Bool) → ltb place (length words) ≡ b → Some at ≡ cond b (Some place) None → (Some place ≡ Some at) × (at < length words)
+inside words place at true e k = let same : place ≡ at = cc in (cc, rw same at (ltb-true place (length words) e))
+inside words place at false e k = cc
+
+pub reached_is : (words : List ℕ) (named : Carried ℕ) (at : ℕ) → Some at ≡ reached words named → (named ≡ Some at) × (at < length words)
+reached_is words None at e = cc
+reached_is words (Some place) at e = inside words place at (ltb place (length words)) refl e
+
+pub reached_inside : (words : List ℕ) (named : Carried ℕ) (at : ℕ) → Some at ≡ reached words named → at < length words
+reached_inside words named at e = (reached_is words named at e).1
+
+-- Past the end nothing is given.
+none_past : (words : List ℕ) (at : ℕ) → length words ≤ at → obligations_at words (Some at) ≡ []
+unfolding obligations_at
+none_past words at h = ap obligations_read (node_past words at h)
+
+pub none_held : (words : List ℕ) (named : Carried ℕ) → None ≡ reached words named → obligations_at words named ≡ []
+unfolding obligations_at
+none_held words None e = refl
+none_held words (Some at) e = none_past words at (by_end words at (ltb at (length words)) refl e)
+
+pub no_clause : (words : List ℕ) (T : Table) (named : Carried ℕ) → None ≡ reached words named → clause_at words T named ≡ generic_deny
 unfolding clause_at
-no_clause words T at h = ap (clause_read T) (node_past words at h)
+no_clause words T None e = refl
+no_clause words T (Some at) e = ap (clause_read T) (node_past words at (by_end words at (ltb at (length words)) refl e))
 
 -- Obligations that are read are below 64, and stand two words after the node's first.
 below_read : (h : PolicyHead) (ws : List ℕ) (q : Parsed (Policy Outcome)) → Holds (Has h ws) q → Below obligation_count (obligations_read q)
 below_read h ws (refuse n) k = tt
 below_read h ws (got t vs) k = k.it.below
 
-by_place : (words : List ℕ) (at : ℕ) (b : Bool) → ltb at (length words) ≡ b → Below obligation_count (obligations_at words at)
+by_place : (words : List ℕ) (at : ℕ) (b : Bool) → ltb at (length words) ≡ b → Below obligation_count (obligations_at words (Some at))
 unfolding obligations_at
 by_place words at true e =
     let h = policy_head (get_or words at 0) true in
@@ -148,17 +170,19 @@ by_place words at true e =
     let p : List ℕ → Parsed (Policy Outcome) = λ vs. read_policy true 31 vs in
     let ws = drop (at + 1) words in
     subst (λ q. Below obligation_count (obligations_read q)) (sym (node_there words at (ltb-true at (length words) e))) (below_read h ws (policy_node pc p h ws) (node_has pc p h ws))
-by_place words at false e = subst (Below obligation_count) (sym (none_held words at (ltb-false at (length words) e))) tt
+by_place words at false e = subst (Below obligation_count) (sym (none_past words at (ltb-false at (length words) e))) tt
 
-pub obligations_below : (words : List ℕ) (at : ℕ) → Below obligation_count (obligations_at words at)
-obligations_below words at = by_place words at (ltb at (length words)) refl
+pub obligations_below : (words : List ℕ) (named : Carried ℕ) → Below obligation_count (obligations_at words named)
+unfolding obligations_at
+obligations_below words None = tt
+obligations_below words (Some at) = by_place words at (ltb at (length words)) refl
 
 read_there : (h : PolicyHead) (ws : List ℕ) (q : Parsed (Policy Outcome)) (t : Policy Outcome) (vs : List ℕ) → Holds (Has h ws) q → q ≡ got t vs → obligation_fields (head_count h) (drop 1 ws) ≡ obligations_read q
 read_there h ws (refuse n) t vs k e = let z : ◌≡◌ {A = ℕ} 0 1 = cc in absurd (omega arith)
 read_there h ws (got s us) t vs k e = sym k.it.listed_there
 
-pub obligations_there : (words : List ℕ) (at : ℕ) → at < length words → Names words at →
-    obligation_fields (obligation_count_of (get_or words at 0)) (drop 2 (drop at words)) ≡ obligations_at words at
+pub obligations_there : (words : List ℕ) (at : ℕ) → at < length words → Stands words at →
+    obligation_fields (obligation_count_of (get_or words at 0)) (drop 2 (drop at words)) ≡ obligations_at words (Some at)
 unfolding obligations_at obligation_count_of
 obligations_there words at h (past k) = let z : ⊥ = omega arith in absurd z
 obligations_there words at h (reads t vs e) =
@@ -186,16 +210,22 @@ pub counted_as : (w : ℕ) (h : PolicyHead) → h ≡ policy_head w true → (he
 unfolding obligation_count_of
 counted_as w h e = (ap head_count e, (few_in w h e).0)
 
-pub loaded_none : (words : List ℕ) (at : ℕ) (out : List ℕ) → length words ≤ at → Loaded words at out 0
-loaded_none words at out h = record { few = omega arith; front = λ _. sym (none_held words at h) }
+pub loaded_none : (words : List ℕ) (named : Carried ℕ) (out : List ℕ) → None ≡ reached words named → Loaded words named out 0
+loaded_none words named out e = record { few = omega arith; front = λ _. sym (none_held words named e) }
 
 -- The fields of the node's words are its obligations.
-pub fields_there : (words : List ℕ) (at n : ℕ) → at < length words → n ≡ obligation_count_of (get_or words at 0) → Names words at →
-    obligation_fields n (drop 2 (take (length words - at) (drop at words))) ≡ obligations_at words at
+pub fields_there : (words : List ℕ) (at n : ℕ) → at < length words → n ≡ obligation_count_of (get_or words at 0) → Stands words at →
+    obligation_fields n (drop 2 (take (length words - at) (drop at words))) ≡ obligations_at words (Some at)
 fields_there words at n h e names =
     let part : take (length words - at) (drop at words) ≡ drop at words = take_all (length words - at) (drop at words) (omega (arith, length-drop at words)) in
     ap (λ ws. obligation_fields n (drop 2 ws)) part ∙ ap (λ k. obligation_fields k (drop 2 (drop at words))) e ∙ obligations_there words at h names
 
-pub loaded : (words : List ℕ) (at n : ℕ) (out : List ℕ) → at < length words → n ≡ obligation_count_of (get_or words at 0) → n ≤ most_held →
-    Listed (take (length words - at) (drop at words)) n out → Loaded words at out n
-loaded words at n out h e few l = record { few = few; front = λ names. l.front ∙ fields_there words at n h e names }
+pub loaded : (words : List ℕ) (named : Carried ℕ) (at n : ℕ) (out own : List ℕ) → Some at ≡ reached words named → n ≡ obligation_count_of (get_or words at 0) → n ≤ most_held → n ≤ length out →
+    length own ≡ length (take n out) → own ≡ obligation_fields (length (take n out)) (drop 2 (take (length words - at) (drop at words))) → Loaded words named (own ++ drop n out) n
+loaded words named at n out own reach e few room same is =
+    let r = reached_is words named at reach in
+    let long : length (take n out) ≡ n = length-take-le n out room in
+    rw r.0 (record {
+      few = few;
+      front = λ stands. take_at own (drop n out) n (same ∙ long) ∙ is ∙ ap (λ k. obligation_fields k (drop 2 (take (length words - at) (drop at words)))) long ∙ fields_there words at n r.1 e stands;
+    })

@@ -4,7 +4,8 @@ use mathlib.Core.Bool.{Bool, true, false, cond}
 use mathlib.Core.Option.{some}
 use mathlib.Core.List.{List, [], ◌++◌, append-nil}
 use Prim.Native.Nat.{ℕ, ◌≤◌}
-use lib.ListN.{length, drop}
+use lib.ListN.{drop}
+use Rattle.std.specs.Prelude.{Option, None, Some}
 use Rattle.model.specs.Facts.{Table}
 use Rattle.model.specs.Outcome.{product_sets}
 use Rattle.model.specs.Condition.{Condition, satisfied, unsatisfied, eval_condition}
@@ -15,8 +16,8 @@ use Rattle.model.specs.Reading.{got, levels}
 use Rattle.model.specs.Products.{Outcome, read_policy}
 use Rattle.laws.proofs.Deeper.{deeper, follows_got}
 use Rattle.decision.specs.declared.Decision.{Decision}
-use Rattle.decision.specs.Nodes.{named, node_at, clause_read, obligations_read, clause_at, obligations_at}
-use Rattle.decision.specs.Meaning.{denied_at, permitted_at, obligations_in, permit_of, decision_of, Names, past, Sound}
+use Rattle.decision.specs.Nodes.{reached, named, node_at, clause_read, obligations_read, clause_at, obligations_at}
+use Rattle.decision.specs.Meaning.{denied_at, permitted_at, obligations_in, permit_of, decision_of, Names, Sound}
 use Rattle.decision.proofs.Nodes.{none_held, no_clause}
 
 -- ---- nodes
@@ -37,35 +38,37 @@ module _ (words : List ℕ) (T : Table) (buf : List ℕ) (d : Decision) where
 
 -- ---- the constructors
 module _ (words : List ℕ) (T : Table) (buf : List ℕ) where
-  pub denied_is : (none : ℕ) → length words ≤ none → decision_of words T buf (denied_at none none) ≡ denies generic_deny
-  unfolding decision_of
-  denied_is none h = ap denies (no_clause words T none h)
+  pub denied_is : decision_of words T buf (denied_at None) ≡ denies generic_deny
+  unfolding decision_of clause_at
+  denied_is = refl
 
   -- A grant whose condition is false, and a stored deny.
-  pub denied_grant : (at none : ℕ) (g : Grant Outcome) (c : Condition) (vs fs : List ℕ) → node_at words at ≡ got (grant g c) vs → eval_condition T c ≡ unsatisfied fs →
-      decision_of words T buf (denied_at at none) ≡ eval_grant g (eval_condition T c)
+  pub denied_grant : (at : ℕ) (g : Grant Outcome) (c : Condition) (vs fs : List ℕ) → node_at words at ≡ got (grant g c) vs → eval_condition T c ≡ unsatisfied fs →
+      decision_of words T buf (denied_at (Some at)) ≡ eval_grant g (eval_condition T c)
   unfolding decision_of clause_at
-  denied_grant at none g c vs fs n e =
+  denied_grant at g c vs fs n e =
       ap (λ q. denies (clause_read T q)) n
       ∙ ap (λ ev. denies (record { denied = some g.outcome; facts = named ev; label = g.label; reason = g.reason; shape = g.shape })) e
       ∙ sym (ap (eval_grant g) e)
 
-  pub denied_stored : (at none : ℕ) (d : Denial Outcome) (vs : List ℕ) → node_at words at ≡ got (stored (denies d)) vs → decision_of words T buf (denied_at at none) ≡ denies d
+  pub denied_stored : (at : ℕ) (d : Denial Outcome) (vs : List ℕ) → node_at words at ≡ got (stored (denies d)) vs → decision_of words T buf (denied_at (Some at)) ≡ denies d
   unfolding decision_of clause_at
-  denied_stored at none d vs n = ap (λ q. denies (clause_read T q)) n
+  denied_stored at d vs n = ap (λ q. denies (clause_read T q)) n
 
-  pub permitted_is : (o none : ℕ) → length words ≤ none → permit_of words T buf (permitted_at o none none 0) ≡ combined o []
-  unfolding permit_of obligations_in
-  permitted_is o none h =
-      ap₂ (λ os (c : Denial Outcome). record { outcome = o; obligations = os; label = c.label; facts = c.facts }) (append-nil (obligations_at words none) ∙ none_held words none h) (no_clause words T none h)
+  pub permitted_is : (o : ℕ) → permit_of words T buf (permitted_at o None None 0) ≡ combined o []
+  unfolding permit_of obligations_in clause_at obligations_at
+  permitted_is o = refl
 
-  pub permitted_bare : (o none : ℕ) → length words ≤ none → decision_of words T buf (permitted_at o none none 0) ≡ permits (combined o [])
-  unfolding decision_of
-  permitted_bare o none h = ap permits (permitted_is o none h)
+  -- One whose node the words don't reach.
+  pub permitted_bare : (o : ℕ) (place : Option ℕ) → None ≡ reached words place → decision_of words T buf (permitted_at o place place 0) ≡ permits (combined o [])
+  unfolding decision_of permit_of obligations_in
+  permitted_bare o place e =
+      ap₂ (λ os (c : Denial Outcome). permits (record { outcome = o; obligations = os; label = c.label; facts = c.facts }))
+      (append-nil (obligations_at words place) ∙ none_held words place e) (no_clause words T place e)
 
   -- A grant whose condition is true, and a stored permit.
   pub permitted_grant : (at : ℕ) (g : Grant Outcome) (c : Condition) (vs fs : List ℕ) → node_at words at ≡ got (grant g c) vs → eval_condition T c ≡ satisfied fs →
-      decision_of words T buf (permitted_at g.outcome at at 0) ≡ eval_grant g (eval_condition T c)
+      decision_of words T buf (permitted_at g.outcome (Some at) (Some at) 0) ≡ eval_grant g (eval_condition T c)
   unfolding decision_of permit_of obligations_in clause_at obligations_at
   permitted_grant at g c vs fs n e =
       ap (λ q. permits (record { outcome = g.outcome; obligations = obligations_read q ++ []; label = (clause_read T q).label; facts = (clause_read T q).facts })) n
@@ -73,15 +76,15 @@ module _ (words : List ℕ) (T : Table) (buf : List ℕ) where
       ∙ ap (λ ev. permits (record { outcome = g.outcome; obligations = g.obligations; label = g.label; facts = named ev })) e
       ∙ sym (ap (eval_grant g) e)
 
-  pub permitted_stored : (at : ℕ) (p : Permit Outcome) (vs : List ℕ) → node_at words at ≡ got (stored (permits p)) vs → decision_of words T buf (permitted_at p.outcome at at 0) ≡ permits p
+  pub permitted_stored : (at : ℕ) (p : Permit Outcome) (vs : List ℕ) → node_at words at ≡ got (stored (permits p)) vs → decision_of words T buf (permitted_at p.outcome (Some at) (Some at) 0) ≡ permits p
   unfolding decision_of permit_of obligations_in clause_at obligations_at
   permitted_stored at p vs n =
       ap (λ q. permits (record { outcome = p.outcome; obligations = obligations_read q ++ []; label = (clause_read T q).label; facts = (clause_read T q).facts })) n
       ∙ ap (λ os. permits (record { outcome = p.outcome; obligations = os; label = p.label; facts = p.facts })) (append-nil p.obligations)
 
 -- ---- sound decisions
-pub sound_denied : (words buf : List ℕ) (at none : ℕ) → Names words at → length words ≤ none → Sound words buf (denied_at at none)
-sound_denied words buf at none n h = record { clause = n; held = past h; appended = (tt, tt); bare = λ _. refl }
+pub sound_denied : (words buf : List ℕ) (at : Option ℕ) → Names words at → Sound words buf (denied_at at)
+sound_denied words buf at n = record { clause = n; held = tt; appended = (tt, tt); bare = λ _. refl }
 
-pub sound_permitted : (words buf : List ℕ) (o at : ℕ) → Names words at → Sound words buf (permitted_at o at at 0)
+pub sound_permitted : (words buf : List ℕ) (o : ℕ) (at : Option ℕ) → Names words at → Sound words buf (permitted_at o at at 0)
 sound_permitted words buf o at n = record { clause = n; held = n; appended = (tt, tt); bare = λ _. refl }

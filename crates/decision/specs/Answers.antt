@@ -1,5 +1,5 @@
 -- What the functions over decisions and their obligations answer, before and after being the buffer's bytes at entry and at exit.
-use Rattle.std.specs.Prelude.{◌≡◌, true, List, [], ◌∷◌, ◌++◌, ℕ, ◌^◌, ◌≤◌, take, drop}
+use Rattle.std.specs.Prelude.{◌≡◌, true, Option, List, [], ◌∷◌, ◌++◌, ℕ, ◌^◌, ◌≤◌, take, drop}
 use Rattle.std.specs.Int.Bits.{bit_or}
 use Rattle.model.specs.Facts.{Table}
 use Rattle.model.specs.Decision.{Permit, union_obligations}
@@ -9,25 +9,20 @@ use Rattle.model.specs.Reading.{obligation_count}
 use Rattle.laws.specs.Lists.{Below}
 use Rattle.decision.specs.Room.{obligation_room, list_room, Few}
 use Rattle.decision.specs.declared.Decision.{Decision}
-use Rattle.decision.specs.declared.Union.{Union}
-use Rattle.decision.specs.Nodes.{obligation_fields, obligations_at}
+use Rattle.decision.specs.Nodes.{obligations_at}
 use Rattle.decision.specs.Meaning.{obligations_in, Appended, permit_of, Names, Sound}
 
--- The first `count` fields after a node's second word stand at the front.
-pub record Listed (node : List ℕ) (count : ℕ) (out : List ℕ) : Type 0 where
-  pub front : take count out ≡ obligation_fields count (drop 2 node)
-
--- The obligations of the node at `at` stand at the front.
-pub record Loaded (words : List ℕ) (at : ℕ) (out : List ℕ) (r : ℕ) : Type 0 where
+-- The obligations of the node that is named stand at the front.
+pub record Loaded (words : List ℕ) (named : Option ℕ) (out : List ℕ) (r : ℕ) : Type 0 where
   pub few : r ≤ most_held
-  pub front : Names words at → take r out ≡ obligations_at words at
+  pub front : Names words named → take r out ≡ obligations_at words named
 
 -- A decision's obligations stand at the front.
 pub record Held (words : List ℕ) (d : Decision) (buf out : List ℕ) (r : ℕ) : Type 0 where
   pub few : r ≤ list_room
   pub front : Names words d.obligations → take r out ≡ obligations_in words buf d
 
--- ---- the union
+-- ---- masks
 -- A list of numbers as a mask, one bit each, with those that a mask had before.
 abbrev pub mask_from : ℕ → List ℕ → ℕ
 mask_from m [] = m
@@ -35,21 +30,6 @@ mask_from m (x ∷ xs) = mask_from (bit_or m (2 ^ x)) xs
 
 pub record Masked (m : ℕ) (os : List ℕ) (r : ℕ) : Type 0 where
   pub is : Below obligation_count os → r ≡ mask_from m os
-
--- The mask is that of the list os and of what was appended to it.
-pub record Holding (os buf : List ℕ) (u : Union) : Type 0 where
-  pub mask_is : u.mask ≡ mask_from 0 (os ++ take u.count buf)
-  pub appended : Appended (take u.count buf)
-
--- Those of ps that were not held were appended, one by one.
-pub record Grown (ps before after : List ℕ) (u r : Union) : Type 0 where
-  pub few : r.count ≤ obligation_room
-  pub holds : (os : List ℕ) → Below obligation_count ps → Holding os before u → Holding os after r
-  pub grown : (os : List ℕ) → Below obligation_count ps → Holding os before u → os ++ take r.count after ≡ union_obligations (os ++ take u.count before) ps
-
-pub record GrownBy (A : Type 0) (ps before after : List ℕ) (u r : Union) : Type 0 where
-  pub few : r.count ≤ obligation_room
-  pub grows : A → Grown ps before after u r
 
 -- A decision has no obligations, whatever its buffer holds.
 pub record Unobliged (words : List ℕ) (d : Decision) : Type 0 where

@@ -1,5 +1,5 @@
 -- What a decision of the code stands for, given the words and the buffer that it names. Document 01, "Policies" and "Folds".
-use Rattle.std.specs.Prelude.{◌≡◌, Bool, true, false, cond, List, ◌++◌, ℕ, ◌≤◌, length, take}
+use Rattle.std.specs.Prelude.{◌≡◌, Bool, true, false, cond, Option, None, Some, List, ◌++◌, ℕ, ◌≤◌, length, take}
 use Rattle.model.specs.Facts.{Table}
 use Rattle.model.specs.Outcome.{no_product}
 use Rattle.model.specs.Decision.{Permit, permits, denies}
@@ -12,16 +12,16 @@ use Rattle.decision.specs.declared.Decision.{Decision}
 use Rattle.decision.specs.Nodes.{node_at, clause_at, obligations_at}
 
 -- The values that the constructors give.
-abbrev pub denied_at : ℕ → ℕ → Decision
-denied_at at none = record { permit = false; outcome = no_product; clause = at; obligations = none; united = 0 }
+abbrev pub denied_at : Option ℕ → Decision
+denied_at at = record { permit = false; outcome = no_product; clause = at; obligations = None; united = 0 }
 
-abbrev pub permitted_at : ℕ → ℕ → ℕ → ℕ → Decision
+abbrev pub permitted_at : ℕ → Option ℕ → Option ℕ → ℕ → Decision
 permitted_at o at from n = record { permit = true; outcome = o; clause = at; obligations = from; united = n }
 
 -- The decision of a grant at `at` on the outcome o, by whether its condition is satisfied.
-abbrev pub granted_at : Bool → ℕ → ℕ → ℕ → Decision
-granted_at true o at end = permitted_at o at at 0
-granted_at false o at end = denied_at at end
+abbrev pub granted_at : Bool → ℕ → ℕ → Decision
+granted_at true o at = permitted_at o (Some at) (Some at) 0
+granted_at false o at = denied_at (Some at)
 
 -- A permit's obligations: those of the node, and then those in the buffer.
 unfoldable pub obligations_in : List ℕ → List ℕ → Decision → List ℕ
@@ -39,9 +39,14 @@ unfoldable pub decision_of : List ℕ → Table → List ℕ → Decision → De
 decision_of words T buf d = cond d.permit (permits (permit_of words T buf d)) (denies (clause_at words T d.clause))
 
 -- A position of a node that reads, or past the end.
-pub data Names (words : List ℕ) (at : ℕ) : Type 0 where
-  past : length words ≤ at → Names words at
-  reads : (t : Policy Outcome) (ws : List ℕ) → node_at words at ≡ got t ws → Names words at
+pub data Stands (words : List ℕ) (at : ℕ) : Type 0 where
+  past : length words ≤ at → Stands words at
+  reads : (t : Policy Outcome) (ws : List ℕ) → node_at words at ≡ got t ws → Stands words at
+
+-- No node is named, or one at such a position.
+abbrev pub Names : List ℕ → Option ℕ → Type 0
+Names words None = Unit {0}
+Names words (Some at) = Stands words at
 
 -- What every decision of a walk over words that read keeps to. A deny has no bytes in the buffer.
 pub record Sound (words buf : List ℕ) (d : Decision) : Type 0 where

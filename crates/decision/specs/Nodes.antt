@@ -1,5 +1,5 @@
 -- What the node at a position of the words gives a decision: its clause and its obligations.
-use Rattle.std.specs.Prelude.{true, List, [], ℕ}
+use Rattle.std.specs.Prelude.{true, cond, Option, None, Some, List, [], ℕ, ltb, length}
 use Rattle.std.proofs.Math.Option.{some, none}
 use Rattle.model.specs.Facts.{Table}
 use Rattle.model.specs.Condition.{ConditionEval, satisfied, unsatisfied, eval_condition}
@@ -46,7 +46,12 @@ obligations_of (any ts) = []
 obligations_of (or_else a b) = []
 obligations_of (stored d) = obligations_of_d d
 
--- The node at a position. Past the end there is none, and nothing is named.
+-- The position that is named, if the words reach it.
+abbrev pub reached : List ℕ → Option ℕ → Option ℕ
+reached words None = None
+reached words (Some at) = cond (ltb at (length words)) (Some at) None
+
+-- The node at a position. Past the end there is none.
 unfoldable pub node_at : List ℕ → ℕ → Parsed (Policy Outcome)
 node_at words at = policy_at words at levels
 
@@ -58,11 +63,14 @@ abbrev pub obligations_read : Parsed (Policy Outcome) → List ℕ
 obligations_read (refuse n) = []
 obligations_read (got t ws) = obligations_of t
 
-unfoldable pub clause_at : List ℕ → Table → ℕ → Denial Outcome
-clause_at words T at = clause_read T (node_at words at)
+-- What the node that is named gives. Where none is named, nothing.
+unfoldable pub clause_at : List ℕ → Table → Option ℕ → Denial Outcome
+clause_at words T None = generic_deny
+clause_at words T (Some at) = clause_read T (node_at words at)
 
-unfoldable pub obligations_at : List ℕ → ℕ → List ℕ
-obligations_at words at = obligations_read (node_at words at)
+unfoldable pub obligations_at : List ℕ → Option ℕ → List ℕ
+obligations_at words None = []
+obligations_at words (Some at) = obligations_read (node_at words at)
 
 -- ---- obligations as fields of the words
 

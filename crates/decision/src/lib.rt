@@ -2,34 +2,34 @@
 // A walk keeps no lists: a decision names nodes of the lent words by position, and only obligations that a join appended stand in a lent buffer.
 #![tactic(auto)]
 
-ghost use Rattle.std.specs.Prelude.{◌≡◌, eqb, true, ◌∷◌, [], ◌≤◌, ◌<◌, ◌^◌, length, take, drop};
+ghost use Rattle.std.specs.Prelude.{◌≡◌, eqb, true, None, ◌∷◌, [], ◌≤◌, ◌<◌, ◌^◌, length, take, drop};
 ghost use Rattle.std.specs.Int.Bits.{bit_or};
-ghost use Rattle.model.specs.Writing.{obligation_bits, most_held};
+ghost use Rattle.model.specs.Writing.{most_held};
 ghost use Rattle.model.specs.Reading.{obligation_count};
 ghost use Rattle.std.proofs.Math.Option.{Option};
 ghost use Rattle.model.specs.Levels.{OutcomeTable, meet_of, join_of};
 ghost use Rattle.model.specs.Products.{meet_permit, join_permit};
-ghost use Rattle.laws.specs.FieldAt.{field_at};
 ghost use Rattle.decision.specs.Room.{obligation_room, list_room, RoomToUnite, Few};
-ghost use Rattle.decision.specs.Nodes.{obligations_at, obligation_count_of, obligation_fields};
+ghost use Rattle.decision.specs.Nodes.{reached, obligations_at, obligation_count_of, obligation_fields};
 ghost use Rattle.decision.specs.Meaning.{denied_at, permitted_at, granted_at, Names};
-ghost use Rattle.decision.specs.Answers.{Listed, Loaded, Held, Masked, Grown, GrownBy, Unobliged, Both, Kept, Folded};
+ghost use Rattle.decision.specs.Answers.{Loaded, Held, Masked, Unobliged, Both, Kept, Folded};
 
 use outcome::Products;
 use policy_model::PolicyHead;
 
-// What was decided. A position is that of a grant or of a stored decision, or the number of words for none.
-// One flat value and no enum: nearly every use asks `permit` and one field that both kinds have, and a match would give each of them two arms.
+// What was decided. A position is that of a grant or of a stored decision.
+// One flat value and no enum: most uses ask `permit` alone or the clause, which both kinds have, and a match would give each of them two arms.
 #[derive(Clone, Copy, PartialEq, Eq)]
 pub struct Decision {
     pub permit: bool,
     // of a permit; no product on deny
     pub outcome: u16,
     // the node whose label, reason, shape and facts it carries
-    pub clause: usize,
+    pub clause: Option<usize>,
     // of a permit: the node whose obligations it has
-    pub obligations: usize,
-    // of a permit: how many more it has, which joins appended, at the front of the buffer
+    pub obligations: Option<usize>,
+    // Of a permit: how many more it has, which joins appended, at the front of the buffer. That they fit in their room (`Few`) is asked by each function that
+    // reads the buffer, and is no ghost field: others, such as `products`, take any decision, and with one they would ask more of their callers.
     pub united: usize,
 }
 
@@ -51,62 +51,31 @@ pub const OBLIGATION_ROOM: usize = policy_model::OBLIGATION_NUMBERS as usize;
 // The most obligations of a node: as many as the bits of their count can say.
 pub const MOST_HELD: usize = policy_model::OBLIGATION_COUNTS as usize - 1;
 
-// All obligations of a decision: those of its node, and those that were appended.
-pub const LIST_ROOM: usize = MOST_HELD + OBLIGATION_ROOM;
+// Room for all obligations of a decision: fewer than 128 of its node, and those that were appended.
+pub const LIST_ROOM: usize = policy_model::OBLIGATION_COUNTS as usize + OBLIGATION_ROOM;
 
-// A deny with the clause of the node at `at`, or with nothing named where `at` is the number of words.
-pub fn denied_by(at: usize, none: usize) -> Decision
-    ensures { result ≡ denied_at at none }
+// A deny with the clause of the node at `at`, or with nothing named.
+pub fn denied_by(at: Option<usize>) -> Decision
+    ensures { result ≡ denied_at at }
 {
     Decision {
         permit: false,
         outcome: Products::NONE.bits,
         clause: at,
-        obligations: none,
+        obligations: None,
         united: 0,
     }
 }
 
-// A deny, Forbidden, with nothing named. `none` is the number of words.
-pub fn denied(none: usize) -> Decision
-    ensures { result ≡ denied_at none none }
+// A deny, Forbidden, with nothing named.
+pub fn denied() -> Decision
+    ensures { result ≡ denied_at None }
 {
-    denied_by(none, none)
-}
-
-// A permit with the label, facts and obligations of the node at `at`.
-pub fn permitted_by(outcome: u16, at: usize) -> Decision
-    ensures { result ≡ permitted_at outcome at at 0 }
-{
-    Decision {
-        permit: true,
-        outcome,
-        clause: at,
-        obligations: at,
-        united: 0,
-    }
-}
-
-// A permit with nothing but its outcome. `none` is the number of words.
-pub fn permitted(outcome: u16, none: usize) -> Decision
-    ensures { result ≡ permitted_at outcome none none 0 }
-{
-    permitted_by(outcome, none)
-}
-
-// The decision of a grant at `at` on the outcome, by whether its condition is satisfied. `none` is the number of words.
-pub fn granted(satisfied: bool, outcome: u16, at: usize, none: usize) -> Decision
-    ensures { result ≡ granted_at satisfied outcome at none }
-{
-    if satisfied {
-        permitted_by(outcome, at)
-    } else {
-        denied_by(at, none)
-    }
+    denied_by(None)
 }
 
 // A permit with the label and facts of the node at `at`, and with the obligations of the node at `held` and the first `united` bytes of the buffer.
-fn with_united(outcome: u16, at: usize, held: usize, united: usize) -> Decision
+fn with_united(outcome: u16, at: Option<usize>, held: Option<usize>, united: usize) -> Decision
     ensures { result ≡ permitted_at outcome at held united }
 {
     Decision {
@@ -116,6 +85,38 @@ fn with_united(outcome: u16, at: usize, held: usize, united: usize) -> Decision
         obligations: held,
         united,
     }
+}
+
+// A permit with the label, facts and obligations of the node at `at`, or with nothing but its outcome.
+pub fn permitted_by(outcome: u16, at: Option<usize>) -> Decision
+    ensures { result ≡ permitted_at outcome at at 0 }
+{
+    with_united(outcome, at, at, 0)
+}
+
+// A permit with nothing but its outcome.
+pub fn permitted(outcome: u16) -> Decision
+    ensures { result ≡ permitted_at outcome None None 0 }
+{
+    permitted_by(outcome, None)
+}
+
+// The decision of a grant at `at` on the outcome, by its condition's answer, just given: `satisfied` is no switch.
+pub fn granted(satisfied: bool, outcome: u16, at: usize) -> Decision
+    ensures { result ≡ granted_at satisfied outcome at }
+{
+    if satisfied {
+        permitted_by(outcome, Some(at))
+    } else {
+        denied_by(Some(at))
+    }
+}
+
+// The node that is named, if the words reach it.
+pub fn node_in(words: &[u32], named: Option<usize>) -> Option<usize>
+    ensures { result ≡ reached words.now named }
+{
+    named.filter(|at| *at < words.len())
 }
 
 // How many obligations a node has, by its first word.
@@ -130,42 +131,32 @@ fn obligation_count(word: u32) -> usize
     }
 }
 
-// Obligation `i` of a list that starts two words after its node's first: four to a word. 0 where the words end.
-fn obligation_at(node: &[u32], i: usize) -> u8
-    requires { i < most_held }
-    ensures { result ≡ field_at obligation_bits (drop 2 node.now) i }
+// Fills `out` with a node's first obligations. They begin two words after its first.
+#[tactic(auto, using(crate::proofs::Lists::load_more), unfolding(laws::specs::FieldAt::firsts))]
+fn load_list(node: &[u32], out: &mut [u8])
+    ensures { out.new ≡ obligation_fields (length out.old) (drop 2 node.now) }
 {
-    let at = 2 + i / 4;
-    if node.len() <= at {
-        return 0;
-    }
-    ((node[at] >> (24 - i % 4 * 8)) % policy_model::QUARTER) as u8
-}
-
-// Writes the first `count` obligations of a node to the front of `out`.
-fn load_list(node: &[u32], count: usize, out: &mut [u8])
-    requires { (count ≤ most_held) × (count ≤ length out.old) }
-    ensures { Listed node.now count out.new }
-{
-    for i in 0..count {
-        out[i] = obligation_at(node, i);
+    for (i, slot) in out.iter_mut().enumerate() {
+        *slot = packing::unpack_obligation(node, 2, i);
     }
 }
 
-// Writes the obligations of the node at `at` to the front of `out`, and returns how many there are.
-fn load_obligations(words: &[u32], at: usize, out: &mut [u8]) -> usize
+// Writes the obligations of the node that is named to the front of `out`, and returns how many there are.
+#[tactic(auto, using(crate::proofs::Nodes::reached_inside, crate::proofs::Nodes::loaded_none, crate::proofs::Nodes::loaded))]
+fn load_obligations(words: &[u32], named: Option<usize>, out: &mut [u8]) -> usize
     requires { most_held ≤ length out.old }
-    ensures { Loaded words.now at out.new result }
+    ensures { Loaded words.now named out.new result }
 {
-    if words.len() <= at {
+    let Some(at) = node_in(words, named) else {
         return 0;
-    }
+    };
     let count = obligation_count(words[at]);
-    load_list(&words[at..], count, out);
+    load_list(&words[at..], &mut out[..count]);
     count
 }
 
 // Writes a decision's obligations to the front of `out`, and returns how many there are: those of its node, and then those that were appended.
+#[tactic(auto, using(crate::proofs::Lists::held_with))]
 pub fn obligations(words: &[u32], decision: Decision, buf: &[u8], out: &mut [u8]) -> usize
     requires { Few decision × RoomToUnite 1 buf.now × (list_room ≤ length out.old) }
     ensures { Held words.now decision buf.now out.new result }
@@ -174,13 +165,6 @@ pub fn obligations(words: &[u32], decision: Decision, buf: &[u8], out: &mut [u8]
     let count = decision.united;
     out[own..own + count].copy_from_slice(&buf[..count]);
     own + count
-}
-
-// The obligations that are held, one bit each, and how many of them stand in the buffer.
-#[derive(Drop)]
-struct Union {
-    mask: u64,
-    count: usize,
 }
 
 // The mask with one more. No obligation that reads is over 63.
@@ -194,6 +178,7 @@ fn with_bit(mask: u64, obligation: u8) -> u64
 }
 
 // The mask with these obligations.
+#[tactic(auto, using(crate::proofs::Masks::masked_more))]
 fn with_bits(mask: u64, obligations: &[u8]) -> u64
     ensures { Masked mask obligations.now result }
 {
@@ -204,76 +189,89 @@ fn with_bits(mask: u64, obligations: &[u8]) -> u64
     all
 }
 
-// The mask of the obligations of the node at `at`.
-fn node_mask(words: &[u32], at: usize) -> u64
-    ensures { Names words.now at → Masked 0 (obligations_at words.now at) result }
+// The mask of the obligations of the node that is named. This and `append_node` keep frames of their own, since folds are compiled into the walks, and their
+// room would stand in a frame for each level.
+#[inline(never)]
+fn node_mask(words: &[u32], named: Option<usize>) -> u64
+    ensures { Names words.now named → Masked 0 (obligations_at words.now named) result }
 {
     let mut own = [0u8; MOST_HELD];
-    let count = load_obligations(words, at, &mut own);
+    let count = load_obligations(words, named, &mut own);
     with_bits(0, &own[..count])
 }
 
-// Appends the obligation unless it is held. Where 64 were appended every obligation is held, so the last test never fails.
-fn append(union: Union, obligation: u8, buf: &mut [u8]) -> Union
-    requires { (union.count ≤ obligation_room) × RoomToUnite 1 buf.old }
-    ensures { Grown (obligation ∷ []) buf.old buf.new union result }
-{
-    let mask = union.mask;
-    let count = union.count;
-    if obligation >= OBLIGATION_NUMBERS {
-        return union;
-    }
-    if (mask >> obligation) % 2 == 1 {
-        return union;
-    }
-    if count < OBLIGATION_ROOM {
-        buf[count] = obligation;
-        return Union {
-            mask: with_bit(mask, obligation),
-            count: count + 1,
-        };
-    }
-    union
+// The obligations that are held, one bit each, and how many of them stand in the buffer.
+#[derive(Drop)]
+struct Union {
+    mask: u64,
+    count: usize,
+    ghost bounded: { count ≤ obligation_room },
 }
 
-// Appends these obligations, one by one.
-fn append_all(union: Union, obligations: &[u8], buf: &mut [u8]) -> Union
-    requires { (union.count ≤ obligation_room) × RoomToUnite 1 buf.old }
-    ensures { Grown obligations.now buf.old buf.new union result }
-{
-    let mut all = union;
-    for obligation in obligations {
-        all = append(all, *obligation, buf);
-    }
-    all
-}
+impl Union {
+    ghost use Rattle.decision.specs.Uniting.{Grown};
 
-// Appends those of the node at `at`.
-fn append_node(union: Union, words: &[u32], at: usize, buf: &mut [u8]) -> Union
-    requires { (union.count ≤ obligation_room) × RoomToUnite 1 buf.old }
-    ensures { GrownBy (Names words.now at) (obligations_at words.now at) buf.old buf.new union result }
-{
-    let mut own = [0u8; MOST_HELD];
-    let count = load_obligations(words, at, &mut own);
-    append_all(union, &own[..count], buf)
+    // Appends the obligation unless it is held. Where 64 were appended every obligation is held, so the last test never fails.
+    #[tactic(auto, using(crate::proofs::Unions::append_held, crate::proofs::Unions::append_new, crate::proofs::Unions::append_full))]
+    fn append(&mut self, obligation: u8, buf: &mut [u8])
+        requires { RoomToUnite 1 buf.old }
+        ensures { Grown (obligation ∷ []) buf.old buf.new self.old self.new }
+    {
+        if obligation >= OBLIGATION_NUMBERS {
+            return;
+        }
+        if (self.mask >> obligation) % 2 == 1 {
+            return;
+        }
+        if self.count < OBLIGATION_ROOM {
+            buf[self.count] = obligation;
+            self.mask = with_bit(self.mask, obligation);
+            self.count += 1;
+        }
+    }
+
+    // Appends these obligations, one by one.
+    #[tactic(auto, using(crate::proofs::Unions::grown_more))]
+    fn append_all(&mut self, obligations: &[u8], buf: &mut [u8])
+        requires { RoomToUnite 1 buf.old }
+        ensures { Grown obligations.now buf.old buf.new self.old self.new }
+    {
+        for obligation in obligations {
+            self.append(*obligation, buf);
+        }
+    }
+
+    // Appends those of the node that is named.
+    #[inline(never)]
+    fn append_node(&mut self, words: &[u32], named: Option<usize>, buf: &mut [u8])
+        requires { RoomToUnite 1 buf.old }
+        ensures { Names words.now named → Grown (obligations_at words.now named) buf.old buf.new self.old self.new }
+    {
+        let mut own = [0u8; MOST_HELD];
+        let count = load_obligations(words, named, &mut own);
+        self.append_all(&own[..count], buf);
+    }
 }
 
 // Whether a permit is known to have no obligations, so that there is nothing to unite. The field that counts them stands in one place in all
 // nodes that have any, so the word is tested without its head.
+#[tactic(auto, using(crate::proofs::Nodes::reached_inside))]
 fn unobliged(words: &[u32], decision: Decision) -> bool
     ensures { result ≡ true → Unobliged words.now decision }
 {
-    let at = decision.obligations;
     if decision.united != 0 {
         return false;
     }
-    if words.len() <= at {
+    let Some(at) = node_in(words, decision.obligations) else {
         return true;
-    }
+    };
     policy_model::obligations_of(words[at]) == 0
 }
 
-// Appends the obligations of the incoming permit to those of the permit so far, and returns how many bytes of the buffer these take then.
+// Appends the obligations of the incoming permit to those of the permit so far, and returns how many bytes of the buffer these take then. It is
+// compiled into the folds, and these into the list rules: with calls, whole decisions are laid in memory for each arm, and an Any of 4,095 Permits is evaluated
+// in 131 µs in place of 44.
+#[inline(always)]
 fn unite(words: &[u32], sofar: Decision, incoming: Decision, buf: &mut [u8]) -> usize
     requires { Few sofar × Few incoming × RoomToUnite 2 buf.old }
     ensures { Both words.now sofar incoming buf.old buf.new result }
@@ -281,9 +279,10 @@ fn unite(words: &[u32], sofar: Decision, incoming: Decision, buf: &mut [u8]) -> 
     let count = sofar.united;
     let (front, later) = buf.split_at_mut(OBLIGATION_ROOM);
     let mask = with_bits(node_mask(words, sofar.obligations), &front[..count]);
-    let union = append_node(Union { mask, count }, words, incoming.obligations, front);
-    let all = append_all(union, &later[..incoming.united], front);
-    all.count
+    let mut union = Union { mask, count };
+    union.append_node(words, incoming.obligations, front);
+    union.append_all(&later[..incoming.united], front);
+    union.count
 }
 
 // The incoming decision of an arm, whose buffer starts at the second room, as the decision so far, whose buffer is the front.
@@ -305,7 +304,8 @@ fn same_outcome(a: u16, b: u16) -> bool
 }
 
 // Two permits under All, whose outcomes meet in `outcome`. The permit so far has its buffer at the front, the incoming one from the second room on; the result
-// has it at the front. What a fold takes stays five parameters, here and where it is called: a struct of them would be made for one call.
+// has it at the front. Five parameters and no struct: each comes from elsewhere at each call, so a struct would be made to be taken apart at once.
+#[inline(always)]
 pub fn meet(
     words: &[u32],
     outcome: u16,
@@ -323,11 +323,12 @@ pub fn meet(
     if same_outcome(outcome, incoming.outcome) {
         return keep(incoming, buf);
     }
-    permitted(outcome, words.len())
+    permitted(outcome)
 }
 
 // Two permits under Any, whose outcomes join in `outcome`, with the buffers as in `meet`. Not one function with that: a meet unites no obligations, so where
 // the outcome is that of both, or of neither, the two go apart.
+#[inline(always)]
 pub fn join(
     words: &[u32],
     outcome: u16,
@@ -353,5 +354,5 @@ pub fn join(
         return keep(incoming, buf);
     }
     let united = unite(words, sofar, incoming, buf);
-    with_united(outcome, words.len(), sofar.obligations, united)
+    with_united(outcome, None, sofar.obligations, united)
 }

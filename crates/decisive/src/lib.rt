@@ -94,6 +94,7 @@ pub fn decisive_arm(walk: &Walk<'_>, at: usize, depth: usize, out: &mut [u16]) -
 
 // The list rule for `arms` conditions from `at`. The facts of an arm stand after those of the arms before it. The first arm that has the value `stop`
 // decides: its facts alone are kept, and later arms aren't read. All stops at false, Any at true: `stop` is the value, and no switch.
+// Beside `reduce_arms` of partial_condition and `visit_conditions` of visits: facts, what is left, or a count is what each loop is about.
 #[cycle(naming)]
 fn decisive_arms(
     walk: &Walk<'_>,

@@ -29,7 +29,7 @@ use Rattle.consulted.specs.Listing.{Lent}
 use Rattle.consulted.proofs.Listing.{consults_none, consults_then, consults_as}
 use Rattle.decision.specs.declared.Decision.{Decision}
 use Rattle.decision.specs.Nodes.{clause_at}
-use Rattle.decision.specs.Meaning.{denied_at, permit_of, decision_of, past, Sound}
+use Rattle.decision.specs.Meaning.{denied_at, permit_of, decision_of, Sound}
 use Rattle.decision.proofs.Standing.{denied_is, sound_denied}
 use Rattle.decision.proofs.Buffers.{deny_decision, deny_sound}
 use Rattle.evaluate.specs.declared.PolicyEval.{PolicyEval}
@@ -97,24 +97,21 @@ module _ {g : Option OutcomeTable} {T : Table} {value others : Policies Outcome 
 
 -- No arm is left: the decision so far is the answer, or a deny with nothing named.
 module _ (T : Table) (W before : List ℕ) where
-  abbrev stop : Decision
-  stop = denied_at (length W) (length W)
-
-  ended_is : (sofar : Sofar Decision) → decision_of W T before (unwrap_or sofar stop) ≡ or_denied (sofar_of W T before sofar)
-  ended_is None = denied_is W T before (length W) (omega arith)
+  ended_is : (sofar : Sofar Decision) → decision_of W T before (unwrap_or sofar (denied_at None)) ≡ or_denied (sofar_of W T before sofar)
+  ended_is None = denied_is W T before
   ended_is (Some d) = refl
 
-  ended_sound : (sofar : Sofar Decision) → IfSome sofar (Sound W before) → Sound W before (unwrap_or sofar stop)
-  ended_sound None s = sound_denied W before (length W) (length W) (past (omega arith)) (omega arith)
+  ended_sound : (sofar : Sofar Decision) → IfSome sofar (Sound W before) → Sound W before (unwrap_or sofar (denied_at None))
+  ended_sound None s = sound_denied W before None tt
   ended_sound (Some d) s = s
 
-  ended_few : (sofar : Sofar Decision) → IfSome sofar Few → Few (unwrap_or sofar stop)
+  ended_few : (sofar : Sofar Decision) → IfSome sofar Few → Few (unwrap_or sofar (denied_at None))
   ended_few None few = omega arith
   ended_few (Some d) few = few
 
 pub arms_none : {T : Table} {W before : List ℕ} {value : Policies Outcome → Decided Outcome} {reads : Policies Outcome → Consulted → Consulted} {sofar : Sofar Decision} {at depth : ℕ} {arms : ℕ} {s : Lent} →
     arms ≡ 0 → IfSome sofar Few → value pnil ≡ or_denied (sofar_of W T before sofar) → ((l : Consulted) → reads pnil l ≡ l) →
-    ArmsLeft value reads T W sofar before at depth arms s (eval_of (unwrap_or sofar (denied_at (length W) (length W))) at) s before
+    ArmsLeft value reads T W sofar before at depth arms s (eval_of (unwrap_or sofar (denied_at None)) at) s before
 arms_none {T = T} {W} {before} {sofar = sofar} z few v e = record {
   few = ended_few T W before sofar few;
   says = λ sound. rw z (fine (record { decision_is = ended_is T W before sofar ∙ sym v; sound = ended_sound T W before sofar sound; next_is = omega arith; log = consults_as e consults_none }));
@@ -288,7 +285,7 @@ module _ {g : Option OutcomeTable} {T : Table} {W : List ℕ} {at depth : ℕ} {
   }
 
 -- ---- a loop over arms: the buffer was buf₀, and is buf now; what answers for the arms that are left answers for all
-pub record Going (Left Whole : PolicyEval → Lent → List ℕ → Type 0) (Keeps : Decision → Type 0) (sofar : Sofar Decision) (buf₀ buf : List ℕ) : Type 0 where
+pub record Going (Left Whole : PolicyEval → Lent → List ℕ → Type 0) (sofar : Sofar Decision) (buf₀ buf : List ℕ) : Type 0 where
   pub buf_long : length buf ≡ length buf₀
-  pub keeps : IfSome sofar Keeps
+  pub few : IfSome sofar Few
   pub goes : (r : PolicyEval) (t : Lent) (end : List ℕ) → Left r t end → Whole r t end

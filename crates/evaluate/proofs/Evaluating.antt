@@ -8,8 +8,8 @@ use Prim.Native.Nat.{ℕ, zero, suc, ◌+◌, ◌-◌, ◌/◌, ◌%◌, ◌≤�
 use native.Mathlib.Numerals.{sub-one}
 use native.Mathlib.Omega.{arith}
 use lib.ListN.{length, drop, get_or, length-drop}
-use lib.Seq.{drop-drop, get_or-drop}
-use Rattle.std.specs.Prelude.{Option as Carried}
+use lib.Seq.{drop-drop}
+use Rattle.std.specs.Prelude.{Option as Carried, Some, None}
 use Rattle.model.specs.Facts.{Table}
 use Rattle.model.specs.Condition.{Condition, satisfied, unsatisfied, eval_condition}
 use Rattle.model.specs.Condition as model
@@ -30,7 +30,7 @@ use Rattle.policy_model.specs.Heads.{policy_head, policy_node, permit_trace_node
 use Rattle.policy_model.proofs.Policies.{node_of}
 use Rattle.policy_model.specs.HeadLaws.{policy_deep, permit_word}
 use Rattle.policy_model.proofs.Checking.{no_word}
-use Rattle.policy_model.proofs.Skipping.{grant_says}
+use Rattle.policy_model.proofs.Skipping.{grant_says, permit_owns, deny_owns}
 use Rattle.grant.specs.Fields.{outcome_at, obligations_at}
 use Rattle.condition.specs.declared.ConditionEval.{ConditionEval}
 use Rattle.consulted.specs.Listing.{Lent}
@@ -38,10 +38,10 @@ use Rattle.condition.specs.Evaluating.{is_satisfied, Evaluated, EvaluatesC}
 use Rattle.consulted.proofs.Listing.{consults_none, consults_as}
 use Rattle.decision.specs.declared.Decision.{Decision}
 use Rattle.decision.specs.Nodes.{node_at}
-use Rattle.decision.specs.Meaning.{denied_at, permitted_at, granted_at, decision_of, past, reads, Sound}
+use Rattle.decision.specs.Meaning.{denied_at, permitted_at, granted_at, decision_of, reads, Sound}
 use Rattle.decision.proofs.Standing.{node_reads, as_permit, denied_is, denied_grant, denied_stored, permitted_is, permitted_grant, permitted_stored, sound_denied, sound_permitted}
 use Rattle.evaluate.specs.declared.PolicyEval.{PolicyEval}
-use Rattle.evaluate.specs.Evaluating.{eval_of, Answers, EvaluatesP, stored_words, EvaluatesBy}
+use Rattle.evaluate.specs.Evaluating.{eval_of, Answers, EvaluatesP, after_node, EvaluatesBy}
 use Rattle.evaluate.proofs.Nodes.{held_at, in_sheet, node_holds, node_knows, grant_reads, IsPermit, permit_reads, IsDeny, deny_reads}
 use Rattle.decision.specs.Room.{obligation_room, Few}
 
@@ -69,40 +69,40 @@ module _ {g : Option OutcomeTable} {T : Table} {W : List ℕ} {at depth : ℕ} {
 
 -- ---- words that don't read, and nodes without parts
 module _ {g : Option OutcomeTable} {T : Table} {W : List ℕ} {at depth : ℕ} {next : ℕ} {s : Lent} {buf : List ℕ} where
-  pub eval_end : length W ≤ at → EvaluatesP g T W at depth s (eval_of (denied_at (length W) (length W)) next) s buf
+  pub eval_end : length W ≤ at → EvaluatesP g T W at depth s (eval_of (denied_at None) next) s buf
   eval_end h = record {
     few = omega arith;
     says = λ res. rw (no_word W at h, nothing_there res depth) nothing;
   }
 
-  pub eval_limit : depth ≡ 0 → EvaluatesP g T W at depth s (eval_of (denied_at (length W) (length W)) next) s buf
+  pub eval_limit : depth ≡ 0 → EvaluatesP g T W at depth s (eval_of (denied_at None) next) s buf
   eval_limit z = record { few = omega arith; says = λ res. rw z (no_levels res (drop at W)) }
 
   module _ (lt : at < length W) where
-    pub eval_bad : {h : PolicyHead} → (h ≡ BadKind) ⊎ (h ≡ BadField) → EvaluatesBy g h T W at depth s (eval_of (denied_at (length W) (length W)) next) s buf
+    pub eval_bad : {h : PolicyHead} → (h ≡ BadKind) ⊎ (h ≡ BadField) → EvaluatesBy g h T W at depth s (eval_of (denied_at None) next) s buf
     unfolding policy_node
     eval_bad (inl e) = rw e (record { few = omega arith; says = λ e. node_holds W at depth BadKind lt e nothing })
     eval_bad (inr e) = rw e (record { few = omega arith; says = λ e. node_holds W at depth BadField lt e nothing })
 
-    pub eval_permit : {o : ℕ} → next ≡ at + 1 → EvaluatesBy g (Permit o) T W at depth s (eval_of (permitted_at o (length W) (length W) 0) next) s buf
+    pub eval_permit : {o : ℕ} → next ≡ at + 1 → EvaluatesBy g (Permit o) T W at depth s (eval_of (permitted_at o None None 0) next) s buf
     unfolding policy_node
     eval_permit {o} n = record {
       few = omega arith;
       says = λ e. node_holds W at depth (Permit o) lt e (fine (record {
-        decision_is = as_permit W T buf (permitted_at o (length W) (length W) 0) refl ∙ ap permits (permitted_is W T buf o (length W) (omega arith));
-        sound = sound_permitted W buf o (length W) (past (omega arith));
+        decision_is = as_permit W T buf (permitted_at o None None 0) refl ∙ ap permits (permitted_is W T buf o);
+        sound = sound_permitted W buf o None tt;
         next_is = n;
         log = consults_as (λ l. refl) consults_none;
       }));
     }
 
-    pub eval_deny : next ≡ at + 1 → EvaluatesBy g Deny T W at depth s (eval_of (denied_at (length W) (length W)) next) s buf
+    pub eval_deny : next ≡ at + 1 → EvaluatesBy g Deny T W at depth s (eval_of (denied_at None) next) s buf
     unfolding policy_node
     eval_deny n = record {
       few = omega arith;
       says = λ e. node_holds W at depth Deny lt e (fine (record {
-        decision_is = denied_is W T buf (length W) (omega arith);
-        sound = sound_denied W buf (length W) (length W) (past (omega arith)) (omega arith);
+        decision_is = denied_is W T buf;
+        sound = sound_denied W buf None tt;
         next_is = n;
         log = consults_as (λ l. refl) consults_none;
       }));
@@ -110,7 +110,7 @@ module _ {g : Option OutcomeTable} {T : Table} {W : List ℕ} {at depth : ℕ} {
 
 -- A word that one division shows to be a Permit.
 pub eval_permit_word : (g : Option OutcomeTable) (T : Table) (W : List ℕ) (at depth : ℕ) (s : Lent) (buf : List ℕ) → at < length W → get_or W at 0 / 65536 ≡ 24576 →
-    EvaluatesP g T W at depth s (eval_of (permitted_at (get_or W at 0 % 65536) (length W) (length W) 0) (at + 1)) s buf
+    EvaluatesP g T W at depth s (eval_of (permitted_at (get_or W at 0 % 65536) None None 0) (at + 1)) s buf
 eval_permit_word g T W at zero s buf lt e = record { few = omega arith; says = λ res. no_levels res (drop at W) }
 eval_permit_word g T W at (suc depth) s buf lt e =
     by_head (λ z. omega arith) refl (permit_word (get_or W at 0) true e) (eval_permit lt refl)
@@ -118,18 +118,18 @@ eval_permit_word g T W at (suc depth) s buf lt e =
 -- ---- a grant
 -- The answer to a grant at `at`, by the answer to its condition.
 module _ (T : Table) (W : List ℕ) (at : ℕ) (buf : List ℕ) (k : Clause Outcome) (c : Condition) (rest : List ℕ) (node : node_at W at ≡ got (grant k c) rest) where
-  pub granted_is : (b : Bool) (x : model.ConditionEval) → eval_condition T c ≡ x → b ≡ is_satisfied x → decision_of W T buf (granted_at b k.outcome at (length W)) ≡ eval_grant k (eval_condition T c)
+  pub granted_is : (b : Bool) (x : model.ConditionEval) → eval_condition T c ≡ x → b ≡ is_satisfied x → decision_of W T buf (granted_at b k.outcome at) ≡ eval_grant k (eval_condition T c)
   granted_is true (satisfied fs) e y = permitted_grant W T buf at k c rest fs node e
   granted_is true (unsatisfied fs) e y = cc
   granted_is false (satisfied fs) e y = cc
-  granted_is false (unsatisfied fs) e y = denied_grant W T buf at (length W) k c rest fs node e
+  granted_is false (unsatisfied fs) e y = denied_grant W T buf at k c rest fs node e
 
-  pub granted_sound : (b : Bool) → Sound W buf (granted_at b k.outcome at (length W))
-  granted_sound true = sound_permitted W buf k.outcome at (reads (grant k c) rest node)
-  granted_sound false = sound_denied W buf at (length W) (reads (grant k c) rest node) (omega arith)
+  pub granted_sound : (b : Bool) → Sound W buf (granted_at b k.outcome at)
+  granted_sound true = sound_permitted W buf k.outcome (Some at) (reads (grant k c) rest node)
+  granted_sound false = sound_denied W buf (Some at) (reads (grant k c) rest node)
 
   granted_answers : (g : Option OutcomeTable) (a : ConditionEval) (s t : Lent) (end : ℕ) → Evaluated (is_satisfied (eval_condition T c)) end (read_c T c) s a t → end ≡ at + words (grant k c) →
-      Answered g T W at s (eval_of (granted_at a.satisfied k.outcome at (length W)) a.next) t buf (grant k c) rest
+      Answered g T W at s (eval_of (granted_at a.satisfied k.outcome at) a.next) t buf (grant k c) rest
   granted_answers g a s t end h e = record {
     decision_is = granted_is a.satisfied (eval_condition T c) refl h.satisfied_is;
     sound = granted_sound a.satisfied;
@@ -137,9 +137,9 @@ module _ (T : Table) (W : List ℕ) (at : ℕ) (buf : List ℕ) (k : Clause Outc
     log = consults_as (λ l. refl) h.log;
   }
 
-pub granted_few : (b : Bool) (o at none : ℕ) → (granted_at b o at none).united ≤ obligation_room
-granted_few true o at none = omega arith
-granted_few false o at none = omega arith
+pub granted_few : (b : Bool) (o at : ℕ) → (granted_at b o at).united ≤ obligation_room
+granted_few true o at = omega arith
+granted_few false o at = omega arith
 
 module _ (g : Option OutcomeTable) (T : Table) (W : List ℕ) (at depth : ℕ) (shape : DenyShape) (n o : ℕ) (lt : at < length W) (deep : depth < 32) where
   -- A grant that ends early.
@@ -182,13 +182,13 @@ module _ (g : Option OutcomeTable) (T : Table) (W : List ℕ) (at depth : ℕ) (
       (node_knows W at depth (Grant shape n o) lt e (grant_reads depth shape n o (drop (at + 1) W)))
 
   pub grant_decides : (a : ConditionEval) (s t : Lent) (buf : List ℕ) → EvaluatesC T W (at + (2 + (n + 3) / 4)) depth s a t →
-      EvaluatesBy g (Grant shape n o) T W at depth s (eval_of (granted_at a.satisfied o at (length W)) a.next) t buf
+      EvaluatesBy g (Grant shape n o) T W at depth s (eval_of (granted_at a.satisfied o at) a.next) t buf
   grant_decides a s t buf c = record {
-    few = granted_few a.satisfied o at (length W);
+    few = granted_few a.satisfied o at;
     says = λ e. weaker (policy_at W at (suc depth)) (λ p rest f.
         let clause = f.clause in
-        subst (λ q. Answered g T W at s (eval_of (granted_at a.satisfied o at (length W)) a.next) t buf q rest) (sym f.policy_is)
-        (subst (λ i. Answered g T W at s (eval_of (granted_at a.satisfied i at (length W)) a.next) t buf (grant clause f.inner) rest) f.outcome_is
+        subst (λ q. Answered g T W at s (eval_of (granted_at a.satisfied o at) a.next) t buf q rest) (sym f.policy_is)
+        (subst (λ i. Answered g T W at s (eval_of (granted_at a.satisfied i at) a.next) t buf (grant clause f.inner) rest) f.outcome_is
         (granted_answers T W at buf clause f.inner rest f.node g a s t _ f.answer (sym f.words_are)))) (grant_known a s t c e);
   }
 
@@ -206,41 +206,40 @@ record OfStored (Is : Decided Outcome → Type 0) (p : Policy Outcome) (rest : L
   policy_is : p ≡ stored was
   is : Is was
 
--- The word i of the node, the first being 0.
-word_of : (W : List ℕ) (at i j : ℕ) → i ≡ 1 + j → get_or (drop (at + 1) W) j 0 ≡ get_or W (at + i) 0
-word_of W at i j e = get_or-drop (at + 1) W j 0 ∙ ap (λ k. get_or W k 0) (let z : at + 1 + j ≡ at + i = omega arith in z)
-
 module _ {g : Option OutcomeTable} {T : Table} {W : List ℕ} {at depth : ℕ} (lt : at < length W) (deep : depth < 32) {s : Lent} {buf : List ℕ} where
   -- The node of the head h, which q reads, and the code's decision d, which stands for what is read.
-  stored_node : (h : PolicyHead) (q : Parsed (Decided Outcome)) (Is : Decided Outcome → Type 0) (d : Decision) (size : ℕ) → node_of true depth h (drop (at + 1) W) ≡ next q (λ x vs. got (stored x) vs) → Holds (λ x _. Is x) q → Few d →
-      ((x : Decided Outcome) (rest : List ℕ) → Is x → node_at W at ≡ got (stored x) rest → (words_d x ≡ size) × (decision_of W T buf d ≡ x) × Sound W buf d) → EvaluatesBy g h T W at depth s (eval_of d (at + size)) s buf
-  stored_node h q Is d size read_is is few stands = record {
+  stored_node : (h : PolicyHead) (q : Parsed (Decided Outcome)) (Is : Decided Outcome → Type 0) (d : Decision) → node_of true depth h (drop (at + 1) W) ≡ next q (λ x vs. got (stored x) vs) → Holds (λ x _. Is x) q → Few d →
+      ((x : Decided Outcome) (rest : List ℕ) → h ≡ policy_head (get_or W at 0) true → Is x → node_at W at ≡ got (stored x) rest → (at + words_d x ≡ after_node W at) × (decision_of W T buf d ≡ x) × Sound W buf d) → EvaluatesBy g h T W at depth s (eval_of d (after_node W at)) s buf
+  stored_node h q Is d read_is is few stands = record {
     few = few;
     says = λ e. weaker (policy_at W at (suc depth)) (λ p rest f.
         let k = f.1 in
-        let v = stands k.was rest k.is (node_reads W at (suc depth) true (stored k.was) rest (omega arith) (f.0 ∙ ap (λ x. got x rest) k.policy_is)) in
+        let v = stands k.was rest e k.is (node_reads W at (suc depth) true (stored k.was) rest (omega arith) (f.0 ∙ ap (λ x. got x rest) k.policy_is)) in
         record {
           decision_is = v.1 ∙ sym (ap (eval_policy g T) k.policy_is);
           sound = v.2;
-          next_is = ap (λ n. at + n) (sym v.0 ∙ sym (ap (words {O = Outcome}) k.policy_is));
+          next_is = sym v.0 ∙ ap (λ n. at + n) (sym (ap (words {O = Outcome}) k.policy_is));
           log = consults_as (λ l. ap (λ x. read g T x l) k.policy_is) consults_none;
         })
         (node_knows W at depth h lt e (subst (Holds (OfStored Is)) (sym read_is) (then_holds q _ is (λ x vs i. fine (record { was = x; policy_is = refl; is = i })))));
   }
 
-  pub permit_stored : {n o : ℕ} → EvaluatesBy g (PermitWithTrace n o) T W at depth s (eval_of (permitted_at o at at 0) (at + stored_words W at 1 n)) s buf
+  pub permit_stored : {n o : ℕ} → EvaluatesBy g (PermitWithTrace n o) T W at depth s (eval_of (permitted_at o (Some at) (Some at) 0) (after_node W at)) s buf
   unfolding policy_node
   permit_stored {n} {o} =
-      let size = 2 + (n + 3) / 4 in
-      stored_node (PermitWithTrace n o) (permit_trace_node n o (drop (at + 1) W)) (IsPermit o size (get_or (drop (at + 1) W) 0 0)) (permitted_at o at at 0) (stored_words W at 1 n) refl (permit_reads n o (drop (at + 1) W)) (omega arith)
-      (λ x rest k node.
+      let h = PermitWithTrace n o in
+      let ws = drop (at + 1) W in
+      stored_node h (permit_trace_node n o ws) (IsPermit o (2 + (n + 3) / 4) (get_or ws 0 0)) (permitted_at o (Some at) (Some at) 0) refl (permit_reads n o ws) (omega arith)
+      (λ x rest e k node.
       let there : node_at W at ≡ got (stored (permits k.was)) rest = node ∙ ap (λ d. got (stored d) rest) k.is in
-      (k.long ∙ ap (λ w. size + (w % 4096 + 1) / 2) (word_of W at 1 0 refl), ap (λ z. decision_of W T buf (permitted_at z at at 0)) (sym k.outcome_is) ∙ permitted_stored W T buf at k.was rest there ∙ sym k.is, sound_permitted W buf o at (reads (stored x) rest node)))
+      (omega (arith, k.long, permit_owns true (get_or W at 0) n o ws e), ap (λ z. decision_of W T buf (permitted_at z (Some at) (Some at) 0)) (sym k.outcome_is) ∙ permitted_stored W T buf at k.was rest there ∙ sym k.is, sound_permitted W buf o (Some at) (reads (stored x) rest node)))
 
-  pub deny_stored : {shape : DenyShape} {denied : Carried ℕ} → EvaluatesBy g (DenyWithTrace shape denied) T W at depth s (eval_of (denied_at at (length W)) (at + stored_words W at 2 0)) s buf
+  pub deny_stored : {shape : DenyShape} {denied : Carried ℕ} → EvaluatesBy g (DenyWithTrace shape denied) T W at depth s (eval_of (denied_at (Some at)) (after_node W at)) s buf
   unfolding policy_node
   deny_stored {shape} {denied} =
-      stored_node (DenyWithTrace shape denied) (deny_trace_node shape denied (drop (at + 1) W)) (IsDeny (get_or (drop (at + 1) W) 1 0)) (denied_at at (length W)) (stored_words W at 2 0) refl (deny_reads shape denied (drop (at + 1) W)) (omega arith)
-      (λ x rest k node.
+      let h = DenyWithTrace shape denied in
+      let ws = drop (at + 1) W in
+      stored_node h (deny_trace_node shape denied ws) (IsDeny (get_or ws 1 0)) (denied_at (Some at)) refl (deny_reads shape denied ws) (omega arith)
+      (λ x rest e k node.
       let there : node_at W at ≡ got (stored (denies k.was)) rest = node ∙ ap (λ d. got (stored d) rest) k.is in
-      (k.long ∙ ap (λ w. 3 + (w % 4096 + 1) / 2) (word_of W at 2 1 refl), denied_stored W T buf at (length W) k.was rest there ∙ sym k.is, sound_denied W buf at (length W) (reads (stored x) rest node) (omega arith)))
+      (omega (arith, k.long, deny_owns true (get_or W at 0) shape denied ws e), denied_stored W T buf at k.was rest there ∙ sym k.is, sound_denied W buf (Some at) (reads (stored x) rest node)))

@@ -19,10 +19,18 @@ use Rattle.decision.proofs.Standing.{as_permit, as_deny}
 use Rattle.decision.proofs.Buffers.{same_decision, same_sound, kept_decision, kept_sound, lent_front, lent_back}
 use Rattle.decision.specs.Room.{obligation_room, Few}
 use Rattle.evaluate.specs.Folding.{meet_next, join_next}
-use Rattle.evaluate.specs.Evaluating.{sofar_of, Folds, Met}
+use Rattle.evaluate.specs.Evaluating.{sofar_of, Folds}
 
 abbrev Fold : Type 0
 Fold = Option (Decided Outcome) → Decided Outcome → Decided Outcome
+
+after_deny : (g : Option OutcomeTable) (c : Denial Outcome) (y : Decided Outcome) → meet_next g (some (denies c)) y ≡ y
+after_deny g c (permits q) = refl
+after_deny g c (denies d) = refl
+
+deny_taken : (g : Option OutcomeTable) (x : Decided Outcome) {y : Decided Outcome} {d : Denial Outcome} → y ≡ denies d → meet_next g (some x) y ≡ y
+deny_taken g (permits p) e = ap (meet_next g (some (permits p))) e ∙ sym e
+deny_taken g (denies c) e = after_deny g c _
 
 module _ {W before after : List ℕ} {incoming r : Decision} where
   -- ---- the incoming decision is taken
@@ -40,14 +48,6 @@ module _ {W before after : List ℕ} {incoming r : Decision} where
   first_folds is few k = takes few k (λ T. is (decision_of W T (drop obligation_room before) incoming))
 
   module _ {sofar : Decision} where
-    -- A permit after a deny.
-    deny_before : {fold : Fold} → ((c : Denial Outcome) (q : Permit Outcome) → fold (some (denies c)) (permits q) ≡ permits q) → Few incoming → sofar.permit ≡ false → incoming.permit ≡ true → Kept incoming before after r →
-        Folds fold W (Some sofar) before incoming (drop obligation_room before) r after
-    deny_before {fold} is few p q k = takes few k (λ T.
-        ap₂ (λ x y. fold (some x) y) (as_deny W T before sofar p) (as_permit W T (drop obligation_room before) incoming q)
-        ∙ is (clause_at W T sofar.clause) (permit_of W T (drop obligation_room before) incoming)
-        ∙ sym (as_permit W T (drop obligation_room before) incoming q))
-
     -- ---- two permits are folded
     folds_permits : {fold : Fold} {fold_p : Permit Outcome → Permit Outcome → Permit Outcome} → ((p q : Permit Outcome) → fold (some (permits p)) (permits q) ≡ permits (fold_p p q)) →
         sofar.permit ≡ true → incoming.permit ≡ true → Folded fold_p W before after sofar incoming r → Folds fold W (Some sofar) before incoming (drop obligation_room before) r after
@@ -67,15 +67,20 @@ module _ {W before after : List ℕ} {incoming r : Decision} where
     pub joined_permits : (g : Option OutcomeTable) → sofar.permit ≡ true → incoming.permit ≡ true → Folded (join_permit g) W before after sofar incoming r → Folds (join_next g) W (Some sofar) before incoming (drop obligation_room before) r after
     joined_permits g p q f = folds_permits {fold = join_next g} (λ _ _. refl) p q f
 
-    -- ---- and with a deny before
-    pub met_first : {g : Option OutcomeTable} → Few incoming → sofar.permit ≡ false → Kept incoming before after r → Met g W sofar incoming before r after
-    met_first {g} few p k = record { few = subst Few (sym k.same) few; folds = λ q. deny_before {fold = meet_next g} (λ _ _. refl) few p q k }
+    -- ---- under All one more arm is taken where it or what was before it is a deny
+    pub met_first : (g : Option OutcomeTable) → Few incoming → sofar.permit ≡ false → Kept incoming before after r → Folds (meet_next g) W (Some sofar) before incoming (drop obligation_room before) r after
+    met_first g few p k = takes {fold = meet_next g} few k (λ T.
+        ap (λ x. meet_next g (some x) (decision_of W T (drop obligation_room before) incoming)) (as_deny W T before sofar p)
+        ∙ after_deny g (clause_at W T sofar.clause) (decision_of W T (drop obligation_room before) incoming))
 
-    pub met_more : {g : Option OutcomeTable} → sofar.permit ≡ true → Folded (meet_permit g) W before after sofar incoming r → Met g W sofar incoming before r after
-    met_more {g} p f = record { few = f.few; folds = λ q. met_permits g p q f }
+    pub met_deny : (g : Option OutcomeTable) → Few incoming → incoming.permit ≡ false → Kept incoming before after r → Folds (meet_next g) W (Some sofar) before incoming (drop obligation_room before) r after
+    met_deny g few q k = takes {fold = meet_next g} few k (λ T. deny_taken g (decision_of W T before sofar) (as_deny W T (drop obligation_room before) incoming q))
 
+    -- ---- under Any a permit is taken after a deny
     pub joined_first : (g : Option OutcomeTable) → Few incoming → sofar.permit ≡ false → incoming.permit ≡ true → Kept incoming before after r → Folds (join_next g) W (Some sofar) before incoming (drop obligation_room before) r after
-    joined_first g few p q k = deny_before {fold = join_next g} (λ _ _. refl) few p q k
+    joined_first g few p q k = takes {fold = join_next g} few k (λ T.
+        ap₂ (λ x y. join_next g (some x) y) (as_deny W T before sofar p) (as_permit W T (drop obligation_room before) incoming q)
+        ∙ sym (as_permit W T (drop obligation_room before) incoming q))
 
 -- ---- under Any a deny after another arm changes nothing
 join_deny_at : (g : Option OutcomeTable) (x y : Decided Outcome) (c : Denial Outcome) → y ≡ denies c → join_next g (some x) y ≡ x

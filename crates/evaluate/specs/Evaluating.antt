@@ -1,23 +1,21 @@
 -- What the evaluation of policies answers, and what it leaves in the list and the buffer that it is lent.
-use Rattle.std.specs.Prelude.{◌≡◌, Bool, true, false, Option as Sofar, Some, None, IfSome, List, ℕ, suc, ◌+◌, ◌%◌, ◌^◌, drop, get_or}
+use Rattle.std.specs.Prelude.{◌≡◌, Bool, true, Option as Sofar, Some, None, IfSome, List, ℕ, suc, ◌+◌, drop, get_or}
 use Rattle.std.proofs.Math.Option.{Option, none, some}
 use Rattle.model.specs.Facts.{Table}
 use Rattle.model.specs.Levels.{OutcomeTable}
 use Rattle.model.specs.Decision.{Decision as Decided}
 use Rattle.model.specs.Consulted.{Consulted}
-use Rattle.model.specs.Fields.{words_for}
-use Rattle.model.specs.Writing.{count_bits}
 use Rattle.model.specs.Products.{Outcome, eval_policy, read, read_policy, policy_at}
 use Rattle.laws.proofs.FieldLaws.{Holds}
 use Rattle.laws.specs.Size.{words}
 use Rattle.policy_model.specs.declared.PolicyHead.{PolicyHead}
 use Rattle.policy_model.specs.Heads.{policy_head}
+use Rattle.policy_model.specs.Span.{own_of}
 use Rattle.consulted.specs.Listing.{Lent, Consults}
 use Rattle.decision.specs.declared.Decision.{Decision}
 use Rattle.decision.specs.Meaning.{decision_of, Sound}
-use Rattle.decision.specs.Room.{obligation_room, Few}
+use Rattle.decision.specs.Room.{Few}
 use Rattle.evaluate.specs.declared.PolicyEval.{PolicyEval}
-use Rattle.evaluate.specs.Folding.{meet_next}
 
 abbrev pub eval_of : Decision → ℕ → PolicyEval
 eval_of decision next = record { decision = decision; next = next }
@@ -45,21 +43,12 @@ abbrev pub sofar_of : List ℕ → Table → List ℕ → Sofar Decision → Opt
 sofar_of W T buf None = none
 sofar_of W T buf (Some d) = some (decision_of W T buf d)
 
--- A permit, whose bytes in the buffer fit.
-abbrev pub Permits : Decision → Type 0
-Permits d = Few d × (d.permit ≡ true)
-
 -- The decision so far and that of one more arm, each with its buffer, come to r, with its buffer.
 pub record Folds (fold : Option (Decided Outcome) → Decided Outcome → Decided Outcome) (W : List ℕ) (sofar : Sofar Decision) (before : List ℕ) (incoming : Decision) (part : List ℕ) (r : Decision) (after : List ℕ) : Type 0 where
   pub few : Few r
   pub sound : IfSome sofar (Sound W before) → Sound W part incoming → Sound W after r
   pub folded : IfSome sofar (Sound W before) → Sound W part incoming → (T : Table) → decision_of W T after r ≡ fold (sofar_of W T before sofar) (decision_of W T part incoming)
 
--- Under All, an arm that permits. The buffer of the decision so far is the front, that of the arm starts at the second room.
-pub record Met (g : Option OutcomeTable) (W : List ℕ) (sofar incoming : Decision) (before : List ℕ) (r : Decision) (after : List ℕ) : Type 0 where
-  pub few : Few r
-  pub folds : incoming.permit ≡ true → Folds (meet_next g) W (Some sofar) before incoming (drop obligation_room before) r after
-
--- The words of a stored decision at `at`, by the word that ends with the count of its facts and the count of its obligations.
-abbrev pub stored_words : List ℕ → ℕ → ℕ → ℕ → ℕ
-stored_words W at counted n = counted + 1 + words_for 4 n + words_for 2 (get_or W (at + counted) 0 % 2 ^ count_bits)
+-- The position after the words of the node at `at` itself: of a stored decision, after all its words.
+abbrev pub after_node : List ℕ → ℕ → ℕ
+after_node W at = at + 1 + own_of (get_or W at 0) (drop (at + 1) W)

@@ -4,25 +4,24 @@
 // A sheet is read as a residual is: where nodes 12 and 13 don't stand, it makes no difference that they may.
 #![tactic(auto)]
 
-ghost use Rattle.std.specs.Prelude.{◌≡◌, Some, IfSome, List, ℕ, ◌+◌, ◌≤◌, ◌<◌, length, drop};
+ghost use Rattle.std.specs.Prelude.{◌≡◌, Some, None, IfSome, List, ℕ, ◌+◌, ◌≤◌, ◌<◌, length, drop};
 ghost use Rattle.std.proofs.Math.Option.{Option};
 ghost use Rattle.model.specs.Facts.{table_of};
-ghost use Rattle.model.specs.Levels.{meet_of, join_of};
 ghost use Rattle.model.specs.Levels as model;
 ghost use Rattle.outcome.specs.Carried.{carried};
 ghost use Rattle.model.specs.Reading.{levels, record_words};
 ghost use Rattle.policy_model.specs.declared.DenyShape.{DenyShape};
 ghost use Rattle.policy_model.specs.declared.PolicyHead.TheVariants.{Grant, All, Any, OrElse};
 ghost use Rattle.consulted.specs.Listing.{held};
-ghost use Rattle.decision.specs.Meaning.{denied_at, permitted_at, granted_at};
+ghost use Rattle.decision.specs.Meaning.{denied_at, permitted_at};
 ghost use Rattle.decision.specs.Room.{obligation_room, RoomToUnite, Few};
 ghost use Rattle.evaluate.specs.Folding.{meet_next, join_next};
-ghost use Rattle.evaluate.specs.Evaluating.{eval_of, stored_words, EvaluatesP, EvaluatesBy, Permits, Met, Folds};
+ghost use Rattle.evaluate.specs.Evaluating.{eval_of, after_node, EvaluatesP, EvaluatesBy, Folds};
 
-use condition::{ConditionEval, Walk};
+use condition::Walk;
 use consulted::Consulted;
 use decision::{Decision, OBLIGATION_ROOM};
-use outcome::OutcomeTable;
+use outcome::{Operation, OutcomeTable};
 use policy_model::PolicyHead;
 
 // What an evaluation reads: what a walk does, and the outcome table, where there is one.
@@ -40,79 +39,79 @@ pub struct PolicyEval {
     pub next: usize,
 }
 
-// A deny with nothing named: the answer to a Deny, and to words that end early or have no kind of a policy.
-fn denied(none: usize, next: usize) -> PolicyEval
-    ensures { result ≡ eval_of (denied_at none none) next }
+// A deny with nothing named: the answer to a Deny, and where no policy reads: past the end, with no level left, of a Grant cut short, of another kind.
+fn denied(next: usize) -> PolicyEval
+    ensures { result ≡ eval_of (denied_at None) next }
 {
     PolicyEval {
-        decision: decision::denied(none),
+        decision: decision::denied(),
         next,
     }
 }
 
 // A permit with nothing but its outcome.
-fn permitted(outcome: u16, none: usize, next: usize) -> PolicyEval
-    ensures { result ≡ eval_of (permitted_at outcome none none 0) next }
+fn permitted(outcome: u16, next: usize) -> PolicyEval
+    ensures { result ≡ eval_of (permitted_at outcome None None 0) next }
 {
     PolicyEval {
-        decision: decision::permitted(outcome, none),
+        decision: decision::permitted(outcome),
         next,
     }
 }
 
-// The decision so far under All and one more permit. After a deny the permit is taken as it is.
-pub fn met(
+// The decision so far under All, if there was an arm, and that of one more: two permits are met, and else the arm's is taken, though the list rules end at a
+// deny. `partial_list` folds by this and `join_next` too, and asks no bound of its words: so both take words and table, and no `Evaluation`.
+#[inline(always)]
+pub fn meet_next(
     words: &[u32],
-    outcome: u16,
-    sofar: Decision,
-    incoming: Decision,
+    outcomes: Option<OutcomeTable<'_>>,
+    sofar: Option<Decision>,
+    arm: Decision,
     buf: &mut [u8],
 ) -> Decision
-    requires { Few sofar × Few incoming × RoomToUnite 2 buf.old }
+    requires { IfSome sofar Few × Few arm × RoomToUnite 2 buf.old }
     ensures few { Few result }
-    ensures folds { (g : Option model.OutcomeTable) → outcome ≡ meet_of g sofar.outcome incoming.outcome → Met g words.now sofar incoming buf.old result buf.new }
+    ensures folds { Folds (meet_next (carried outcomes.entry)) words.now sofar buf.old arm (drop obligation_room buf.old) result buf.new }
 {
-    if sofar.permit {
-        return decision::meet(words, outcome, sofar, incoming, buf);
-    }
-    decision::keep(incoming, buf)
-}
-
-// The decision so far under Any and one more. Permits are joined, and of two denies the first stands.
-pub fn joined(
-    words: &[u32],
-    outcome: u16,
-    sofar: Decision,
-    incoming: Decision,
-    buf: &mut [u8],
-) -> Decision
-    requires { Few sofar × Few incoming × RoomToUnite 2 buf.old }
-    ensures few { Few result }
-    ensures folds { (g : Option model.OutcomeTable) → outcome ≡ join_of g sofar.outcome incoming.outcome → Folds (join_next g) words.now (Some sofar) buf.old incoming (drop obligation_room buf.old) result buf.new }
-{
-    if !incoming.permit {
-        return sofar;
-    }
-    if sofar.permit {
-        return decision::join(words, outcome, sofar, incoming, buf);
-    }
-    decision::keep(incoming, buf)
-}
-
-// The grant at `at` on the outcome, by the answer to its condition. It is `decision::granted` once more, since with that in its place a list of 1,365 grants
-// takes 1.2 times as long.
-fn granted(at: usize, outcome: u16, none: usize, condition: ConditionEval) -> PolicyEval
-    ensures { result ≡ eval_of (granted_at condition.satisfied outcome at none) condition.next }
-{
-    let decision = if condition.satisfied {
-        decision::permitted_by(outcome, at)
-    } else {
-        decision::denied_by(at, none)
+    let Some(earlier) = sofar else {
+        return decision::keep(arm, buf);
     };
-    PolicyEval {
-        decision,
-        next: condition.next,
+    if earlier.permit && arm.permit {
+        let both = earlier
+            .products()
+            .by(Operation::Meet, arm.products(), outcomes);
+        return decision::meet(words, both.bits, earlier, arm, buf);
     }
+    decision::keep(arm, buf)
+}
+
+// The same under Any: two permits are joined, and of two denies the first stands. Not one function: which arm stands differs in each case. Both are compiled
+// into the list rules, as `decision::unite` says.
+#[inline(always)]
+pub fn join_next(
+    words: &[u32],
+    outcomes: Option<OutcomeTable<'_>>,
+    sofar: Option<Decision>,
+    arm: Decision,
+    buf: &mut [u8],
+) -> Decision
+    requires { IfSome sofar Few × Few arm × RoomToUnite 2 buf.old }
+    ensures few { Few result }
+    ensures folds { Folds (join_next (carried outcomes.entry)) words.now sofar buf.old arm (drop obligation_room buf.old) result buf.new }
+{
+    let Some(earlier) = sofar else {
+        return decision::keep(arm, buf);
+    };
+    if !arm.permit {
+        return earlier;
+    }
+    if !earlier.permit {
+        return decision::keep(arm, buf);
+    }
+    let either = earlier
+        .products()
+        .by(Operation::Join, arm.products(), outcomes);
+    decision::join(words, either.bits, earlier, arm, buf)
 }
 
 impl Evaluation<'_> {
@@ -121,61 +120,26 @@ impl Evaluation<'_> {
         requires { (at < length self.now.walk.words.now) × (depth < levels) }
         ensures { (g : Option model.OutcomeTable) (shape : DenyShape) (obligations outcome : ℕ) (buf : List ℕ) → EvaluatesBy g (Grant shape obligations outcome) (table_of self.now.walk.facts.now) self.now.walk.words.now at depth (held consulted.old) result (held consulted.new) buf }
     {
-        let none = self.walk.words.len();
         let before = grant::before_condition_in(self.walk.words, at) as usize;
-        if none - at < before {
-            return denied(none, at);
+        if self.walk.words.len() - at < before {
+            return denied(at);
         }
+        let outcome = grant::outcome_in(self.walk.words, at) as u16;
         let condition = self.walk.eval_arm(at + before, depth, consulted);
-        granted(
-            at,
-            grant::outcome_in(self.walk.words, at) as u16,
-            none,
-            condition,
-        )
+        PolicyEval {
+            decision: decision::granted(condition.satisfied, outcome, at),
+            next: condition.next,
+        }
     }
 
-    // The stored decision at `at`. The word `counted` of its node ends with the count of its facts, which stand behind its obligations. Where these end is not
-    // asked: no word of them is read here, and a position past the end reads as nothing.
-    fn stored(&self, at: usize, counted: usize, obligations: u32, decision: Decision) -> PolicyEval
-        requires { (at < length self.now.walk.words.now) × (counted ≤ 2) }
-        ensures { result ≡ eval_of decision (at + stored_words self.now.walk.words.now at counted obligations) }
+    // The stored decision at `at`. Whether all its words are there is not asked: its lists aren't read here, and a position past the end reads as nothing.
+    fn stored(&self, at: usize, decision: Decision) -> PolicyEval
+        requires { at < length self.now.walk.words.now }
+        ensures { result ≡ eval_of decision (after_node self.now.walk.words.now at) }
     {
-        let facts = policy_model::word_at(self.walk.words, at + counted) % policy_model::COUNTS;
-        let held = policy_model::obligation_words(obligations);
         PolicyEval {
             decision,
-            next: at + (counted + 1 + held + policy_model::entry_words(facts)),
-        }
-    }
-
-    // The permits so far under All, if there are any, and that of one more arm.
-    fn meet_next(&self, sofar: Option<Decision>, arm: Decision, buf: &mut [u8]) -> Decision
-        requires { IfSome sofar Permits × Permits arm × RoomToUnite 2 buf.old }
-        ensures permits { Permits result }
-        ensures folds { Folds (meet_next (carried self.now.outcomes)) self.now.walk.words.now sofar buf.old arm (drop obligation_room buf.old) result buf.new }
-    {
-        match sofar {
-            None => decision::keep(arm, buf),
-            Some(earlier) => {
-                let both = earlier.products().meet_by(arm.products(), self.outcomes);
-                decision::meet(self.walk.words, both.bits, earlier, arm, buf)
-            }
-        }
-    }
-
-    // The decision so far under Any, if there was an arm, and that of one more.
-    fn join_next(&self, sofar: Option<Decision>, arm: Decision, buf: &mut [u8]) -> Decision
-        requires { IfSome sofar Few × Few arm × RoomToUnite 2 buf.old }
-        ensures few { Few result }
-        ensures folds { Folds (join_next (carried self.now.outcomes)) self.now.walk.words.now sofar buf.old arm (drop obligation_room buf.old) result buf.new }
-    {
-        match sofar {
-            None => decision::keep(arm, buf),
-            Some(earlier) => {
-                let either = earlier.products().join_by(arm.products(), self.outcomes);
-                joined(self.walk.words, either.bits, earlier, arm, buf)
-            }
+            next: at + 1 + policy_model::own_of(self.walk.words, at),
         }
     }
 
@@ -191,27 +155,23 @@ impl Evaluation<'_> {
         requires { (depth ≤ levels) × RoomToUnite (depth + 1) buf.old }
         ensures { EvaluatesP (carried self.now.outcomes) (table_of self.now.walk.facts.now) self.now.walk.words.now at depth (held consulted.old) result (held consulted.new) buf.new }
     {
-        let none = self.walk.words.len();
-        if none <= at || depth == 0 {
-            return denied(none, at);
+        if self.walk.words.len() <= at || depth == 0 {
+            return denied(at);
         }
         let next = at + 1;
         let below = depth - 1;
         match policy_model::policy_head(self.walk.words[at], true) {
-            PolicyHead::Permit(outcome) => permitted(outcome, none, next),
-            PolicyHead::Deny => denied(none, next),
+            PolicyHead::Permit(outcome) => permitted(outcome, next),
+            PolicyHead::Deny => denied(next),
             PolicyHead::Grant { .. } => self.eval_grant(at, below, consulted),
             PolicyHead::All(arms) => self.eval_all(at, below, arms, consulted, buf),
             PolicyHead::Any(arms) => self.eval_any(at, below, arms, consulted, buf),
             PolicyHead::OrElse => self.eval_or_else(at, below, consulted, buf),
-            PolicyHead::PermitWithTrace {
-                obligations,
-                outcome,
-            } => self.stored(at, 1, obligations, decision::permitted_by(outcome, at)),
-            PolicyHead::DenyWithTrace { .. } => {
-                self.stored(at, 2, 0, decision::denied_by(at, none))
+            PolicyHead::PermitWithTrace { outcome, .. } => {
+                self.stored(at, decision::permitted_by(outcome, Some(at)))
             }
-            PolicyHead::BadKind | PolicyHead::BadField => denied(none, at),
+            PolicyHead::DenyWithTrace { .. } => self.stored(at, decision::denied_by(Some(at))),
+            PolicyHead::BadKind | PolicyHead::BadField => denied(at),
         }
     }
 
@@ -227,13 +187,12 @@ impl Evaluation<'_> {
         requires { (depth ≤ levels) × RoomToUnite (depth + 1) buf.old }
         ensures { EvaluatesP (carried self.now.outcomes) (table_of self.now.walk.facts.now) self.now.walk.words.now at depth (held consulted.old) result (held consulted.new) buf.new }
     {
-        let none = self.walk.words.len();
-        if none <= at {
-            return denied(none, at);
+        if self.walk.words.len() <= at {
+            return denied(at);
         }
         let word = self.walk.words[at];
         if word / policy_model::HALF == policy_model::PERMIT {
-            return permitted((word % policy_model::HALF) as u16, none, at + 1);
+            return permitted((word % policy_model::HALF) as u16, at + 1);
         }
         self.eval_policy(at, depth, consulted, buf)
     }
@@ -263,11 +222,11 @@ impl Evaluation<'_> {
                     next: policy_model::skip_policies(self.walk.words, next, left),
                 };
             }
-            let folded = self.meet_next(sofar, decision, buf);
+            let folded = meet_next(self.walk.words, self.outcomes, sofar, decision, buf);
             sofar = Some(folded);
         }
         PolicyEval {
-            decision: sofar.unwrap_or(decision::denied(self.walk.words.len())),
+            decision: sofar.unwrap_or(decision::denied()),
             next,
         }
     }
@@ -291,11 +250,11 @@ impl Evaluation<'_> {
         for _ in 0..arms {
             let arm = self.eval_arm(next, depth, consulted, &mut buf[OBLIGATION_ROOM..]);
             next = arm.next;
-            let folded = self.join_next(sofar, arm.decision, buf);
+            let folded = join_next(self.walk.words, self.outcomes, sofar, arm.decision, buf);
             sofar = Some(folded);
         }
         PolicyEval {
-            decision: sofar.unwrap_or(decision::denied(self.walk.words.len())),
+            decision: sofar.unwrap_or(decision::denied()),
             next,
         }
     }

@@ -39,7 +39,8 @@ pub enum TableKind {
     Known,
 }
 
-// The field of a fact, 0 past the end. The place in the byte is a shift, so nothing branches on it.
+// The field of a fact, 0 past the end. It stays a number: 3 is a fault here and Silent in an entry. A fact is a plain number as well, the last ten bits of a
+// word: a type of its own would be made at each read and taken apart at once. The place in the byte is a shift, so nothing branches on it.
 fn field(facts: &[u8], fact: u32) -> u8
     ensures { result ≡ get_or (table_fields facts.now) fact 0 }
 {

@@ -6,7 +6,7 @@ ghost use Rattle.std.specs.Io.KnownBytes.{Consumes, IsAtEnd};
 
 use std::io::{self, Read};
 
-// Reads to the front of the buffer until it is full or the input ends, and returns how many bytes. No `for`: how many bytes a read takes is the reader's to say.
+// Reads to the front of the buffer until it is full or the input ends, and returns how many bytes. No `for`: the reader says how many bytes a read takes.
 pub fn read_full<R: Read>(input: &mut R, buf: &mut [u8]) -> io::Result<usize>
     ensures bound { IfOk result (λ n. n ≤ length buf.new) }
     ensures bytes { IfOk result (λ n. Consumes (R.remaining input.old) (R.remaining input.new) (take n buf.new)) }

@@ -1,5 +1,5 @@
 -- Two tables byte by byte: whether their fields agree, and the byte that the fields of two bytes join to.
-use Rattle.std.specs.Prelude.{◌≡◌, Bool, not, List, ℕ, ◌≤◌, length}
+use Rattle.std.specs.Prelude.{◌≡◌, Bool, not, List, ℕ}
 use Rattle.std.proofs.Math.Option.{none}
 use Rattle.model.specs.Fields.{split, joined}
 use Rattle.model.specs.Facts.{partial_facts, table_fields, first_fault}
@@ -22,9 +22,3 @@ Clean b = Below 3 (split 2 4 b)
 
 abbrev pub NoThree : List ℕ → Type 0
 NoThree bs = first_fault partial_facts (table_fields bs) ≡ none
-
--- Two tables without a 3, the shorter one second.
-pub record Judged (longer shorter : List ℕ) : Type 0 where
-  pub shorter_is : length shorter ≤ length longer
-  pub longer_clean : NoThree longer
-  pub shorter_clean : NoThree shorter

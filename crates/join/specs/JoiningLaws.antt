@@ -13,7 +13,7 @@ use Rattle.laws.proofs.WordLaws.{joined_split, length_packed}
 use Rattle.laws.proofs.BitwiseLaws.{split_and, split_or, split_xor}
 use Rattle.laws.proofs.JoinLaws.{clean}
 use Rattle.facts.specs.Answers.{no_fault}
-use Rattle.join.specs.Joining.{agree, bytes_agree, join_byte, Clean, NoThree, Judged}
+use Rattle.join.specs.Joining.{agree, bytes_agree, join_byte, Clean, NoThree}
 
 -- ---- two fields
 -- The bits that differ are 1, and with 2 against them 3, exactly in a clash.
@@ -208,9 +208,9 @@ absent_after (a ∷ ls) (b ∷ ss) l h e =
     ∙ ap (λ n. replicate n 0) (let q : length ls - length ss ≡ suc (length ls) - suc (length ss) = omega arith in q)
 
 -- What both have joined, and then Absent.
-pub result_parts : (ls ss : List ℕ) → Judged ls ss → agree (table_fields ls) (table_fields ss) ≡ true → (n : ℕ) → n ≡ length ss →
+pub result_parts : (ls ss : List ℕ) → length ss ≤ length ls → NoThree ls → agree (table_fields ls) (table_fields ss) ≡ true → (n : ℕ) → n ≡ length ss →
     take (length ss) (joined_bytes ls ss) ++ replicate (length ls - n) 0 ≡ joined_bytes ls ss
-result_parts ls ss j e n h =
+result_parts ls ss l c e n h =
     ap (λ l. take (length ss) (joined_bytes ls ss) ++ l)
-    (ap (λ m. replicate (length ls - m) 0) h ∙ sym (absent_after ls ss j.shorter_is (clean (table_fields ls) j.longer_clean) e))
+    (ap (λ m. replicate (length ls - m) 0) h ∙ sym (absent_after ls ss l (clean (table_fields ls) c) e))
     ∙ take-append-drop (length ss) (joined_bytes ls ss)

@@ -21,6 +21,9 @@ pub record Wrote (bytes before after : List ℕ) (r : ℕ) : Type 0 where
   pub count : r ≡ length bytes
 
 -- Room for any listing: its last line has up to 4,095 entries of 13 bytes, its facts up to 4,095 of 5, its obligations up to 127 of 5.
+abbrev pub facts_room : ℕ  -- a decision's facts
+facts_room = 20992
+
 abbrev pub lists_room : ℕ  -- a permit's obligations and facts
 lists_room = 24000
 

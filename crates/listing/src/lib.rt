@@ -1,14 +1,14 @@
 // The listing of the program `sitting`: the bytes of a Resolved record and of a refusal, and the numbers of the program's input.
 #![tactic(auto)]
 
-ghost use Rattle.std.specs.Prelude.{◌≡◌, ◌++◌, ◌+◌, ◌*◌, ◌%◌, ◌<◌, ◌≤◌, length, drop};
+ghost use Rattle.std.specs.Prelude.{◌≡◌, ◌++◌, ◌+◌, ◌*◌, ◌%◌, ◌<◌, ◌≤◌, length, drop, get_or};
 ghost use Rattle.model.specs.Fields.{bits};
 ghost use Rattle.model.specs.Reading.{got, shape_of};
 ghost use Rattle.model.specs.Listing.{digit as digit_of, digits, text, decimal, newline, presence_text, refused_text, number_from};
 ghost use Rattle.model.specs.Products.{read_record};
 ghost use Rattle.laws.specs.FieldAt.{field_at};
 ghost use Rattle.facts.specs.Answers.{presence_of};
-ghost use Rattle.listing.specs.Texts.{Wrote, lists_room, decision_room, consulted_room, listing_room, width_of, most_of, field_text, fields_text, permit_lists, permit_text, deny_head, deny_text, decision_text, ListedAs};
+ghost use Rattle.listing.specs.Texts.{Wrote, facts_room, lists_room, decision_room, consulted_room, listing_room, width_of, most_of, field_text, fields_text, permit_lists, permit_text, deny_head, deny_text, decision_text, ListedAs};
 ghost use Rattle.listing.specs.Inputs.{word_in, WordsRead};
 
 use facts::Presence;
@@ -27,10 +27,19 @@ enum Listed {
 // A list of a record: so many fields of one kind, from a position of the words on.
 #[derive(Drop)]
 struct Fields<'a> {
-    pub words: &'a [u32],
-    pub at: usize,
-    pub count: usize,
-    pub kind: Listed,
+    words: &'a [u32],
+    at: usize,
+    count: usize,
+    kind: Listed,
+    ghost near: { at + count < 65536 },
+}
+
+// A record's decision: the node 12 or 13 at a position of the words.
+#[derive(Drop)]
+struct Node<'a> {
+    words: &'a [u32],
+    at: usize,
+    ghost near: { at < 4096 },
 }
 
 // ---- bytes
@@ -46,6 +55,7 @@ fn copy(src: &[u8], out: &mut [u8]) -> usize
 }
 
 // ---- numbers
+// They are printed by hand and not by `write!`: the listing stands in a slice that is lent, as nothing is on the heap, and its contract says its bytes.
 
 // A digit's byte, in capitals.
 fn digit(value: u32) -> u8
@@ -139,26 +149,24 @@ fn put_next(field: u32, kind: Listed, out: &mut [u8]) -> usize
 }
 
 impl<'a> Fields<'a> {
-    // The field at a place, 8 or 16 bits from the left.
-    #[tactic(auto, using(laws::proofs::FieldAtLaws::field_by_shift))]
+    // The field at a place.
     fn field_at(&self, place: usize) -> u32
-        requires { self.now.at + place < 65536 }
+        requires { place < 65536 }
         ensures { result ≡ field_at (width_of self.now.kind) (drop self.now.at self.now.words.now) place }
     {
         match self.kind {
-            Listed::Obligations => (policy_model::word_at(self.words, self.at + place / 4)
-                >> (24 - place % 4 * 8))
-                % policy_model::QUARTER,
+            Listed::Obligations => {
+                u32::from(packing::unpack_obligation(self.words, self.at, place))
+            }
             Listed::Facts | Listed::Consulted => {
-                (policy_model::word_at(self.words, self.at + place / 2) >> (16 - place % 2 * 16))
-                    % policy_model::HALF
+                u32::from(packing::unpack_entry(self.words, self.at, place))
             }
         }
     }
 
     // The list, comma-separated, `-` if empty.
     fn put_fields(&self, out: &mut [u8]) -> usize
-        requires { (self.now.at + self.now.count < 65536) × (1 + most_of self.now.kind * self.now.count ≤ length out.old) }
+        requires { 1 + most_of self.now.kind * self.now.count ≤ length out.old }
         ensures { Wrote (fields_text self.now.kind self.now.words.now self.now.at self.now.count) out.old out.new result }
     {
         if self.count == 0 {
@@ -173,7 +181,7 @@ impl<'a> Fields<'a> {
 
     // The list after its name.
     fn put_named(&self, name: &[u8], out: &mut [u8]) -> usize
-        requires { (self.now.at + self.now.count < 65536) × (length name.now + (1 + most_of self.now.kind * self.now.count) ≤ length out.old) }
+        requires { length name.now + (1 + most_of self.now.kind * self.now.count) ≤ length out.old }
         ensures { Wrote (name.now ++ fields_text self.now.kind self.now.words.now self.now.at self.now.count) out.old out.new result }
     {
         let n = copy(name, out);
@@ -190,37 +198,6 @@ fn put_products(word: u32, out: &mut [u8]) -> usize
 {
     let n = copy(b"effect permit\nproducts ", out);
     n + put_digits(word % policy_model::HALF, 16, 4, &mut out[n..])
-}
-
-// Its obligations and facts.
-fn put_permit_lists(words: &[u32], at: usize, out: &mut [u8]) -> usize
-    requires { (at < 4096) × (lists_room ≤ length out.old) }
-    ensures { Wrote (permit_lists words.now at) out.old out.new result }
-{
-    let held = policy_model::obligations_of(policy_model::word_at(words, at));
-    let obligations = Fields {
-        words,
-        at: at + 2,
-        count: held as usize,
-        kind: Listed::Obligations,
-    };
-    let facts = Fields {
-        words,
-        at: at + 2 + policy_model::obligation_words(held),
-        count: (policy_model::word_at(words, at + 1) % policy_model::COUNTS) as usize,
-        kind: Listed::Facts,
-    };
-    let n = obligations.put_named(b"\nshape -\nobligations ", out);
-    n + facts.put_named(b"\nfacts ", &mut out[n..])
-}
-
-// A node 12.
-fn put_permit(words: &[u32], at: usize, out: &mut [u8]) -> usize
-    requires { (at < 4096) × (decision_room ≤ length out.old) }
-    ensures { Wrote (permit_text words.now at) out.old out.new result }
-{
-    let n = put_products(policy_model::word_at(words, at), out);
-    n + put_permit_lists(words, at, &mut out[n..])
 }
 
 // A deny's first lines, from the first word of a node 13: it has no products and no obligations.
@@ -241,34 +218,76 @@ fn put_shape(word: u32, out: &mut [u8]) -> usize
     }
 }
 
-// A node 13.
-#[tactic(auto, using(crate::specs::Writers::wrote_then), unfolding(crate::specs::Texts::deny_text))]
-fn put_deny(words: &[u32], at: usize, out: &mut [u8]) -> usize
-    requires { (at < 4096) × (decision_room ≤ length out.old) }
-    ensures { Wrote (deny_text words.now at) out.old out.new result }
-{
-    let facts = Fields {
-        words,
-        at: at + 3,
-        count: (policy_model::word_at(words, at + 2) % policy_model::COUNTS) as usize,
-        kind: Listed::Facts,
-    };
-    let n = put_shape(policy_model::word_at(words, at), out);
-    n + facts.put_named(b"\nfacts ", &mut out[n..])
-}
-
-// The node at a position. Its kind is a number, as `policy_model` says.
-#[tactic(auto, using(crate::specs::Writers::wrote_as), unfolding(crate::specs::Texts::decision_text))]
-fn put_decision(words: &[u32], at: usize, out: &mut [u8]) -> usize
-    requires { (at < 4096) × (decision_room ≤ length out.old) }
-    ensures { Wrote (decision_text words.now at) out.old out.new result }
-{
-    if policy_model::word_at(words, at) / policy_model::KIND
-        == policy_model::KIND_PERMIT_WITH_TRACE
+impl Node<'_> {
+    // Its word number `index`.
+    fn word(&self, index: usize) -> u32
+        requires { index ≤ 2 }
+        ensures { result ≡ get_or self.now.words.now (self.now.at + index) 0 }
     {
-        put_permit(words, at, out)
-    } else {
-        put_deny(words, at, out)
+        policy_model::word_at(self.words, self.at + index)
+    }
+
+    // Its facts, which begin at its word number `from`, as many as the end of a word says.
+    fn put_facts(&self, from: usize, counted: u32, out: &mut [u8]) -> usize
+        requires { (from < 64) × (facts_room ≤ length out.old) }
+        ensures { Wrote (text "\nfacts " ++ fields_text Listed.Facts self.now.words.now (self.now.at + from) (counted % 4096)) out.old out.new result }
+    {
+        let facts = Fields {
+            words: self.words,
+            at: self.at + from,
+            count: (counted % policy_model::COUNTS) as usize,
+            kind: Listed::Facts,
+        };
+        facts.put_named(b"\nfacts ", out)
+    }
+
+    // A permit's obligations and facts.
+    fn put_permit_lists(&self, out: &mut [u8]) -> usize
+        requires { lists_room ≤ length out.old }
+        ensures { Wrote (permit_lists self.now.words.now self.now.at) out.old out.new result }
+    {
+        let held = policy_model::obligations_of(self.word(0));
+        let obligations = Fields {
+            words: self.words,
+            at: self.at + 2,
+            count: held as usize,
+            kind: Listed::Obligations,
+        };
+        let after = 2 + policy_model::obligation_words(held);
+        let n = obligations.put_named(b"\nshape -\nobligations ", out);
+        n + self.put_facts(after, self.word(1), &mut out[n..])
+    }
+
+    // A node 12.
+    fn put_permit(&self, out: &mut [u8]) -> usize
+        requires { decision_room ≤ length out.old }
+        ensures { Wrote (permit_text self.now.words.now self.now.at) out.old out.new result }
+    {
+        let n = put_products(self.word(0), out);
+        n + self.put_permit_lists(&mut out[n..])
+    }
+
+    // A node 13.
+    #[tactic(auto, using(crate::specs::Writers::wrote_then), unfolding(crate::specs::Texts::deny_text))]
+    fn put_deny(&self, out: &mut [u8]) -> usize
+        requires { decision_room ≤ length out.old }
+        ensures { Wrote (deny_text self.now.words.now self.now.at) out.old out.new result }
+    {
+        let n = put_shape(self.word(0), out);
+        n + self.put_facts(3, self.word(2), &mut out[n..])
+    }
+
+    // Either. Its kind is a number, as `policy_model` says.
+    #[tactic(auto, using(crate::specs::Writers::wrote_as), unfolding(crate::specs::Texts::decision_text))]
+    fn put_decision(&self, out: &mut [u8]) -> usize
+        requires { decision_room ≤ length out.old }
+        ensures { Wrote (decision_text self.now.words.now self.now.at) out.old out.new result }
+    {
+        if self.word(0) / policy_model::KIND == policy_model::KIND_PERMIT_WITH_TRACE {
+            self.put_permit(out)
+        } else {
+            self.put_deny(out)
+        }
     }
 }
 
@@ -295,7 +314,11 @@ pub fn list_record(words: &[u32], out: &mut [u8]) -> usize
     ensures listing { ListedAs (λ bytes. Wrote bytes out.old out.new result) (read_record words.now) }
 {
     let consulted = policy_model::word_at(words, 0) % policy_model::COUNTS;
-    let n = put_decision(words, 1 + policy_model::entry_words(consulted), out);
+    let node = Node {
+        words,
+        at: 1 + policy_model::entry_words(consulted),
+    };
+    let n = node.put_decision(out);
     n + put_consulted(words, consulted as usize, &mut out[n..])
 }
 
@@ -308,7 +331,7 @@ fn put_number(number: u32, out: &mut [u8]) -> usize
     n + copy(b"\n", &mut out[n..])
 }
 
-// The listing of a refusal, by its number, which is all that it says of one.
+// The listing of a refusal, by its number, which is all that it says of one. Any number is listed, so that nothing is asked of it.
 pub fn list_refusal(number: u32, out: &mut [u8]) -> usize
     requires { 13 ≤ length out.old }
     ensures { Wrote (refused_text number) out.old out.new result }

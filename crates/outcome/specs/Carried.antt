@@ -19,3 +19,8 @@ carried (Some t) = some (table_of t)
 abbrev pub operation_of : Operation → model.OutcomeTable → ℕ → ℕ → ℕ
 operation_of Meet = model.meet_by
 operation_of Join = model.join_by
+
+-- What an operation makes of two outcomes: of levels by a table, of sets of products without one.
+abbrev pub outcome_by : Operation → Option model.OutcomeTable → ℕ → ℕ → ℕ
+outcome_by Meet = model.meet_of
+outcome_by Join = model.join_of

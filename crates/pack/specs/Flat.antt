@@ -17,10 +17,7 @@ unfoldable pub list_run : (ℕ → ℕ) → ℕ → ℕ → List ℕ
 list_run f width zero = []
 list_run f width (suc n) = list_run f width n ++ low width (f n)
 
--- Value i of the obligations that these words begin with; and of the facts or consulted entries, without their zero bits.
-unfoldable pub obligation_in : List ℕ → ℕ → ℕ
-obligation_in ws i = field_at obligation_bits ws i
-
+-- A fact or a consulted entry without its zero bits; and value i of those that these words begin with.
 abbrev pub tight_entry : ℕ → ℕ
 tight_entry e = e / 2 ^ (4 + fact_bits) * 2 ^ fact_bits + e % 2 ^ fact_bits
 
@@ -36,12 +33,12 @@ mark_run half = low (mark_width half) half
 -- A node by its first words and those of its lists.
 abbrev pub grant_run : ℕ → ℕ → List ℕ → List ℕ
 grant_run w v os =
-    low 12 (w / 2 ^ (4 + outcome_bits)) ++ (low outcome_bits w ++ (mark_run (v / 2 ^ (1 + mark_bits)) ++ (mark_run (v % 2 ^ (1 + mark_bits)) ++ list_run (obligation_in os) obligation_tight_bits (owed_in w))))
+    low 12 (w / 2 ^ (4 + outcome_bits)) ++ (low outcome_bits w ++ (mark_run (v / 2 ^ (1 + mark_bits)) ++ (mark_run (v % 2 ^ (1 + mark_bits)) ++ list_run (field_at obligation_bits os) obligation_tight_bits (owed_in w))))
 
 abbrev pub permit_run : ℕ → ℕ → List ℕ → List ℕ
 permit_run w v os =
     low 11 (12 * 2 ^ obligation_count_bits + owed_in w) ++ (low outcome_bits w ++ (mark_run (v / 2 ^ (4 + count_bits)) ++ (low count_bits v
-    ++ (list_run (obligation_in os) obligation_tight_bits (owed_in w) ++ list_run (entry_in (drop (words_for 4 (owed_in w)) os)) fact_bits (v % 2 ^ count_bits)))))
+    ++ (list_run (field_at obligation_bits os) obligation_tight_bits (owed_in w) ++ list_run (entry_in (drop (words_for 4 (owed_in w)) os)) fact_bits (v % 2 ^ count_bits)))))
 
 abbrev pub deny_run : ℕ → ℕ → ℕ → List ℕ → List ℕ
 deny_run w v t fs =

@@ -24,6 +24,7 @@ use Rattle.model.specs.Reading.{kind_of, obligation_count}
 use Rattle.model.specs.Bits.{bits_of}
 use Rattle.model.specs.Tight.{optional, each, tight_c, tight_cs, tight_e, numbers_of, tight_d, tight, tights, tight_r}
 use Rattle.laws.specs.Lists.{Below}
+use Rattle.laws.specs.FieldAt.{field_at}
 use Rattle.laws.proofs.FieldAtLaws.{packed_field, narrow_below, narrow_entries, presence_few}
 use Rattle.laws.proofs.Lengths.{length_pack}
 use Rattle.laws.specs.Form.{IfThere, FormC, FormCs, FormL, Countable, FormD, FormG, FormOf, FormsOf}
@@ -35,7 +36,7 @@ use Rattle.bits.specs.WidthLaws.{mark_absent, mark_there, denied_there, denied_a
 use Rattle.bits.specs.RunLaws.{bits_parted}
 use Rattle.bits.specs.Splice.{low}
 use Rattle.bits.specs.SpliceLaws.{low_is, low_of}
-use Rattle.pack.specs.Flat.{list_run, obligation_in, entry_in, tight_entry, owed_in, mark_run, plain_run, flat, record_run}
+use Rattle.pack.specs.Flat.{list_run, entry_in, tight_entry, owed_in, mark_run, plain_run, flat, record_run}
 use Rattle.pack.specs.FlatLaws.{own_plain, node_grant, node_permit, node_deny, node_plain, flat_node}
 
 -- ---- lists
@@ -60,10 +61,9 @@ list_take f w n vs e m b (suc k) h =
 list_is : (f : ℕ → ℕ) (w n : ℕ) (vs : List ℕ) → ((i : ℕ) → i < length vs → f i ≡ get_or vs i 0) → n ≤ 2 ^ w → Below n vs → list_run f w (length vs) ≡ each w vs
 list_is f w n vs e m b = list_take f w n vs e m b (length vs) (omega arith) ∙ ap (each w) (take_all (length vs) vs (omega arith))
 
-obligations_run : (os ws : List ℕ) → Below obligation_count os → list_run (obligation_in (pack obligation_bits os ++ ws)) 6 (length os) ≡ each 6 os
-unfolding obligation_in
+obligations_run : (os ws : List ℕ) → Below obligation_count os → list_run (field_at obligation_bits (pack obligation_bits os ++ ws)) 6 (length os) ≡ each 6 os
 obligations_run os ws b =
-    list_is (obligation_in (pack obligation_bits os ++ ws)) 6 64 os (λ i h. packed_field obligation_bits 3 os ws i refl (narrow_below obligation_bits obligation_count os (omega arith) b) h) (omega arith) b
+    list_is (field_at obligation_bits (pack obligation_bits os ++ ws)) 6 64 os (λ i h. packed_field obligation_bits 3 os ws i refl (narrow_below obligation_bits obligation_count os (omega arith) b) h) (omega arith) b
 
 facts_run : (fs ws : List ℕ) → Below fact_count fs → list_run (entry_in (pack entry_bits fs ++ ws)) 10 (length fs) ≡ each 10 fs
 unfolding entry_in
@@ -204,7 +204,7 @@ module _ {O : Type 0} (G : O → Type 0) (B : Condition → Type 0) (number : O 
       let lead : low 12 (w / 1048576) ≡ bits_of 4 8 ++ (bits_of 1 sh ++ bits_of 7 n) =
       low_two 4 8 8 (sh * 128 + n) (w / 1048576) (omega arith) (omega arith) (omega arith) ∙ ap (λ l. bits_of 4 8 ++ l) (two 1 7 sh n (sh * 128 + n) (omega arith) (omega arith) refl) in
       let outcome : low 16 w ≡ bits_of 16 o = low_of 16 w ∙ ap (bits_of 16) (let e : w % 65536 ≡ o = omega arith in e) in
-      let list : list_run (obligation_in os) 6 (owed_in w) ≡ each 6 g.obligations = ap (list_run (obligation_in os) 6) owed ∙ obligations_run g.obligations us f.1.1 in
+      let list : list_run (field_at obligation_bits os) 6 (owed_in w) ≡ each 6 g.obligations = ap (list_run (field_at obligation_bits os) 6) owed ∙ obligations_run g.obligations us f.1.1 in
       let x₄ = each 6 g.obligations in
       let x₃ = optional 15 g.reason ++ x₄ in
       let x₂ = optional 15 g.label ++ x₃ in
@@ -240,7 +240,7 @@ module _ {O : Type 0} (G : O → Type 0) (B : Condition → Type 0) (number : O 
       let lead : low 11 (12 * 128 + owed_in w) ≡ bits_of 4 12 ++ bits_of 7 n = ap (λ i. low 11 (12 * 128 + i)) owed ∙ low_two 4 7 12 n (12 * 128 + n) (omega arith) (omega arith) refl in
       let outcome : low 16 w ≡ bits_of 16 o = low_of 16 w ∙ ap (bits_of 16) (let e : w % 65536 ≡ o = omega arith in e) in
       let counted : low 12 v ≡ bits_of 12 m = low_of 12 v ∙ ap (bits_of 12) l₂ in
-      let list₁ : list_run (obligation_in os) 6 (owed_in w) ≡ each 6 p.obligations = ap₂ (λ l i. list_run (obligation_in l) 6 i) same owed ∙ obligations_run p.obligations us f.1.1 in
+      let list₁ : list_run (field_at obligation_bits os) 6 (owed_in w) ≡ each 6 p.obligations = ap₂ (λ l i. list_run (field_at obligation_bits l) 6 i) same owed ∙ obligations_run p.obligations us f.1.1 in
       let list₂ : list_run (entry_in (drop (words_for 4 (owed_in w)) os)) 10 (v % 4096) ≡ each 10 p.facts =
       ap₂ (λ l i. list_run (entry_in l) 10 i) (ap₂ (λ i l. drop (words_for 4 i) l) owed same ∙ past) l₂ ∙ facts_run p.facts ws f.3.1 in
       let x₅ = each 10 p.facts in

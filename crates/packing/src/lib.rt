@@ -1,7 +1,7 @@
 // Lists of fields in words of 32 bits, most significant first: written into a slice that the caller lends, and read from words.
 #![tactic(auto)]
 
-ghost use Rattle.std.specs.Prelude.{◌≡◌, ◌∷◌, [], ◌+◌, ◌/◌, ◌≤◌, ◌<◌, length, drop, get_or};
+ghost use Rattle.std.specs.Prelude.{◌≡◌, ◌∷◌, [], ◌+◌, ◌/◌, ◌^◌, ◌≤◌, ◌<◌, length, drop};
 ghost use Rattle.model.specs.Fields.{joined, words_for, pack};
 ghost use Rattle.model.specs.Writing.{obligation_bits, entry_bits};
 ghost use Rattle.laws.specs.FieldAt.{field_at};
@@ -18,10 +18,7 @@ fn entries_word(first: u16, second: u16) -> u32
 fn obligations_word(first: u8, second: u8, third: u8, fourth: u8) -> u32
     ensures { result ≡ joined obligation_bits 4 (first ∷ second ∷ third ∷ fourth ∷ []) }
 {
-    first as u32 * policy_model::THREE_QUARTERS
-        + second as u32 * policy_model::HALF
-        + third as u32 * policy_model::QUARTER
-        + fourth as u32
+    u32::from_be_bytes([first, second, third, fourth])
 }
 
 // Facts or consulted entries, two a word; an unused last field is 0. The loop has no test but its own, so it is compiled to work on many words at a
@@ -43,13 +40,6 @@ pub fn pack_entries(values: &[u16], out: &mut [u32]) -> usize
     full + 1
 }
 
-// An obligation, 0 past the last.
-fn obligation_or_zero(values: &[u8], index: usize) -> u8
-    ensures { result ≡ get_or values.now index 0 }
-{
-    values.get(index).copied().unwrap_or(0)
-}
-
 // Obligations, four a word; unused tail fields are 0. The words are counted here: `policy_model::obligation_words` takes a list's count in 32 bits, not a
 // slice's length.
 #[tactic(auto, using(crate::specs::PackedLaws::packed_number, crate::specs::WrittenLaws::sofar_all))]
@@ -62,21 +52,33 @@ pub fn pack_obligations(values: &[u8], out: &mut [u32]) -> usize
     for j in 0..words {
         let first = j * 4;
         out[j] = obligations_word(
-            obligation_or_zero(values, first),
-            obligation_or_zero(values, first + 1),
-            obligation_or_zero(values, first + 2),
-            obligation_or_zero(values, first + 3),
+            policy_model::value_at(values, first, 0),
+            policy_model::value_at(values, first + 1, 0),
+            policy_model::value_at(values, first + 2, 0),
+            policy_model::value_at(values, first + 3, 0),
         );
     }
     words
 }
 
-// Field number `index` of the list of facts or consulted entries that begins at `at`. The place in the word is a shift, so nothing branches on it.
+// Obligation number `index` of the list that begins at `at`, 0 past the end of the words. The place in the word is a shift, so nothing branches on it. Each
+// width has its function, one line: a generic one would take the width, and each of its uses would say it again.
+#[tactic(auto, using(laws::proofs::FieldAtLaws::field_by_shift))]
+pub fn unpack_obligation(words: &[u32], at: usize, index: usize) -> u8
+    requires { at + index / 4 < 2 ^ 64 }
+    ensures { result ≡ field_at obligation_bits (drop at words.now) index }
+{
+    let word = policy_model::word_at(words, at + index / 4);
+    ((word >> (24 - index % 4 * 8)) % policy_model::QUARTER) as u8
+}
+
+// Field number `index` of the list of facts or consulted entries that begins at `at`, 0 past the end of the words. A function of its own, as
+// `unpack_obligation` says.
 #[tactic(auto, using(laws::proofs::FieldAtLaws::field_by_shift))]
 pub fn unpack_entry(words: &[u32], at: usize, index: usize) -> u16
-    requires { at + index / 2 < length words.now }
+    requires { at + index / 2 < 2 ^ 64 }
     ensures { result ≡ field_at entry_bits (drop at words.now) index }
 {
-    let word = words[at + index / 2];
+    let word = policy_model::word_at(words, at + index / 2);
     ((word >> (16 - index % 2 * 16)) % policy_model::HALF) as u16
 }

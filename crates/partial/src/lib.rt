@@ -55,33 +55,23 @@ fn reduce_in<
     requires { RoomToWalk (length reduction.now.evaluation.walk.words.now) DEPTH LISTED BYTES NAMED × RoomToLeave (length reduction.now.evaluation.walk.words.now) LEFT }
     ensures { Makes (reduced_after (carried reduction.now.evaluation.outcomes) (order_of reduction.now.order) (table_of reduction.now.evaluation.walk.facts.now)) reduction.now.evaluation.walk.words.now count at out.old out.new result }
 {
-    let mut entries = [0u16; LISTED];
-    let mut seen = [0u64; SEEN];
-    let mut buf = [0u8; BYTES];
-    let mut named = [0u16; NAMED];
-    let mut front = [0u32; LEFT];
-    let mut tree = [0u32; LEFT];
-    let mut consulted = Consulted {
-        entries: &mut entries,
-        seen: &mut seen,
+    let consulted = &mut Consulted {
+        entries: &mut [0u16; LISTED],
+        seen: &mut [0u64; SEEN],
         length: 0,
     };
+    let buf = &mut [0u8; BYTES];
+    let named = &mut [0u16; NAMED];
+    let front = &mut [0u32; LEFT];
+    let tree = &mut [0u32; LEFT];
     let walk = &reduction.evaluation.walk;
-    completion::load_consulted(walk.words, count, &mut consulted);
-    let reduced = reduction.reduce_policy(
-        at,
-        DEPTH,
-        &mut consulted,
-        &mut buf,
-        &mut named,
-        &mut front,
-        &mut tree,
-    );
-    let listed = completion::in_use(&consulted);
+    completion::load_consulted(walk.words, count, consulted);
+    let reduced = reduction.reduce_policy(at, DEPTH, consulted, buf, named, front, tree);
+    let listed = completion::in_use(consulted);
     match reduced.to {
-        Reduced::Pending(size) => put_pending(listed, &tree, size, out),
+        Reduced::Pending(size) => put_pending(listed, tree, size, out),
         Reduced::Resolved(decision) => {
-            answer::put_record(walk, decision, listed, &buf, &mut named, out)
+            answer::put_record(walk, decision, listed, buf, named, out)
         }
     }
 }

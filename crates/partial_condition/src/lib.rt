@@ -28,7 +28,8 @@ pub struct ReducedCondition {
     pub next: usize,
 }
 
-// The pending arms that a list rule keeps: how many, the size of the first, and how many words they take, with the word that is free for a lead.
+// The pending arms that a list rule keeps: how many, the size of the first, 0 of none, and how many words they take, with the word that is free for a
+// lead.
 #[derive(Clone, Copy)]
 struct Kept {
     pub count: u32,
@@ -169,7 +170,7 @@ fn keep(kept: Kept, size: usize, out: &mut [u32]) -> Kept
     }
 }
 
-// The lead of the list that an arm of the value `stop` decides: false an All, true an Any.
+// The lead of the list that an arm of the value `stop` decides: false an All, true an Any. An enum would be made from the value for this one test.
 fn lead(stop: bool, count: u32) -> u32
     requires { count < 2 ^ count_bits }
     ensures { result ≡ word (list_kind stop) count }

@@ -10,24 +10,25 @@ use lib.ListN.{length, take, drop}
 use lib.Seq.{take-take}
 use mir.Val.{bool_byte}
 use Rattle.model.specs.Facts.{Table}
-use Rattle.model.specs.Levels.{OutcomeTable, meet_of, join_of}
+use Rattle.model.specs.Levels.{OutcomeTable}
 use Rattle.model.specs.Decision.{Decision as Decided}
 use Rattle.model.specs.Products.{Outcome}
 use Rattle.decision.specs.declared.Decision.{Decision}
-use Rattle.decision.specs.Meaning.{denied_at, past}
+use Rattle.decision.specs.Meaning.{denied_at}
 use Rattle.decision.proofs.Standing.{denied_is, sound_denied}
-use Rattle.decision.specs.Answers.{Kept}
-use Rattle.decision.proofs.Buffers.{same_decision, same_sound, kept_decision, kept_sound, lent_front, lent_back, lent_tail}
-use Rattle.evaluate.specs.Evaluating.{Folds, Met}
-use Rattle.evaluate.specs.Folding.{or_denied, join_next}
+use Rattle.decision.proofs.Buffers.{same_decision, same_sound, lent_front, lent_back, lent_tail}
+use Rattle.evaluate.specs.Evaluating.{Folds}
+use Rattle.evaluate.specs.Folding.{or_denied}
+use Rattle.evaluate.proofs.Arms.{decides, decides_as}
 use Rattle.sizes.specs.Laid.{too_many, capped}
 use Rattle.sizes.specs.LaidLaws.{laid_then}
 use Rattle.residual.specs.Answers.{NodeLaid}
 use Rattle.decision.specs.Room.{obligation_room, Few}
+use Rattle.partial_list.specs.declared.ListKind.{ListKind}
 use Rattle.partial_list.specs.declared.Sofar.{Sofar}
-use Rattle.partial_list.specs.Keeping.{arms_with, fold_of, fold_next}
+use Rattle.partial_list.specs.Keeping.{arms_with, fold_next}
 use Rattle.partial_list.specs.InOrder.{DecisionHeld}
-use Rattle.partial_list.specs.Answers.{Resolves, Decides, FoldsNext, sofar_of, Bounded, NodeBehind, NodeKept, DecisionAdded}
+use Rattle.partial_list.specs.Answers.{Resolves, Decides, sofar_of, Bounded, NodeBehind, NodeKept, DecisionAdded}
 
 pub clash : {G : Type 0} (b : Bool) → b ≡ true → b ≡ false → G
 clash b p q = absurd (cc)
@@ -49,6 +50,9 @@ module _ {T : Table} {W : List ℕ} {d : Decision} {kept : ℕ} where
       }
 
 -- ---- the decision
+pub decided_as : (T : Table) (W buf : List ℕ) (d : Decision) (D : Decided Outcome) → Resolves T W D buf d → d.permit ≡ decides D
+decided_as T W buf d D x = sym (decides_as W T buf d) ∙ ap decides x.decision_is
+
 -- A decision stands for the same where its bytes do.
 pub resolves_same : {T : Table} {W : List ℕ} {D : Decided Outcome} {d : Decision} (before after : List ℕ) → take d.united after ≡ take d.united before → Resolves T W D before d → Resolves T W D after d
 resolves_same {T} {W} {d = d} before after e r = record { decision_is = same_decision W before after d e T ∙ r.decision_is; sound = same_sound W before after d e r.sound }
@@ -62,43 +66,25 @@ decides_same T W before after None (some D) few e s = absurd s
 decides_same T W before after (Some d) none few e s = absurd s
 decides_same T W before after (Some d) (some D) few e s = resolves_same before after (front_same d.united before after few e) s
 
--- The first one is taken as it is.
-first_as : (every : Bool) (g : Option OutcomeTable) (D : Decided Outcome) → fold_next every g none D ≡ D
-first_as true g D = refl
-first_as false g D = refl
-
-pub fold_first : {every : Bool} {g : Option OutcomeTable} {W : List ℕ} {before after : List ℕ} {incoming r : Decision} → Few incoming → Kept incoming before after r → FoldsNext every g W None before incoming r after
-fold_first {every} {g} {W} {before} {after} {incoming} {r} few k = record { few = subst Few (sym k.same) few; folds = first } where
-  first : (T : Table) (X : Option (Decided Outcome)) (D : Decided Outcome) → Decides T W before None X → Resolves T W D (drop obligation_room before) incoming → (every ≡ true → incoming.permit ≡ true) → Resolves T W (fold_next every g X D) after r
-  first T none D s x q = record { decision_is = kept_decision W before after incoming r k T ∙ x.decision_is ∙ sym (first_as every g D); sound = kept_sound W before after incoming r k x.sound }
-  first T (some C) D s x q = absurd s
-
--- Two are folded, under either rule.
-fold_by : {every : Bool} {g : Option OutcomeTable} {W : List ℕ} {before after : List ℕ} {earlier incoming r : Decision} → Few r →
-    ((every ≡ true → incoming.permit ≡ true) → Folds (fold_next every g) W (Some earlier) before incoming (drop obligation_room before) r after) → FoldsNext every g W (Some earlier) before incoming r after
-fold_by {every} {g} {W} {before} {after} {earlier} {incoming} {r} few f = record { few = few; folds = two } where
-  two : (T : Table) (X : Option (Decided Outcome)) (D : Decided Outcome) → Decides T W before (Some earlier) X → Resolves T W D (drop obligation_room before) incoming → (every ≡ true → incoming.permit ≡ true) → Resolves T W (fold_next every g X D) after r
-  two T none D s x q = absurd s
-  two T (some C) D s x q = record { decision_is = (f q).folded s.sound x.sound T ∙ ap₂ (λ c d. fold_next every g (some c) d) s.decision_is x.decision_is; sound = (f q).sound s.sound x.sound }
-
-pub fold_met : {g : Option OutcomeTable} {W : List ℕ} {before after : List ℕ} {earlier incoming r : Decision} {outcome : ℕ} (every : Bool) → every ≡ true → outcome ≡ fold_of every g earlier.outcome incoming.outcome → Few r →
-    (outcome ≡ meet_of g earlier.outcome incoming.outcome → Met g W earlier incoming before r after) → FoldsNext every g W (Some earlier) before incoming r after
-fold_met true e is few m = fold_by few (λ q. (m is).folds (q refl))
-fold_met false e is few m = cc
-
-pub fold_joined : {g : Option OutcomeTable} {W : List ℕ} {before after : List ℕ} {earlier incoming r : Decision} {outcome : ℕ} (every : Bool) → every ≡ false → outcome ≡ fold_of every g earlier.outcome incoming.outcome → Few r →
-    (outcome ≡ join_of g earlier.outcome incoming.outcome → Folds (join_next g) W (Some earlier) before incoming (drop obligation_room before) r after) → FoldsNext every g W (Some earlier) before incoming r after
-fold_joined true e is few f = cc
-fold_joined false e is few f = fold_by few (λ _. f is)
+-- What the decision so far and one more stand for is folded.
+folded_on : {fold : Option (Decided Outcome) → Decided Outcome → Decided Outcome} {T : Table} {W before part after : List ℕ} {incoming r : Decision} {D : Decided Outcome} (sofar : OptionOf Decision) (X : Option (Decided Outcome)) →
+    Folds fold W sofar before incoming part r after → Decides T W before sofar X → Resolves T W D part incoming → Resolves T W (fold X D) after r
+folded_on {fold} {T} None none f s x = record { decision_is = f.folded tt x.sound T ∙ ap (fold none) x.decision_is; sound = f.sound tt x.sound }
+folded_on None (some C) f s x = absurd s
+folded_on (Some d) none f s x = absurd s
+folded_on {fold} {T} (Some d) (some C) f s x = record {
+  decision_is = f.folded s.sound x.sound T ∙ ap₂ (λ c d. fold (some c) d) s.decision_is x.decision_is;
+  sound = f.sound s.sound x.sound;
+}
 
 -- A permit is one arm more.
 pub one_more : (permit : Bool) (n : ℕ) → n + bool_byte permit ≡ arms_with permit n
 one_more true n = refl
 one_more false n = omega arith
 
-pub decision_added : {every : Bool} {g : Option OutcomeTable} {T : Table} {W : List ℕ} {v : Sofar} {d now : Decision} {buf front mid buf' front' : List ℕ} {kept arms : ℕ} →
-    Bounded v → NodeKept T W d v.kept buf front mid front' kept → FoldsNext every g W v.decision mid d now buf' → arms ≡ arms_with d.permit v.arms →
-    DecisionAdded every g T W v d buf front buf' front' (sofar_of (Some now) kept v.size arms v.pending)
+pub decision_added : {kind : ListKind} {g : Option OutcomeTable} {T : Table} {W : List ℕ} {v : Sofar} {d now : Decision} {buf front mid buf' front' : List ℕ} {kept arms : ℕ} →
+    Bounded v → NodeKept T W d v.kept buf front mid front' kept → Folds (fold_next kind g) W v.decision mid d (drop obligation_room mid) now buf' → arms ≡ arms_with d.permit v.arms →
+    DecisionAdded kind g T W v d buf front buf' front' (sofar_of (Some now) kept v.size arms v.pending)
 decision_added {v = v} {d} {buf = buf} {mid = mid} b n f a = record {
   bounds = record { few = f.few; kept_most = n.bound; size_most = b.size_most; size_some = b.size_some };
   size_is = refl;
@@ -108,13 +94,13 @@ decision_added {v = v} {d} {buf = buf} {mid = mid} b n f a = record {
   arms_are = a;
   none = n.none;
   node = n.node;
-  folds = λ P X D s x q. f.folds P X D (decides_same _ _ buf mid v.decision X b.few n.front_bytes s) (resolves_same (drop obligation_room buf) (drop obligation_room mid) (n.bytes x.sound) x) q;
+  folds = λ P X D s x _. folded_on v.decision X f (decides_same _ _ buf mid v.decision X b.few n.front_bytes s) (resolves_same (drop obligation_room buf) (drop obligation_room mid) (n.bytes x.sound) x);
 }
 
 -- The same of a list in sheet order, while no arm is pending.
-pub held_folded : {every : Bool} {g : Option OutcomeTable} {T : Table} {W : List ℕ} {v : Sofar} {d now : Decision} {buf out mid buf' out' : List ℕ} {size : ℕ} → Bounded v →
-    NodeBehind T W d v.size buf out mid out' size → FoldsNext every g W v.decision mid d now buf' →
-    DecisionHeld every g T W v d buf out buf' out' (sofar_of (Some now) v.kept size (v.arms + 1) v.pending)
+pub held_folded : {kind : ListKind} {g : Option OutcomeTable} {T : Table} {W : List ℕ} {v : Sofar} {d now : Decision} {buf out mid buf' out' : List ℕ} {size : ℕ} → Bounded v →
+    NodeBehind T W d v.size buf out mid out' size → Folds (fold_next kind g) W v.decision mid d (drop obligation_room mid) now buf' →
+    DecisionHeld kind g T W v d buf out buf' out' (sofar_of (Some now) v.kept size (v.arms + 1) v.pending)
 held_folded {v = v} {buf = buf} {mid = mid} b n f = record {
   bounds = record { few = f.few; kept_most = b.kept_most; size_most = n.bound; size_some = omega (arith, b.size_some, n.more) };
   arms_are = refl;
@@ -123,7 +109,7 @@ held_folded {v = v} {buf = buf} {mid = mid} b n f = record {
   size_is = n.size_is;
   node = n.node;
   begun = λ _. refl;
-  folds = λ _ P X D s x q. f.folds P X D (decides_same _ _ buf mid v.decision X b.few n.front_bytes s) (resolves_same (drop obligation_room buf) (drop obligation_room mid) (n.bytes x.sound) x) q;
+  folds = λ _ P X D s x _. folded_on v.decision X f (decides_same _ _ buf mid v.decision X b.few n.front_bytes s) (resolves_same (drop obligation_room buf) (drop obligation_room mid) (n.bytes x.sound) x);
 }
 
 -- ---- where the tail of the buffer was lent to the arm
@@ -134,8 +120,8 @@ pub lent_resolves : {T : Table} {W : List ℕ} {D : Decided Outcome} {d : Decisi
 lent_resolves {d = d} buf part rest room few r = resolves_same part (drop obligation_room (take obligation_room buf ++ (part ++ rest))) (lent_back buf part rest room d.united few) r
 
 -- ---- a list without arms denies
-pub resolves_or_denied : (T : Table) (W buf : List ℕ) (end : ℕ) (o : OptionOf Decision) (X : Option (Decided Outcome)) → length W ≤ end → Decides T W buf o X → Resolves T W (or_denied X) buf (unwrap_or o (denied_at end end))
-resolves_or_denied T W buf end None none h s = record { decision_is = denied_is W T buf end h; sound = sound_denied W buf end end (past h) h }
-resolves_or_denied T W buf end None (some D) h s = absurd s
-resolves_or_denied T W buf end (Some d) none h s = absurd s
-resolves_or_denied T W buf end (Some d) (some D) h s = s
+pub resolves_or_denied : (T : Table) (W buf : List ℕ) (o : OptionOf Decision) (X : Option (Decided Outcome)) → Decides T W buf o X → Resolves T W (or_denied X) buf (unwrap_or o (denied_at None))
+resolves_or_denied T W buf None none s = record { decision_is = denied_is W T buf; sound = sound_denied W buf None tt }
+resolves_or_denied T W buf None (some D) s = absurd s
+resolves_or_denied T W buf (Some d) none s = absurd s
+resolves_or_denied T W buf (Some d) (some D) s = s

@@ -1,2 +1,3 @@
 pub mod Adding
 pub mod Ending
+pub mod Holding

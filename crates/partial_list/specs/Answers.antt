@@ -13,6 +13,8 @@ use Rattle.decision.specs.Meaning.{denied_at, decision_of, Sound}
 use Rattle.sizes.specs.Laid.{too_many, capped, Laid}
 use Rattle.residual.specs.Weight.{weight, weights, weight_d}
 use Rattle.decision.specs.Room.{obligation_room, Few}
+use Rattle.partial_list.specs.declared.ListKind.{ListKind}
+use Rattle.partial_list.specs.declared.ListKind.TheVariants.{All}
 use Rattle.partial_list.specs.declared.Reduced.{Reduced}
 use Rattle.partial_list.specs.declared.ReducedPolicy.{ReducedPolicy}
 use Rattle.partial_list.specs.declared.Reduced.TheVariants.{Resolved, Pending}
@@ -67,8 +69,8 @@ pub record Bounded (v : Sofar) : Type 0 where
 
 -- What a list keeps so far stands for what its arms came to: the decision of those that were resolved, the nodes of the permits among them in `front`,
 -- and the pending ones behind a free word in `out`.
-pub record SofarIs (every : Bool) (g : Option OutcomeTable) (T : Table) (W : List ℕ) (k : Walked) (v : Sofar) (buf front out : List ℕ) : Type 0 where
-  pub decided : Decides T W buf v.decision (sofar_value every g k)
+pub record SofarIs (kind : ListKind) (g : Option OutcomeTable) (T : Table) (W : List ℕ) (k : Walked) (v : Sofar) (buf front out : List ℕ) : Type 0 where
+  pub decided : Decides T W buf v.decision (sofar_value kind g k)
   pub nodes : Laid (weights_d (as_decisions k.permitted)) (encodes_d (as_decisions k.permitted)) front v.kept
   pub free : ℕ
   pub left : LaidWithin (length front - v.kept) (1 + weights k.pend) (free ∷ encodes k.pend) out v.size
@@ -95,13 +97,8 @@ pub record NodeKept (T : Table) (W : List ℕ) (d : Decision) (kept : ℕ) (buf 
   pub front_bytes : take obligation_room buf' ≡ take obligation_room buf
   pub bytes : Sound W (drop obligation_room buf) d → take d.united (drop obligation_room buf') ≡ take d.united (drop obligation_room buf)
 
--- The decision so far, if there is one, and that of one more arm, whose buffer starts at the second room, come to r, with its buffer.
-pub record FoldsNext (every : Bool) (g : Option OutcomeTable) (W : List ℕ) (sofar : OptionOf Decision) (buf : List ℕ) (d r : Decision) (buf' : List ℕ) : Type 0 where
-  pub few : Few r
-  pub folds : (T : Table) (X : Option (Decided Outcome)) (D : Decided Outcome) → Decides T W buf sofar X → Resolves T W D (drop obligation_room buf) d → (every ≡ true → d.permit ≡ true) → Resolves T W (fold_next every g X D) buf' r
-
 -- One more arm that was resolved: its node is kept, where it permits, and its decision folded on.
-pub record DecisionAdded (every : Bool) (g : Option OutcomeTable) (T : Table) (W : List ℕ) (v : Sofar) (d : Decision) (buf front buf' front' : List ℕ) (r : Sofar) : Type 0 where
+pub record DecisionAdded (kind : ListKind) (g : Option OutcomeTable) (T : Table) (W : List ℕ) (v : Sofar) (d : Decision) (buf front buf' front' : List ℕ) (r : Sofar) : Type 0 where
   pub bounds : Bounded r
   pub size_is : r.size ≡ v.size
   pub pending_is : r.pending ≡ v.pending
@@ -111,23 +108,23 @@ pub record DecisionAdded (every : Bool) (g : Option OutcomeTable) (T : Table) (W
   pub none : d.permit ≡ false → (r.kept ≡ v.kept) × (front' ≡ front)
   pub node : d.permit ≡ true → (n : ℕ) (ws : List ℕ) → Sound W (drop obligation_room buf) d → Laid n ws front v.kept →
       Laid (n + weight_d (decision_of W T (drop obligation_room buf) d)) (ws ++ encode_d (decision_of W T (drop obligation_room buf) d)) front' r.kept
-  pub folds : (P : Table) (X : Option (Decided Outcome)) (D : Decided Outcome) → Decides P W buf v.decision X → Resolves P W D (drop obligation_room buf) d → (every ≡ true → d.permit ≡ true) →
-      Decides P W buf' r.decision (some (fold_next every g X D))
+  pub folds : (P : Table) (X : Option (Decided Outcome)) (D : Decided Outcome) → Decides P W buf v.decision X → Resolves P W D (drop obligation_room buf) d → (kind ≡ All → d.permit ≡ true) →
+      Decides P W buf' r.decision (some (fold_next kind g X D))
 
 -- The nodes that a list with pending arms keeps, those that were kept so far or the first deny.
-pub record NodesAre (every : Bool) (k : Walked) (v : Sofar) (front : List ℕ) (r : Sofar) : Type 0 where
-  pub laid : Laid (weights_d (nodes_of every k)) (encodes_d (nodes_of every k)) front r.kept
-  pub arms_are : r.arms ≡ length (nodes_of every k) + count k.pend
+pub record NodesAre (kind : ListKind) (k : Walked) (v : Sofar) (front : List ℕ) (r : Sofar) : Type 0 where
+  pub laid : Laid (weights_d (nodes_of kind k)) (encodes_d (nodes_of kind k)) front r.kept
+  pub arms_are : r.arms ≡ length (nodes_of kind k) + count k.pend
   pub more : v.kept ≤ r.kept
 
-pub record NodesEnd (every : Bool) (T : Table) (W : List ℕ) (v : Sofar) (buf front front' : List ℕ) (r : Sofar) : Type 0 where
+pub record NodesEnd (kind : ListKind) (T : Table) (W : List ℕ) (v : Sofar) (buf front front' : List ℕ) (r : Sofar) : Type 0 where
   pub bounds : Bounded r
   pub size_is : r.size ≡ v.size
   pub arms_most : r.arms ≤ v.arms + 1
-  pub nodes : (g : Option OutcomeTable) (k : Walked) (out : List ℕ) → SofarIs every g T W k v buf front out → NodesAre every k v front' r
+  pub nodes : (g : Option OutcomeTable) (k : Walked) (out : List ℕ) → SofarIs kind g T W k v buf front out → NodesAre kind k v front' r
 
 -- A list whose arms are all read: without arms it denies.
-pub record ListEnds (every : Bool) (T : Table) (W : List ℕ) (v : Sofar) (buf front out buf' out' : List ℕ) (r : Reduced) : Type 0 where
+pub record ListEnds (kind : ListKind) (T : Table) (W : List ℕ) (v : Sofar) (buf front out buf' out' : List ℕ) (r : Reduced) : Type 0 where
   pub fit : Fit r
-  pub resolved_is : v.pending ≡ false → (r ≡ Resolved (unwrap_or v.decision (denied_at (length W) (length W)))) × (buf' ≡ buf)
-  pub pending_is : v.pending ≡ true → (g : Option OutcomeTable) (k : Walked) → SofarIs every g T W k v buf front out → Result (pending (list_of every (with_nodes (nodes_of every k) k.pend))) T W buf' (length front) out' r
+  pub resolved_is : v.pending ≡ false → (r ≡ Resolved (unwrap_or v.decision (denied_at None))) × (buf' ≡ buf)
+  pub pending_is : v.pending ≡ true → (g : Option OutcomeTable) (k : Walked) → SofarIs kind g T W k v buf front out → Result (pending (list_of kind (with_nodes (nodes_of kind k) k.pend))) T W buf' (length front) out' r

@@ -1,5 +1,5 @@
 -- Laws of the state that the list rules carry: one arm more, an arm that stops, the end of the list, and the sizes and words of what it keeps.
-use Rattle.std.specs.Prelude.{◌≡◌, refl, Bool, true, false, List, [], ◌∷◌, ◌++◌, ℕ, ◌+◌, length}
+use Rattle.std.specs.Prelude.{◌≡◌, refl, true, false, List, [], ◌∷◌, ◌++◌, ℕ, ◌+◌, length}
 use Rattle.std.proofs.Common.{sym, ◌∙◌, ap, ap₂, append-nil, append_assoc, arith}
 use Rattle.std.proofs.Math.Option.{Option, none, some}
 use Rattle.std.proofs.Math.Seq.{append_snoc}
@@ -15,6 +15,8 @@ use Rattle.model.specs.Products.{Outcome, join_permit, eval_policy, eval_policie
 use Rattle.evaluate.specs.Folding.{or_denied, meet_next, all_of, join_next, any_of}
 use Rattle.evaluate.specs.FoldingLaws.{all_is, any_is}
 use Rattle.residual.specs.Weight.{weight_d, weight, weights}
+use Rattle.partial_list.specs.declared.ListKind.{ListKind}
+use Rattle.partial_list.specs.declared.ListKind.TheVariants.{All, Any}
 use Rattle.partial_list.specs.Keeping.{Walked, walked, append, with_arm, stops, then_all, or_first, then_any, left_of, read_of, list_of, list_kind, as_decisions, kept_of, list_value, value_by, sofar_value, fold_next, is_open, nodes_of, with_nodes, end_of, weights_d, encodes_d}
 
 -- ---- the arms that are left
@@ -26,7 +28,7 @@ append_none : (qs : Policies Outcome) → append qs pnil ≡ qs
 append_none pnil = refl
 append_none (pcons q qs) = ap (pcons q) (append_none qs)
 
-all_step : (k : Walked) (x : ReducedPolicy Outcome) (w : AllWalk Outcome) → stops true x ≡ false → then_all k.permitted k.pend (step_all x w) ≡ then_all (with_arm k x).permitted (with_arm k x).pend w
+all_step : (k : Walked) (x : ReducedPolicy Outcome) (w : AllWalk Outcome) → stops All x ≡ false → then_all k.permitted k.pend (step_all x w) ≡ then_all (with_arm k x).permitted (with_arm k x).pend w
 all_step k (resolved (permits p)) (stop d) e = refl
 all_step k (resolved (permits p)) (go os rs) e = ap (λ ps. go ps (append k.pend rs)) (sym (append_snoc k.permitted p os))
 all_step k (resolved (denies d)) w e = cc
@@ -43,49 +45,49 @@ any_step k (resolved (permits p)) (parts os second rs) = ap (λ ps. parts ps (or
 any_step k (resolved (denies d)) (parts os second rs) = ap (λ first. parts (k.permitted ++ os) first (append k.pend rs)) (first_more k.denied d second)
 any_step k (pending q) (parts os second rs) = ap (parts (k.permitted ++ os) (or_first k.denied second)) (append_one k.pend q rs)
 
-pub left_more : (b : Bool) (g : Option OutcomeTable) (P : Table) (k : Walked) (p : Policy Outcome) (ts : Policies Outcome) → stops b (reduce_policy g permits_first P p) ≡ false →
-    left_of b g P k (pcons p ts) ≡ left_of b g P (with_arm k (reduce_policy g permits_first P p)) ts
-left_more true g P k p ts e = ap (end_all g P) (all_step k (reduce_policy g permits_first P p) (walked_all (reduce_arms g permits_first P ts)) e)
-left_more false g P k p ts e = ap (end_any g P) (any_step k (reduce_policy g permits_first P p) (walked_any (reduce_arms g permits_first P ts)))
+pub left_more : (kind : ListKind) (g : Option OutcomeTable) (P : Table) (k : Walked) (p : Policy Outcome) (ts : Policies Outcome) → stops kind (reduce_policy g permits_first P p) ≡ false →
+    left_of kind g P k (pcons p ts) ≡ left_of kind g P (with_arm k (reduce_policy g permits_first P p)) ts
+left_more All g P k p ts e = ap (end_all g P) (all_step k (reduce_policy g permits_first P p) (walked_all (reduce_arms g permits_first P ts)) e)
+left_more Any g P k p ts e = ap (end_any g P) (any_step k (reduce_policy g permits_first P p) (walked_any (reduce_arms g permits_first P ts)))
 
-on_read_lem : (x : ReducedPolicy Outcome) (here on : Consulted) → stops true x ≡ false → unless_denied x here on ≡ on
+on_read_lem : (x : ReducedPolicy Outcome) (here on : Consulted) → stops All x ≡ false → unless_denied x here on ≡ on
 on_read_lem (resolved (permits p)) here on e = refl
 on_read_lem (resolved (denies d)) here on e = cc
 on_read_lem (pending q) here on e = refl
 
-pub read_more : (b : Bool) (g : Option OutcomeTable) (o : Order) (P : Table) (p : Policy Outcome) (ts : Policies Outcome) (l : Consulted) → stops b (reduce_policy g o P p) ≡ false →
-    read_of b g o P (pcons p ts) l ≡ read_of b g o P ts (walk g o P p l)
-read_more true g o P p ts l e = on_read_lem (reduce_policy g o P p) (walk g o P p l) (walk_all g o P ts (walk g o P p l)) e
-read_more false g o P p ts l e = refl
+pub read_more : (kind : ListKind) (g : Option OutcomeTable) (o : Order) (P : Table) (p : Policy Outcome) (ts : Policies Outcome) (l : Consulted) → stops kind (reduce_policy g o P p) ≡ false →
+    read_of kind g o P (pcons p ts) l ≡ read_of kind g o P ts (walk g o P p l)
+read_more All g o P p ts l e = on_read_lem (reduce_policy g o P p) (walk g o P p l) (walk_all g o P ts (walk g o P p l)) e
+read_more Any g o P p ts l e = refl
 
 -- An arm that stops All is what it comes to.
-stop_step : (g : Option OutcomeTable) (k : Walked) (x : ReducedPolicy Outcome) (w : AllWalk Outcome) (T : Table) → stops true x ≡ true → end_all g T (then_all k.permitted k.pend (step_all x w)) ≡ x
+stop_step : (g : Option OutcomeTable) (k : Walked) (x : ReducedPolicy Outcome) (w : AllWalk Outcome) (T : Table) → stops All x ≡ true → end_all g T (then_all k.permitted k.pend (step_all x w)) ≡ x
 stop_step g k (resolved (permits p)) w T e = cc
 stop_step g k (resolved (denies d)) w T e = refl
 stop_step g k (pending q) w T e = cc
 
-stop_read : (x : ReducedPolicy Outcome) (here on : Consulted) → stops true x ≡ true → unless_denied x here on ≡ here
+stop_read : (x : ReducedPolicy Outcome) (here on : Consulted) → stops All x ≡ true → unless_denied x here on ≡ here
 stop_read (resolved (permits p)) here on e = cc
 stop_read (resolved (denies d)) here on e = refl
 stop_read (pending q) here on e = cc
 
-pub left_stop : (b : Bool) (g : Option OutcomeTable) (P : Table) (k : Walked) (p : Policy Outcome) (ts : Policies Outcome) → stops b (reduce_policy g permits_first P p) ≡ true →
-    left_of b g P k (pcons p ts) ≡ reduce_policy g permits_first P p
-left_stop true g P k p ts e = stop_step g k (reduce_policy g permits_first P p) (walked_all (reduce_arms g permits_first P ts)) P e
-left_stop false g P k p ts e = cc
+pub left_stop : (kind : ListKind) (g : Option OutcomeTable) (P : Table) (k : Walked) (p : Policy Outcome) (ts : Policies Outcome) → stops kind (reduce_policy g permits_first P p) ≡ true →
+    left_of kind g P k (pcons p ts) ≡ reduce_policy g permits_first P p
+left_stop All g P k p ts e = stop_step g k (reduce_policy g permits_first P p) (walked_all (reduce_arms g permits_first P ts)) P e
+left_stop Any g P k p ts e = cc
 
-pub read_stop : (b : Bool) (g : Option OutcomeTable) (o : Order) (P : Table) (p : Policy Outcome) (ts : Policies Outcome) (l : Consulted) → stops b (reduce_policy g o P p) ≡ true →
-    read_of b g o P (pcons p ts) l ≡ walk g o P p l
-read_stop true g o P p ts l e = stop_read (reduce_policy g o P p) (walk g o P p l) (walk_all g o P ts (walk g o P p l)) e
-read_stop false g o P p ts l e = cc
+pub read_stop : (kind : ListKind) (g : Option OutcomeTable) (o : Order) (P : Table) (p : Policy Outcome) (ts : Policies Outcome) (l : Consulted) → stops kind (reduce_policy g o P p) ≡ true →
+    read_of kind g o P (pcons p ts) l ≡ walk g o P p l
+read_stop All g o P p ts l e = stop_read (reduce_policy g o P p) (walk g o P p l) (walk_all g o P ts (walk g o P p l)) e
+read_stop Any g o P p ts l e = cc
 
-pub read_none : (b : Bool) (g : Option OutcomeTable) (o : Order) (P : Table) (l : Consulted) → read_of b g o P pnil l ≡ l
-read_none true g o P l = refl
-read_none false g o P l = refl
+pub read_none : (kind : ListKind) (g : Option OutcomeTable) (o : Order) (P : Table) (l : Consulted) → read_of kind g o P pnil l ≡ l
+read_none All g o P l = refl
+read_none Any g o P l = refl
 
-pub read_start : (b : Bool) (g : Option OutcomeTable) (o : Order) (P : Table) (ts : Policies Outcome) (l : Consulted) → walk g o P (list_of b ts) l ≡ read_of b g o P ts l
-read_start true g o P ts l = refl
-read_start false g o P ts l = refl
+pub read_start : (kind : ListKind) (g : Option OutcomeTable) (o : Order) (P : Table) (ts : Policies Outcome) (l : Consulted) → walk g o P (list_of kind ts) l ≡ read_of kind g o P ts l
+read_start All g o P ts l = refl
+read_start Any g o P ts l = refl
 
 -- ---- the decision of the resolved arms so far
 all_snoc : (g : Option OutcomeTable) (x : Decision Outcome) (ps : List (Permit Outcome)) (p : Permit Outcome) → meet_next g (some (all_of g (some x) (as_decisions ps))) (permits p) ≡ all_of g (some x) (as_decisions (ps ++ p ∷ []))
@@ -100,31 +102,31 @@ any_denied : (g : Option OutcomeTable) (p : Permit Outcome) (ps : List (Permit O
 any_denied g p [] d = refl
 any_denied g p (q ∷ ps) d = any_denied g (join_permit g p q) ps d
 
-all_more : (g : Option OutcomeTable) (ps : List (Permit Outcome)) (p : Permit Outcome) → some (fold_next true g (value_by true g (as_decisions ps)) (permits p)) ≡ value_by true g (as_decisions (ps ++ p ∷ []))
+all_more : (g : Option OutcomeTable) (ps : List (Permit Outcome)) (p : Permit Outcome) → some (fold_next All g (value_by All g (as_decisions ps)) (permits p)) ≡ value_by All g (as_decisions (ps ++ p ∷ []))
 all_more g [] p = refl
 all_more g (q ∷ ps) p = ap some (all_snoc g (permits q) ps p)
 
-any_permit_more : (g : Option OutcomeTable) (ps : List (Permit Outcome)) (first : Option (Denial Outcome)) (p : Permit Outcome) → some (fold_next false g (value_by false g (kept_of ps first)) (permits p)) ≡ value_by false g (kept_of (ps ++ p ∷ []) first)
+any_permit_more : (g : Option OutcomeTable) (ps : List (Permit Outcome)) (first : Option (Denial Outcome)) (p : Permit Outcome) → some (fold_next Any g (value_by Any g (kept_of ps first)) (permits p)) ≡ value_by Any g (kept_of (ps ++ p ∷ []) first)
 any_permit_more g [] none p = refl
 any_permit_more g [] (some d) p = refl
 any_permit_more g (q ∷ ps) first p = ap some (any_snoc g (permits q) ps p)
 
-any_deny_more : (g : Option OutcomeTable) (ps : List (Permit Outcome)) (first : Option (Denial Outcome)) (d : Denial Outcome) → some (fold_next false g (value_by false g (kept_of ps first)) (denies d)) ≡ value_by false g (kept_of ps (some (first_deny first d)))
+any_deny_more : (g : Option OutcomeTable) (ps : List (Permit Outcome)) (first : Option (Denial Outcome)) (d : Denial Outcome) → some (fold_next Any g (value_by Any g (kept_of ps first)) (denies d)) ≡ value_by Any g (kept_of ps (some (first_deny first d)))
 any_deny_more g [] none d = refl
 any_deny_more g [] (some c) d = refl
 any_deny_more g (q ∷ ps) first d = ap some (any_denied g q ps d)
 
-pub value_more : (b : Bool) (g : Option OutcomeTable) (k : Walked) (d : Decision Outcome) → stops b (resolved d) ≡ false → some (fold_next b g (sofar_value b g k) d) ≡ sofar_value b g (with_arm k (resolved d))
-value_more true g k (permits p) e = all_more g k.permitted p
-value_more true g k (denies d) e = cc
-value_more false g k (permits p) e = any_permit_more g k.permitted k.denied p
-value_more false g k (denies d) e = any_deny_more g k.permitted k.denied d
+pub value_more : (kind : ListKind) (g : Option OutcomeTable) (k : Walked) (d : Decision Outcome) → stops kind (resolved d) ≡ false → some (fold_next kind g (sofar_value kind g k) d) ≡ sofar_value kind g (with_arm k (resolved d))
+value_more All g k (permits p) e = all_more g k.permitted p
+value_more All g k (denies d) e = cc
+value_more Any g k (permits p) e = any_permit_more g k.permitted k.denied p
+value_more Any g k (denies d) e = any_deny_more g k.permitted k.denied d
 
 -- What a list comes to is the decision of its arms, and without arms a deny.
-pub deny_without : (every : Bool) (g : Option OutcomeTable) (ds : List (Decision Outcome)) → list_value every g ds ≡ or_denied (value_by every g ds)
-deny_without true g [] = refl
-deny_without false g [] = refl
-deny_without every g (d ∷ ds) = refl
+pub deny_without : (kind : ListKind) (g : Option OutcomeTable) (ds : List (Decision Outcome)) → list_value kind g ds ≡ or_denied (value_by kind g ds)
+deny_without All g [] = refl
+deny_without Any g [] = refl
+deny_without kind g (d ∷ ds) = refl
 
 -- ---- the end of a list
 pub open_more : (qs : Policies Outcome) (q : Policy Outcome) → is_open (append qs (pcons q pnil)) ≡ true
@@ -148,33 +150,33 @@ first_last : (first : Option (Denial Outcome)) → or_first first none ≡ first
 first_last none = refl
 first_last (some d) = refl
 
-pub left_none : (b : Bool) (g : Option OutcomeTable) (P : Table) (k : Walked) → left_of b g P k pnil ≡ end_of b g P k
-left_none true g P k = ap₂ (λ ps qs. end_all g P (go ps qs)) (append-nil k.permitted) (append_none k.pend)
-left_none false g P k =
+pub left_none : (kind : ListKind) (g : Option OutcomeTable) (P : Table) (k : Walked) → left_of kind g P k pnil ≡ end_of kind g P k
+left_none All g P k = ap₂ (λ ps qs. end_all g P (go ps qs)) (append-nil k.permitted) (append_none k.pend)
+left_none Any g P k =
     ap₂ (λ ps qs. end_any g P (parts ps (or_first k.denied none) qs)) (append-nil k.permitted) (append_none k.pend)
     ∙ ap (λ first. end_any g P (parts k.permitted first k.pend)) (first_last k.denied)
 
-none_at : (b : Bool) (g : Option OutcomeTable) (P : Table) (ps : List (Permit Outcome)) (first : Option (Denial Outcome)) (qs : Policies Outcome) → is_open qs ≡ false →
-    end_of b g P (walked ps first qs) ≡ resolved (or_denied (sofar_value b g (walked ps first qs)))
-none_at b g P ps first (pcons q qs) e = cc
-none_at true g P ps first pnil e =
+none_at : (kind : ListKind) (g : Option OutcomeTable) (P : Table) (ps : List (Permit Outcome)) (first : Option (Denial Outcome)) (qs : Policies Outcome) → is_open qs ≡ false →
+    end_of kind g P (walked ps first qs) ≡ resolved (or_denied (sofar_value kind g (walked ps first qs)))
+none_at kind g P ps first (pcons q qs) e = cc
+none_at All g P ps first pnil e =
     ap (λ ts. resolved (eval_policy g P (all ts))) (arms_are ps pnil)
-    ∙ ap resolved (all_is g (eval_policies g P (with_nodes (as_decisions ps) pnil)) ∙ ap (list_value true g) (nodes_value g P (as_decisions ps)) ∙ deny_without true g (as_decisions ps))
-none_at false g P ps first pnil e =
+    ∙ ap resolved (all_is g (eval_policies g P (with_nodes (as_decisions ps) pnil)) ∙ ap (list_value All g) (nodes_value g P (as_decisions ps)) ∙ deny_without All g (as_decisions ps))
+none_at Any g P ps first pnil e =
     ap (λ ts. resolved (eval_policy g P (any ts))) (kept_are ps first pnil)
-    ∙ ap resolved (any_is g (eval_policies g P (with_nodes (kept_of ps first) pnil)) ∙ ap (list_value false g) (nodes_value g P (kept_of ps first)) ∙ deny_without false g (kept_of ps first))
+    ∙ ap resolved (any_is g (eval_policies g P (with_nodes (kept_of ps first) pnil)) ∙ ap (list_value Any g) (nodes_value g P (kept_of ps first)) ∙ deny_without Any g (kept_of ps first))
 
-pub end_none : (b : Bool) (g : Option OutcomeTable) (P : Table) (k : Walked) → is_open k.pend ≡ false → end_of b g P k ≡ resolved (or_denied (sofar_value b g k))
-end_none b g P k e = none_at b g P k.permitted k.denied k.pend e
+pub end_none : (kind : ListKind) (g : Option OutcomeTable) (P : Table) (k : Walked) → is_open k.pend ≡ false → end_of kind g P k ≡ resolved (or_denied (sofar_value kind g k))
+end_none kind g P k e = none_at kind g P k.permitted k.denied k.pend e
 
-some_at : (b : Bool) (g : Option OutcomeTable) (P : Table) (ps : List (Permit Outcome)) (first : Option (Denial Outcome)) (qs : Policies Outcome) → is_open qs ≡ true →
-    end_of b g P (walked ps first qs) ≡ pending (list_of b (with_nodes (nodes_of b (walked ps first qs)) qs))
-some_at b g P ps first pnil e = cc
-some_at true g P ps first (pcons q qs) e = ap (λ ts. pending (all ts)) (arms_are ps (pcons q qs))
-some_at false g P ps first (pcons q qs) e = ap (λ ts. pending (any ts)) (kept_are ps first (pcons q qs))
+some_at : (kind : ListKind) (g : Option OutcomeTable) (P : Table) (ps : List (Permit Outcome)) (first : Option (Denial Outcome)) (qs : Policies Outcome) → is_open qs ≡ true →
+    end_of kind g P (walked ps first qs) ≡ pending (list_of kind (with_nodes (nodes_of kind (walked ps first qs)) qs))
+some_at kind g P ps first pnil e = cc
+some_at All g P ps first (pcons q qs) e = ap (λ ts. pending (all ts)) (arms_are ps (pcons q qs))
+some_at Any g P ps first (pcons q qs) e = ap (λ ts. pending (any ts)) (kept_are ps first (pcons q qs))
 
-pub end_some : (b : Bool) (g : Option OutcomeTable) (P : Table) (k : Walked) → is_open k.pend ≡ true → end_of b g P k ≡ pending (list_of b (with_nodes (nodes_of b k) k.pend))
-end_some b g P k e = some_at b g P k.permitted k.denied k.pend e
+pub end_some : (kind : ListKind) (g : Option OutcomeTable) (P : Table) (k : Walked) → is_open k.pend ≡ true → end_of kind g P k ≡ pending (list_of kind (with_nodes (nodes_of kind k) k.pend))
+end_some kind g P k e = some_at kind g P k.permitted k.denied k.pend e
 
 -- ---- sizes and words of nodes and of pending arms
 pub nodes_more : (ps : List (Permit Outcome)) (p : Permit Outcome) → weights_d (as_decisions (ps ++ p ∷ [])) ≡ weights_d (as_decisions ps) + weight_d (permits p)
@@ -218,11 +220,11 @@ whole_count : (ds : List (Decision Outcome)) (qs : Policies Outcome) → count (
 whole_count [] qs = omega arith
 whole_count (d ∷ ds) qs = omega (arith, whole_count ds qs)
 
-pub list_weight : (b : Bool) (ds : List (Decision Outcome)) (qs : Policies Outcome) → weight (list_of b (with_nodes ds qs)) ≡ weights_d ds + (1 + weights qs)
-list_weight true ds qs = omega (arith, whole_weight ds qs)
-list_weight false ds qs = omega (arith, whole_weight ds qs)
+pub list_weight : (kind : ListKind) (ds : List (Decision Outcome)) (qs : Policies Outcome) → weight (list_of kind (with_nodes ds qs)) ≡ weights_d ds + (1 + weights qs)
+list_weight All ds qs = omega (arith, whole_weight ds qs)
+list_weight Any ds qs = omega (arith, whole_weight ds qs)
 
-pub list_words : (b : Bool) (ds : List (Decision Outcome)) (qs : Policies Outcome) (n : ℕ) → n ≡ length ds + count qs →
-    encode (list_of b (with_nodes ds qs)) ≡ word (list_kind b) n ∷ (encodes_d ds ++ encodes qs)
-list_words true ds qs n e = ap₂ (λ m ws. word 9 m ∷ ws) (whole_count ds qs ∙ sym e) (whole_words ds qs)
-list_words false ds qs n e = ap₂ (λ m ws. word 10 m ∷ ws) (whole_count ds qs ∙ sym e) (whole_words ds qs)
+pub list_words : (kind : ListKind) (ds : List (Decision Outcome)) (qs : Policies Outcome) (n : ℕ) → n ≡ length ds + count qs →
+    encode (list_of kind (with_nodes ds qs)) ≡ word (list_kind kind) n ∷ (encodes_d ds ++ encodes qs)
+list_words All ds qs n e = ap₂ (λ m ws. word 9 m ∷ ws) (whole_count ds qs ∙ sym e) (whole_words ds qs)
+list_words Any ds qs n e = ap₂ (λ m ws. word 10 m ∷ ws) (whole_count ds qs ∙ sym e) (whole_words ds qs)

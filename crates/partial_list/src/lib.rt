@@ -2,24 +2,34 @@
 // (request 8). Lent: `buf`, for united obligations, `named`, for the facts of one clause, `out`, where pending arms are laid, and `front`, where a list with
 // its permits first keeps their nodes until it knows that an arm is pending. A slice may be too short for what is laid in it: then only its size is right.
 // Each is a parameter of its own: a list rule lends its arms other tails of `buf`, `front` and `out`, so a struct of them would be taken apart and made anew
-// for each arm. Of one resolved arm more, and of the end, each order has a function of its own:
-// where a node is laid, which arms have one, and what stands before the pending ones at the end all differ.
+// for each arm. Walk and outcome table come apart, since an `Evaluation` bounds its words, and the public functions here don't ask that. Of one resolved arm
+// more, and of the end, each order has a function of its own: where a node is laid, which arms have one, and what stands before the pending ones at the end
+// all differ.
 #![tactic(auto)]
 
-ghost use Rattle.std.specs.Prelude.{◌≡◌, IfSome, List, ℕ, ◌^◌, ◌≤◌, ◌<◌};
+ghost use Rattle.std.specs.Prelude.{◌≡◌, IfSome, List, ℕ, ◌^◌, ◌≤◌, ◌<◌, drop};
 ghost use Rattle.model.specs.Facts.{Table, table_of};
 ghost use Rattle.outcome.specs.Carried.{carried};
 ghost use Rattle.model.specs.Writing.{count_bits, word};
 ghost use Rattle.sizes.specs.Laid.{too_many};
-ghost use Rattle.decision.specs.Room.{RoomToUnite, Few};
+ghost use Rattle.decision.specs.Room.{obligation_room, RoomToUnite, Few};
+ghost use Rattle.evaluate.specs.Evaluating.{Folds};
 ghost use Rattle.clause.specs.Room.{RoomToName};
-ghost use Rattle.partial_list.specs.Keeping.{list_kind, fold_of};
-ghost use Rattle.partial_list.specs.Answers.{none_yet, with_pending, Bounded, NodeBehind, NodeKept, FoldsNext, DecisionAdded, NodesEnd, ListEnds};
-ghost use Rattle.partial_list.specs.InOrder.{DecisionHeld, OrderEnds};
+ghost use Rattle.partial_list.specs.declared.ListKind.TheVariants.{Any};
+ghost use Rattle.partial_list.specs.Keeping.{list_kind, fold_next};
+ghost use Rattle.partial_list.specs.Answers.{none_yet, with_pending, Bounded, NodeBehind, NodeKept, DecisionAdded, NodesEnd, ListEnds};
+ghost use Rattle.partial_list.specs.InOrder.{DecisionHeld, OrderEnds, DenyEnds};
 
 use condition::Walk;
 use decision::{Decision, OBLIGATION_ROOM};
 use outcome::OutcomeTable;
+
+// Which list: an All meets the decisions of its arms and stops at a deny, an Any joins them and reads every arm.
+#[derive(Clone, Copy)]
+pub enum ListKind {
+    All,
+    Any,
+}
 
 // What a policy came to: its decision, or the size of what is left of it. After gatekeep's `ReducedPolicy`, beside its `ReducedCondition`, whose cases have
 // other names.
@@ -36,7 +46,8 @@ pub struct ReducedPolicy {
     pub next: usize,
 }
 
-// What the arms of a list came to so far.
+// What the arms of a list came to so far. That its sizes are counted up to too many (`Bounded`) is asked by each function and is no ghost field: each
+// definition that makes a `Sofar` would carry the proof.
 #[derive(Clone, Copy)]
 pub struct Sofar {
     // of the resolved arms, if there was one
@@ -104,49 +115,23 @@ fn keep_node(
     lay_node(walk, incoming, kept, buf, named, front)
 }
 
-// What the outcomes of two decisions come to: under All they meet, under Any they join. `every` says All; each definition of a list rule is told by that
-// flag, so an enum would be turned into it at each use.
-fn outcome_next(
-    every: bool,
-    sofar: Decision,
-    incoming: Decision,
-    outcomes: Option<OutcomeTable<'_>>,
-) -> u16
-    ensures { result ≡ fold_of every (carried outcomes.entry) sofar.outcome incoming.outcome }
-{
-    let earlier = sofar.products();
-    let later = incoming.products();
-    let both = if every {
-        earlier.meet_by(later, outcomes)
-    } else {
-        earlier.join_by(later, outcomes)
-    };
-    both.bits
-}
-
 // The decision so far, if there is one, and one more, under All or Any. It is compiled into the list rules: with a call for each arm, wide lists with their
-// permits first took 1.4 to 1.9 times as long. Beside evaluation's two folds, since an `Evaluation` bounds its words, and no function here asks for that.
+// permits first took up to 1.3 times as long.
 #[inline(always)]
 fn fold_next(
     words: &[u32],
     outcomes: Option<OutcomeTable<'_>>,
-    every: bool,
+    kind: ListKind,
     sofar: Option<Decision>,
     incoming: Decision,
     buf: &mut [u8],
 ) -> Decision
     requires { IfSome sofar Few × Few incoming × RoomToUnite 2 buf.old }
-    ensures { FoldsNext every (carried outcomes.entry) words.now sofar buf.old incoming result buf.new }
+    ensures { Folds (fold_next kind (carried outcomes.entry)) words.now sofar buf.old incoming (drop obligation_room buf.old) result buf.new }
 {
-    match sofar {
-        None => decision::keep(incoming, buf),
-        Some(earlier) => {
-            let outcome = outcome_next(every, earlier, incoming, outcomes);
-            if every {
-                return evaluate::met(words, outcome, earlier, incoming, buf);
-            }
-            evaluate::joined(words, outcome, earlier, incoming, buf)
-        }
+    match kind {
+        ListKind::All => evaluate::meet_next(words, outcomes, sofar, incoming, buf),
+        ListKind::Any => evaluate::join_next(words, outcomes, sofar, incoming, buf),
     }
 }
 
@@ -154,7 +139,7 @@ fn fold_next(
 pub fn with_decision(
     walk: &Walk<'_>,
     outcomes: Option<OutcomeTable<'_>>,
-    every: bool,
+    kind: ListKind,
     sofar: Sofar,
     incoming: Decision,
     buf: &mut [u8],
@@ -162,10 +147,10 @@ pub fn with_decision(
     front: &mut [u32],
 ) -> Sofar
     requires { Bounded sofar × (sofar.arms < 2 ^ count_bits) × Few incoming × RoomToUnite 2 buf.old × RoomToName walk.now.words.now named.old }
-    ensures { DecisionAdded every (carried outcomes.entry) (table_of walk.now.facts.now) walk.now.words.now sofar incoming buf.old front.old buf.new front.new result }
+    ensures { DecisionAdded kind (carried outcomes.entry) (table_of walk.now.facts.now) walk.now.words.now sofar incoming buf.old front.old buf.new front.new result }
 {
     let kept = keep_node(walk, incoming, sofar.kept, buf, named, front);
-    let decision = fold_next(walk.words, outcomes, every, sofar.decision, incoming, buf);
+    let decision = fold_next(walk.words, outcomes, kind, sofar.decision, incoming, buf);
     Sofar {
         decision: Some(decision),
         kept,
@@ -191,7 +176,7 @@ pub fn with_pending(sofar: Sofar, size: usize) -> Sofar
 pub fn with_decision_in_order(
     walk: &Walk<'_>,
     outcomes: Option<OutcomeTable<'_>>,
-    every: bool,
+    kind: ListKind,
     sofar: Sofar,
     incoming: Decision,
     buf: &mut [u8],
@@ -199,7 +184,7 @@ pub fn with_decision_in_order(
     out: &mut [u32],
 ) -> Sofar
     requires { Bounded sofar × (sofar.arms < 2 ^ count_bits) × Few incoming × RoomToUnite 2 buf.old × RoomToName walk.now.words.now named.old }
-    ensures { DecisionHeld every (carried outcomes.entry) (table_of walk.now.facts.now) walk.now.words.now sofar incoming buf.old out.old buf.new out.new result }
+    ensures { DecisionHeld kind (carried outcomes.entry) (table_of walk.now.facts.now) walk.now.words.now sofar incoming buf.old out.old buf.new out.new result }
 {
     let size = lay_node(walk, incoming, sofar.size, buf, named, out);
     let arms = sofar.arms + 1;
@@ -210,7 +195,7 @@ pub fn with_decision_in_order(
             ..sofar
         };
     }
-    let decision = fold_next(walk.words, outcomes, every, sofar.decision, incoming, buf);
+    let decision = fold_next(walk.words, outcomes, kind, sofar.decision, incoming, buf);
     Sofar {
         decision: Some(decision),
         size,
@@ -220,32 +205,32 @@ pub fn with_decision_in_order(
 }
 
 // The lead of a list of policies; `partial_condition` has that of conditions, with their kinds.
-fn lead(every: bool, arms: u32) -> u32
+fn lead(kind: ListKind, arms: u32) -> u32
     requires { arms ≤ 2 ^ count_bits }
-    ensures { result ≡ word (list_kind every) arms }
+    ensures { result ≡ word (list_kind kind) arms }
 {
-    if every {
-        return policy_model::LEAD_POLICY_ALL + arms;
-    }
-    policy_model::LEAD_POLICY_ANY + arms
+    let without_arms = match kind {
+        ListKind::All => policy_model::LEAD_POLICY_ALL,
+        ListKind::Any => policy_model::LEAD_POLICY_ANY,
+    };
+    without_arms + arms
 }
 
-// The nodes that a list with pending arms keeps: an Any without permits holds its first deny first.
+// The nodes that an Any with pending arms keeps: without permits it holds its first deny first.
 fn with_first_deny(
     walk: &Walk<'_>,
-    every: bool,
     sofar: Sofar,
     buf: &mut [u8],
     named: &mut [u16],
     front: &mut [u32],
 ) -> Sofar
     requires { Bounded sofar × (sofar.arms < 2 ^ count_bits) × RoomToUnite 1 buf.old × RoomToName walk.now.words.now named.old }
-    ensures { NodesEnd every (table_of walk.now.facts.now) walk.now.words.now sofar buf.old front.old front.new result }
+    ensures { NodesEnd Any (table_of walk.now.facts.now) walk.now.words.now sofar buf.old front.old front.new result }
 {
     let Some(decision) = sofar.decision else {
         return sofar;
     };
-    if every || decision.permit {
+    if decision.permit {
         return sofar;
     }
     let kept = residual::policy_from_decision(walk, decision, buf, named, front);
@@ -259,7 +244,7 @@ fn with_first_deny(
 // A list whose arms are all read: without pending arms it is resolved, else its nodes are put before them.
 pub fn end_list(
     walk: &Walk<'_>,
-    every: bool,
+    kind: ListKind,
     sofar: Sofar,
     buf: &mut [u8],
     named: &mut [u16],
@@ -267,27 +252,51 @@ pub fn end_list(
     out: &mut [u32],
 ) -> Reduced
     requires { Bounded sofar × (sofar.arms < 2 ^ count_bits) × RoomToUnite 1 buf.old × RoomToName walk.now.words.now named.old }
-    ensures { ListEnds every (table_of walk.now.facts.now) walk.now.words.now sofar buf.old front.old out.old buf.new out.new result }
+    ensures { ListEnds kind (table_of walk.now.facts.now) walk.now.words.now sofar buf.old front.old out.old buf.new out.new result }
 {
     if !sofar.pending {
-        let without_arms = decision::denied(walk.words.len());
-        return Reduced::Resolved(sofar.decision.unwrap_or(without_arms));
+        return Reduced::Resolved(sofar.decision.unwrap_or(decision::denied()));
     }
-    let whole = with_first_deny(walk, every, sofar, buf, named, front);
-    let first = lead(every, whole.arms);
+    let whole = match kind {
+        ListKind::All => sofar,
+        ListKind::Any => with_first_deny(walk, sofar, buf, named, front),
+    };
+    let first = lead(kind, whole.arms);
     let size = residual::put_list(first, front, whole.kept, out, whole.size);
     Reduced::Pending(size)
 }
 
-// A list in sheet order whose arms are all read: without pending arms it is resolved, else its lead is put before them. `end` is the number of words.
-pub fn end_in_order(end: usize, every: bool, sofar: Sofar, out: &mut [u32]) -> Reduced
+// A list in sheet order whose arms are all read: without pending arms it is resolved, else its lead is put before them.
+pub fn end_in_order(kind: ListKind, sofar: Sofar, out: &mut [u32]) -> Reduced
     requires { Bounded sofar × (sofar.arms ≤ 2 ^ count_bits) }
-    ensures { (T : Table) (W buf : List ℕ) → OrderEnds every end T W sofar buf out.old out.new result }
+    ensures { (T : Table) (W buf : List ℕ) → OrderEnds kind T W sofar buf out.old out.new result }
 {
     if !sofar.pending {
-        let without_arms = decision::denied(end);
-        return Reduced::Resolved(sofar.decision.unwrap_or(without_arms));
+        return Reduced::Resolved(sofar.decision.unwrap_or(decision::denied()));
     }
-    partial_condition::put_first(lead(every, sofar.arms), out);
+    partial_condition::put_first(lead(kind, sofar.arms), out);
     Reduced::Pending(sofar.size)
+}
+
+// An All in sheet order that a resolved deny ends: where no arm before it is pending the deny is its decision, else the deny is the last arm that is kept.
+pub fn end_at_deny(
+    walk: &Walk<'_>,
+    sofar: Sofar,
+    deny: Decision,
+    buf: &mut [u8],
+    named: &mut [u16],
+    out: &mut [u32],
+) -> Reduced
+    requires { Bounded sofar × (sofar.arms < 2 ^ count_bits) × Few deny × RoomToUnite 2 buf.old × RoomToName walk.now.words.now named.old }
+    ensures { DenyEnds (table_of walk.now.facts.now) walk.now.words.now sofar deny buf.old out.old buf.new out.new result }
+{
+    if !sofar.pending {
+        return Reduced::Resolved(deny);
+    }
+    let whole = Sofar {
+        size: lay_node(walk, deny, sofar.size, buf, named, out),
+        arms: sofar.arms + 1,
+        ..sofar
+    };
+    end_in_order(ListKind::All, whole, out)
 }

@@ -1,6 +1,6 @@
 -- A list rule by its first arm and the others, and an OrElse by its two policies. Assumes nothing.
 use mathlib.Core.Path.{◌≡◌, refl, sym, ◌∙◌, ap, subst}
-use mathlib.Core.Bool.{Bool, true, false, not, ◌&&◌}
+use mathlib.Core.Bool.{Bool, true, false}
 use mathlib.Core.Option.{Option, none}
 use Rattle.std.specs.Prelude.{None}
 use mathlib.Core.List.{List, [], ◌∷◌, ◌++◌, append-nil}
@@ -29,11 +29,13 @@ use Rattle.consulted.specs.Listing.{Lent}
 use Rattle.consulted.proofs.Listing.{consults_none, consults_then, consults_as}
 use Rattle.decision.proofs.Buffers.{deny_decision, deny_sound}
 use Rattle.evaluate.proofs.Nodes.{node_holds, skipped, one_passed}
-use Rattle.evaluate.proofs.Arms.{decides, decides_as, arms_more}
+use Rattle.evaluate.proofs.Arms.{arms_more}
 use Rattle.sizes.specs.Laid.{capped, Laid}
 use Rattle.sizes.specs.LaidLaws.{laid_as, laid_none}
 use Rattle.residual.specs.Weight.{weight_d, weight, weights}
 use Rattle.decision.specs.declared.Decision.{Decision}
+use Rattle.partial_list.specs.declared.ListKind.{ListKind}
+use Rattle.partial_list.specs.declared.ListKind.TheVariants.{All, Any}
 use Rattle.partial_list.specs.declared.Reduced.{Reduced}
 use Rattle.partial_list.specs.declared.Reduced.TheVariants.{Resolved, Pending}
 use Rattle.partial_list.specs.declared.ReducedPolicy.{ReducedPolicy}
@@ -43,8 +45,8 @@ use Rattle.partial_list.specs.KeepingLaws.{left_more, read_more, left_stop, read
 use Rattle.partial_list.specs.Within.{LaidWithin}
 use Rattle.partial_list.specs.WithinLaws.{within, within_less, within_as, within_then, within_still, laid_still}
 use Rattle.partial_list.specs.Answers.{resolved_to, Resolves, Decides, Result, Fit, none_yet, with_pending, Bounded, SofarIs, DecisionAdded, ListEnds}
-use Rattle.partial_policy.specs.Reducing.{ReducedTo, ReducesP, ReducesBy, list_head, OrElsePut}
-use Rattle.partial_list.proofs.Adding.{clash, lent_decides, lent_resolves, resolves_or_denied}
+use Rattle.partial_policy.specs.Reducing.{ReducedTo, ReducesP, ReducesBy, list_head, stopped_at, OrElsePut}
+use Rattle.partial_list.proofs.Adding.{clash, decided_as, lent_decides, lent_resolves, resolves_or_denied}
 use Rattle.decision.specs.Room.{obligation_room}
 
 -- ---- what comes back of a slice whose tail was lent
@@ -62,40 +64,37 @@ back_part from mid part h =
     drop_at (take from mid) (part ++ drop (length mid - from) (drop from mid)) from (length-take-le from mid h) ∙ ap (λ us. part ++ us) none_left ∙ append-nil part
 
 -- ---- whether an arm stops the list
-pub decided_as : (T : Table) (W buf : List ℕ) (d : Decision) (D : Decided Outcome) → Resolves T W D buf d → d.permit ≡ decides D
-decided_as T W buf d D x = sym (decides_as W T buf d) ∙ ap decides x.decision_is
-
 -- It does if it is resolved, and denies, under All.
-abbrev pub stops_list : Bool → Reduced → Bool
-stops_list every (Resolved d) = every && not d.permit
-stops_list every (Pending n) = false
+abbrev pub stops_list : ListKind → Reduced → Bool
+stops_list kind (Resolved d) = stopped_at kind d
+stops_list kind (Pending n) = false
 
-pub settled_as : (T : Table) (W buf : List ℕ) (room : ℕ) (out : List ℕ) (a : Reduced) (x : model.ReducedPolicy Outcome) → Result x T W buf room out a → (every : Bool) → stops every x ≡ stops_list every a
-settled_as T W buf room out (Resolved d) (resolved (permits p)) h true = rw (decided_as T W buf d (permits p) h) refl
-settled_as T W buf room out (Resolved d) (resolved (denies c)) h true = rw (decided_as T W buf d (denies c) h) refl
-settled_as T W buf room out (Resolved d) (resolved D) h false = refl
-settled_as T W buf room out (Resolved d) (pending q) h every = absurd h
-settled_as T W buf room out (Pending n) (resolved D) h every = absurd h
-settled_as T W buf room out (Pending n) (pending q) h true = refl
-settled_as T W buf room out (Pending n) (pending q) h false = refl
+pub settled_as : (T : Table) (W buf : List ℕ) (room : ℕ) (out : List ℕ) (a : Reduced) (x : model.ReducedPolicy Outcome) → Result x T W buf room out a → (kind : ListKind) → stops kind x ≡ stops_list kind a
+settled_as T W buf room out (Resolved d) (resolved (permits p)) h All = rw (decided_as T W buf d (permits p) h) refl
+settled_as T W buf room out (Resolved d) (resolved (denies c)) h All = rw (decided_as T W buf d (denies c) h) refl
+settled_as T W buf room out (Resolved d) (resolved D) h Any = refl
+settled_as T W buf room out (Resolved d) (pending q) h kind = absurd h
+settled_as T W buf room out (Pending n) (resolved D) h kind = absurd h
+settled_as T W buf room out (Pending n) (pending q) h All = refl
+settled_as T W buf room out (Pending n) (pending q) h Any = refl
 
 -- ---- one more arm
-value_open : (every : Bool) (g : Option OutcomeTable) (k : Walked) (q : Policy Outcome) → sofar_value every g k ≡ sofar_value every g (with_arm k (pending q))
-value_open true g k q = refl
-value_open false g k q = refl
+value_open : (kind : ListKind) (g : Option OutcomeTable) (k : Walked) (q : Policy Outcome) → sofar_value kind g k ≡ sofar_value kind g (with_arm k (pending q))
+value_open All g k q = refl
+value_open Any g k q = refl
 
-module _ (every : Bool) (g : Option OutcomeTable) (T : Table) (W : List ℕ) (v : Sofar) (buf part front fpart out opart : List ℕ) (behind from room : ℕ)
+module _ (kind : ListKind) (g : Option OutcomeTable) (T : Table) (W : List ℕ) (v : Sofar) (buf part front fpart out opart : List ℕ) (behind from room : ℕ)
     (f : behind ≡ min v.kept (length front)) (o : from ≡ min v.size (length out)) (bounds : Bounded v) (wide : obligation_room ≤ length buf)
     (long : length fpart ≡ length front - behind) (rooms : room ≡ length front - behind) (olong : length opart ≡ length out - from) where
   abbrev beyond : List ℕ
   beyond = drop (length buf - obligation_room) (drop obligation_room buf)
 
   -- What was kept so far, with one arm more: a pending one,
-  pub sofar_open : (n : ℕ) (k : Walked) (x : model.ReducedPolicy Outcome) → SofarIs every g T W k v buf front out → Result x T W part room opart (Pending n) →
-      SofarIs every g T W (with_arm k x) (with_pending v n) (back obligation_room buf part) (back behind front fpart) (back from out opart)
+  pub sofar_open : (n : ℕ) (k : Walked) (x : model.ReducedPolicy Outcome) → SofarIs kind g T W k v buf front out → Result x T W part room opart (Pending n) →
+      SofarIs kind g T W (with_arm k x) (with_pending v n) (back obligation_room buf part) (back behind front fpart) (back from out opart)
   sofar_open n k (resolved D) s x = absurd x
   sofar_open n k (pending q) s x = record {
-    decided = lent_decides T W buf part beyond v.decision (sofar_value every g (with_arm k (pending q))) wide bounds.few (subst (Decides T W buf v.decision) (value_open every g k q) s.decided);
+    decided = lent_decides T W buf part beyond v.decision (sofar_value kind g (with_arm k (pending q))) wide bounds.few (subst (Decides T W buf v.decision) (value_open kind g k q) s.decided);
     nodes = laid_still fpart s.nodes f long;
     free = s.free;
     left = within_as (let z : 1 + weights k.pend + weight q ≡ 1 + weights (append k.pend (pcons q pnil)) = omega (arith, pend_more k.pend q) in z)
@@ -107,16 +106,16 @@ module _ (every : Bool) (g : Option OutcomeTable) (T : Table) (W : List ℕ) (v 
 
   -- or a resolved one.
   module _ (d : Decision) (buf' front' : List ℕ) (v' : Sofar)
-      (added : DecisionAdded every g T W v d (back obligation_room buf part) (back behind front fpart) buf' front' v') (few : d.united ≤ length part) where
-    known_more_arm : (k : Walked) (D : Decided Outcome) → SofarIs every g T W k v buf front out → Resolves T W D part d → stops every (resolved D) ≡ false → length front' ≡ length front →
+      (added : DecisionAdded kind g T W v d (back obligation_room buf part) (back behind front fpart) buf' front' v') (few : d.united ≤ length part) where
+    known_more_arm : (k : Walked) (D : Decided Outcome) → SofarIs kind g T W k v buf front out → Resolves T W D part d → stops kind (resolved D) ≡ false → length front' ≡ length front →
         Laid (weights_d (as_decisions (with_arm k (resolved D)).permitted)) (encodes_d (as_decisions (with_arm k (resolved D)).permitted)) front' v'.kept →
         v'.arms ≡ length (as_decisions (with_arm k (resolved D)).permitted) + count k.pend →
-        (every ≡ true → d.permit ≡ true) → (with_arm k (resolved D)).pend ≡ k.pend →
-        SofarIs every g T W (with_arm k (resolved D)) v' buf' front' (back from out opart)
+        (kind ≡ All → d.permit ≡ true) → (with_arm k (resolved D)).pend ≡ k.pend →
+        SofarIs kind g T W (with_arm k (resolved D)) v' buf' front' (back from out opart)
     known_more_arm k D s x e flong nodes arms q p =
         record {
-          decided = subst (Decides T W buf' v'.decision) (value_more every g k D e)
-              (added.folds T (sofar_value every g k) D (lent_decides T W buf part beyond v.decision (sofar_value every g k) wide bounds.few s.decided) (lent_resolves buf part beyond wide few x) q);
+          decided = subst (Decides T W buf' v'.decision) (value_more kind g k D e)
+              (added.folds T (sofar_value kind g k) D (lent_decides T W buf part beyond v.decision (sofar_value kind g k) wide bounds.few s.decided) (lent_resolves buf part beyond wide few x) q);
           nodes = nodes;
           free = s.free;
           left = rw (p, added.size_is) (within_less (omega (arith, added.more)) (within_still opart s.left o olong));
@@ -124,23 +123,23 @@ module _ (every : Bool) (g : Option OutcomeTable) (T : Table) (W : List ℕ) (v 
           pending_is = added.pending_is ∙ s.pending_is ∙ ap is_open (sym p);
         }
 
-    permit_arm : (k : Walked) (p : _) → SofarIs every g T W k v buf front out → Resolves T W (permits p) part d → length front' ≡ length front →
-        SofarIs every g T W (with_arm k (resolved (permits p))) v' buf' front' (back from out opart)
+    permit_arm : (k : Walked) (p : _) → SofarIs kind g T W k v buf front out → Resolves T W (permits p) part d → length front' ≡ length front →
+        SofarIs kind g T W (with_arm k (resolved (permits p))) v' buf' front' (back from out opart)
     permit_arm k p s x flong =
         let permit = decided_as T W part d (permits p) x in
         let y = lent_resolves buf part beyond wide few x in
         let D = y.decision_is in
-        known_more_arm k (permits p) s x (no_stop every p) flong
+        known_more_arm k (permits p) s x (no_stop kind p) flong
         (laid_as (ap (λ y. weights_d (as_decisions k.permitted) + weight_d y) D ∙ sym (nodes_more k.permitted p)) (ap (λ y. encodes_d (as_decisions k.permitted) ++ encode_d y) D ∙ sym (node_words_more k.permitted p))
         (added.node permit (weights_d (as_decisions k.permitted)) (encodes_d (as_decisions k.permitted)) y.sound (laid_still fpart s.nodes f long)))
         (omega (arith, added.arms_are, ap (λ b. arms_with b v.arms) permit, s.arms_are, node_count_more k.permitted p)) (λ _. permit) refl
       where
-        no_stop : (b : Bool) (p : _) → stops b (resolved (permits p)) ≡ false
-        no_stop true p = refl
-        no_stop false p = refl
+        no_stop : (kind : ListKind) (p : _) → stops kind (resolved (permits p)) ≡ false
+        no_stop All p = refl
+        no_stop Any p = refl
 
-    deny_arm : (k : Walked) (c : _) → SofarIs every g T W k v buf front out → Resolves T W (denies c) part d → stops every (resolved (denies c)) ≡ false → length front' ≡ length front →
-        SofarIs every g T W (with_arm k (resolved (denies c))) v' buf' front' (back from out opart)
+    deny_arm : (k : Walked) (c : _) → SofarIs kind g T W k v buf front out → Resolves T W (denies c) part d → stops kind (resolved (denies c)) ≡ false → length front' ≡ length front →
+        SofarIs kind g T W (with_arm k (resolved (denies c))) v' buf' front' (back from out opart)
     deny_arm k c s x e flong =
         let denied = decided_as T W part d (denies c) x in
         let None-more = added.none denied in
@@ -148,29 +147,29 @@ module _ (every : Bool) (g : Option OutcomeTable) (T : Table) (W : List ℕ) (v 
         (rw (None-more.0, None-more.1) (laid_still fpart s.nodes f long))
         (added.arms_are ∙ ap (λ b. arms_with b v.arms) denied ∙ s.arms_are) (λ t. clash true refl (sym (ap (λ b. stops b (resolved (denies c))) t) ∙ e)) refl
 
-    pub sofar_known : length front' ≡ length front → (k : Walked) (x : model.ReducedPolicy Outcome) → SofarIs every g T W k v buf front out → Result x T W part room opart (Resolved d) → stops every x ≡ false →
-        SofarIs every g T W (with_arm k x) v' buf' front' (back from out opart)
+    pub sofar_known : length front' ≡ length front → (k : Walked) (x : model.ReducedPolicy Outcome) → SofarIs kind g T W k v buf front out → Result x T W part room opart (Resolved d) → stops kind x ≡ false →
+        SofarIs kind g T W (with_arm k x) v' buf' front' (back from out opart)
     sofar_known flong k (resolved (permits p)) s x e = permit_arm k p s x flong
     sofar_known flong k (resolved (denies c)) s x e = deny_arm k c s x e flong
     sofar_known flong k (pending q) s x e = absurd x
 
 -- ---- arms
 -- The answer for the arms that are left, given what is kept so far. Of arms that don't read only the bounds are said.
-pub record ArmsLeft (every : Bool) (g : Option OutcomeTable) (P : Table) (W : List ℕ) (v : Sofar) (buf front out : List ℕ) (at depth arms : ℕ) (s : Lent) (r : ReducedPolicy) (t : Lent) (buf' out' : List ℕ) : Type 0 where
+pub record ArmsLeft (kind : ListKind) (g : Option OutcomeTable) (P : Table) (W : List ℕ) (v : Sofar) (buf front out : List ℕ) (at depth arms : ℕ) (s : Lent) (r : ReducedPolicy) (t : Lent) (buf' out' : List ℕ) : Type 0 where
   pub fit : Fit r.to
-  pub says : (k : Walked) → SofarIs every g P W k v buf front out →
-      Holds (λ ts rest. ReducedTo (left_of every g P k ts) (at + wordss ts) (read_of every g permits_first P ts) P W s r t buf' (length front) out') (many pnil pcons (read_policy true depth) arms (drop at W))
+  pub says : (k : Walked) → SofarIs kind g P W k v buf front out →
+      Holds (λ ts rest. ReducedTo (left_of kind g P k ts) (at + wordss ts) (read_of kind g permits_first P ts) P W s r t buf' (length front) out') (many pnil pcons (read_policy true depth) arms (drop at W))
 
-module _ (every : Bool) (g : Option OutcomeTable) (P : Table) (W : List ℕ) (depth : ℕ) (s m t : Lent) (a r : ReducedPolicy) (v : Sofar) (buf front out part opart : List ℕ) (room : ℕ) (buf' out' : List ℕ) (at arms : ℕ) (some : arms ≡ 0 → ⊥)
+module _ (kind : ListKind) (g : Option OutcomeTable) (P : Table) (W : List ℕ) (depth : ℕ) (s m t : Lent) (a r : ReducedPolicy) (v : Sofar) (buf front out part opart : List ℕ) (room : ℕ) (buf' out' : List ℕ) (at arms : ℕ) (some : arms ≡ 0 → ⊥)
     (first : ReducesP g permits_first P W at depth s a m part room opart) where
   abbrev Whole : Walked → Policy Outcome → Policies Outcome → List ℕ → Type 0
-  Whole k p ts rest = ReducedTo (left_of every g P k (pcons p ts)) (at + wordss (pcons p ts)) (read_of every g permits_first P (pcons p ts)) P W s r t buf' (length front) out'
+  Whole k p ts rest = ReducedTo (left_of kind g P k (pcons p ts)) (at + wordss (pcons p ts)) (read_of kind g permits_first P (pcons p ts)) P W s r t buf' (length front) out'
 
   -- By the answer a to the first arm.
   arm_first : Fit r.to →
-      ((k : Walked) (p : Policy Outcome) → SofarIs every g P W k v buf front out → ReducedTo (reduce_policy g permits_first P p) (at + words p) (walk g permits_first P p) P W s a m part room opart →
+      ((k : Walked) (p : Policy Outcome) → SofarIs kind g P W k v buf front out → ReducedTo (reduce_policy g permits_first P p) (at + words p) (walk g permits_first P p) P W s a m part room opart →
       Holds (Whole k p) (many pnil pcons (read_policy true depth) (arms - 1) (drop a.next W))) →
-      ArmsLeft every g P W v buf front out at depth arms s r t buf' out'
+      ArmsLeft kind g P W v buf front out at depth arms s r t buf' out'
   arm_first fit f =
       let one = read_policy true depth in
       record {
@@ -185,69 +184,69 @@ module _ (every : Bool) (g : Option OutcomeTable) (P : Table) (W : List ℕ) (de
 
   -- An arm that does not stop the list: the others go on from what is kept with it.
   pub arm_goes : (v' : Sofar) (mid front' omid : List ℕ) → length front' ≡ length front →
-      ((k : Walked) (x : model.ReducedPolicy Outcome) → SofarIs every g P W k v buf front out → Result x P W part room opart a.to → stops every x ≡ false → SofarIs every g P W (with_arm k x) v' mid front' omid) →
-      stops_list every a.to ≡ false →
-      ArmsLeft every g P W v' mid front' omid a.next depth (arms - 1) m r t buf' out' → ArmsLeft every g P W v buf front out at depth arms s r t buf' out'
+      ((k : Walked) (x : model.ReducedPolicy Outcome) → SofarIs kind g P W k v buf front out → Result x P W part room opart a.to → stops kind x ≡ false → SofarIs kind g P W (with_arm k x) v' mid front' omid) →
+      stops_list kind a.to ≡ false →
+      ArmsLeft kind g P W v' mid front' omid a.next depth (arms - 1) m r t buf' out' → ArmsLeft kind g P W v buf front out at depth arms s r t buf' out'
   arm_goes v' mid front' omid long more e rest =
       arm_first rest.fit (λ k p z h.
       let x = reduce_policy g permits_first P p in
-      let on : stops every x ≡ false = settled_as P W part room opart a.to x h.result every ∙ e in
+      let on : stops kind x ≡ false = settled_as P W part room opart a.to x h.result kind ∙ e in
       weaker (many pnil pcons (read_policy true depth) (arms - 1) (drop a.next W)) (λ ts us i. record {
-        result = subst (λ n. Result (left_of every g P k (pcons p ts)) P W buf' n out' r.to) long
-            (subst (λ y. Result y P W buf' (length front') out' r.to) (sym (left_more every g P k p ts on)) i.result);
+        result = subst (λ n. Result (left_of kind g P k (pcons p ts)) P W buf' n out' r.to) long
+            (subst (λ y. Result y P W buf' (length front') out' r.to) (sym (left_more kind g P k p ts on)) i.result);
         next_is = omega (arith, h.next_is, i.next_is);
-        log = consults_as (λ l. read_more every g permits_first P p ts l on) (consults_then h.log i.log);
+        log = consults_as (λ l. read_more kind g permits_first P p ts l on) (consults_then h.log i.log);
       })
       (rest.says (with_arm k x) (more k x z h.result on)))
 
 -- An arm that stops the list is its answer; the others are passed over.
-stopped_by : (every : Bool) (P : Table) (W part mid : List ℕ) (room : ℕ) (opart out' : List ℕ) (d : Decision) (n : ℕ) (x : model.ReducedPolicy Outcome) → stops every x ≡ true → Result x P W part room opart (Resolved d) → Result x P W mid n out' (Resolved d)
-stopped_by false P W part mid room opart out' d n x e h = clash true refl (sym e)
-stopped_by true P W part mid room opart out' d n (resolved (permits p)) e h = clash true refl (sym e)
-stopped_by true P W part mid room opart out' d n (resolved (denies c)) e h =
+stopped_by : (kind : ListKind) (P : Table) (W part mid : List ℕ) (room : ℕ) (opart out' : List ℕ) (d : Decision) (n : ℕ) (x : model.ReducedPolicy Outcome) → stops kind x ≡ true → Result x P W part room opart (Resolved d) → Result x P W mid n out' (Resolved d)
+stopped_by Any P W part mid room opart out' d n x e h = clash true refl (sym e)
+stopped_by All P W part mid room opart out' d n (resolved (permits p)) e h = clash true refl (sym e)
+stopped_by All P W part mid room opart out' d n (resolved (denies c)) e h =
     let denied = decided_as P W part d (denies c) h in
     record {
       decision_is = deny_decision W part mid d denied h.sound P ∙ h.decision_is;
       sound = deny_sound W part mid d denied h.sound;
     }
-stopped_by true P W part mid room opart out' d n (pending q) e h = clash true refl (sym e)
+stopped_by All P W part mid room opart out' d n (pending q) e h = clash true refl (sym e)
 
-pub arm_stops : (every : Bool) (g : Option OutcomeTable) (P : Table) (W : List ℕ) (depth : ℕ) (s m : Lent) (a : ReducedPolicy) (d : Decision) (v : Sofar) (buf front out part opart : List ℕ) (room : ℕ) (mid out' : List ℕ) (at arms end : ℕ) → (arms ≡ 0 → ⊥) →
-    ReducesP g permits_first P W at depth s a m part room opart → a.to ≡ Resolved d → stops_list every (Resolved d) ≡ true →
+pub arm_stops : (kind : ListKind) (g : Option OutcomeTable) (P : Table) (W : List ℕ) (depth : ℕ) (s m : Lent) (a : ReducedPolicy) (d : Decision) (v : Sofar) (buf front out part opart : List ℕ) (room : ℕ) (mid out' : List ℕ) (at arms end : ℕ) → (arms ≡ 0 → ⊥) →
+    ReducesP g permits_first P W at depth s a m part room opart → a.to ≡ Resolved d → stops_list kind (Resolved d) ≡ true →
     ((depth : ℕ) (res : Bool) → Skipped wordss a.next (many pnil pcons (read_policy res depth) (arms - 1) (drop a.next W)) end) →
-    ArmsLeft every g P W v buf front out at depth arms s (resolved_to d end) m mid out'
-arm_stops every g P W depth s m a d v buf front out part opart room mid out' at arms end some first is e k =
-    arm_first every g P W depth s m m a (resolved_to d end) v buf front out part opart room mid out' at arms some first (rw is at first.fit) (λ w p z h.
+    ArmsLeft kind g P W v buf front out at depth arms s (resolved_to d end) m mid out'
+arm_stops kind g P W depth s m a d v buf front out part opart room mid out' at arms end some first is e k =
+    arm_first kind g P W depth s m m a (resolved_to d end) v buf front out part opart room mid out' at arms some first (rw is at first.fit) (λ w p z h.
     let x = reduce_policy g permits_first P p in
     let result = rw is at h.result in
-    let stop-here : stops every x ≡ true = settled_as P W part room opart (Resolved d) x result every ∙ e in
+    let stop-here : stops kind x ≡ true = settled_as P W part room opart (Resolved d) x result kind ∙ e in
     weaker (many pnil pcons (read_policy true depth) (arms - 1) (drop a.next W)) (λ ts us i. record {
-      result = subst (λ y. Result y P W mid (length front) out' (Resolved d)) (sym (left_stop every g P w p ts stop-here))
-          (stopped_by every P W part mid room opart out' d (length front) x stop-here result);
+      result = subst (λ y. Result y P W mid (length front) out' (Resolved d)) (sym (left_stop kind g P w p ts stop-here))
+          (stopped_by kind P W part mid room opart out' d (length front) x stop-here result);
       next_is = omega (arith, h.next_is, i);
-      log = consults_as (λ l. read_stop every g permits_first P p ts l stop-here) h.log;
+      log = consults_as (λ l. read_stop kind g permits_first P p ts l stop-here) h.log;
     })
     (skipped wordss a.next end (many pnil pcons (read_policy true depth) (arms - 1) (drop a.next W)) (k depth true)))
 
 -- No arm is left.
-ended_as : (every : Bool) (g : Option OutcomeTable) (P : Table) (W : List ℕ) (v : Sofar) (buf front out buf' out' : List ℕ) (r : Reduced) (k : Walked) (b : Bool) → v.pending ≡ b → SofarIs every g P W k v buf front out →
-    ListEnds every P W v buf front out buf' out' r → Result (end_of every g P k) P W buf' (length front) out' r
-ended_as every g P W v buf front out buf' out' r k true p s e =
-    subst (λ y. Result y P W buf' (length front) out' r) (sym (end_some every g P k (sym s.pending_is ∙ p))) (e.pending_is p g k s)
-ended_as every g P W v buf front out buf' out' r k false p s e =
+ended_as : (kind : ListKind) (g : Option OutcomeTable) (P : Table) (W : List ℕ) (v : Sofar) (buf front out buf' out' : List ℕ) (r : Reduced) (k : Walked) (b : Bool) → v.pending ≡ b → SofarIs kind g P W k v buf front out →
+    ListEnds kind P W v buf front out buf' out' r → Result (end_of kind g P k) P W buf' (length front) out' r
+ended_as kind g P W v buf front out buf' out' r k true p s e =
+    subst (λ y. Result y P W buf' (length front) out' r) (sym (end_some kind g P k (sym s.pending_is ∙ p))) (e.pending_is p g k s)
+ended_as kind g P W v buf front out buf' out' r k false p s e =
     let is = e.resolved_is p in
-    subst (λ y. Result y P W buf' (length front) out' r) (sym (end_none every g P k (sym s.pending_is ∙ p)))
-    (rw (is.0, is.1) (resolves_or_denied P W buf (length W) v.decision (sofar_value every g k) (omega arith) s.decided))
+    subst (λ y. Result y P W buf' (length front) out' r) (sym (end_none kind g P k (sym s.pending_is ∙ p)))
+    (rw (is.0, is.1) (resolves_or_denied P W buf v.decision (sofar_value kind g k) s.decided))
 
-pub arms_end : (every : Bool) (g : Option OutcomeTable) (P : Table) (W : List ℕ) (v : Sofar) (buf front out : List ℕ) (at depth arms : ℕ) (s : Lent) (r : Reduced) (buf' out' : List ℕ) → arms ≡ 0 →
-    ListEnds every P W v buf front out buf' out' r → ArmsLeft every g P W v buf front out at depth arms s (record { to = r; next = at }) s buf' out'
-arms_end every g P W v buf front out at depth arms s r buf' out' z e =
+pub arms_end : (kind : ListKind) (g : Option OutcomeTable) (P : Table) (W : List ℕ) (v : Sofar) (buf front out : List ℕ) (at depth arms : ℕ) (s : Lent) (r : Reduced) (buf' out' : List ℕ) → arms ≡ 0 →
+    ListEnds kind P W v buf front out buf' out' r → ArmsLeft kind g P W v buf front out at depth arms s (record { to = r; next = at }) s buf' out'
+arms_end kind g P W v buf front out at depth arms s r buf' out' z e =
     rw z (record {
       fit = e.fit;
       says = λ k i. fine (record {
-        result = subst (λ y. Result y P W buf' (length front) out' r) (sym (left_none every g P k)) (ended_as every g P W v buf front out buf' out' r k v.pending refl i e);
+        result = subst (λ y. Result y P W buf' (length front) out' r) (sym (left_none kind g P k)) (ended_as kind g P W v buf front out buf' out' r k v.pending refl i e);
         next_is = omega arith;
-        log = consults_as (read_none every g permits_first P) consults_none;
+        log = consults_as (read_none kind g permits_first P) consults_none;
       });
     })
 
@@ -263,27 +262,27 @@ start_all (go ps qs) = refl
 start_any : (w : AnyWalk Outcome) → then_any [] none pnil w ≡ w
 start_any (parts ps first qs) = refl
 
-start_left : (every : Bool) (g : Option OutcomeTable) (P : Table) (ts : Policies Outcome) → left_of every g P (walked [] none pnil) ts ≡ reduce_policy g permits_first P (list_of every ts)
-start_left true g P ts = ap (end_all g P) (start_all (walked_all (reduce_arms g permits_first P ts)))
-start_left false g P ts = ap (end_any g P) (start_any (walked_any (reduce_arms g permits_first P ts)))
+start_left : (kind : ListKind) (g : Option OutcomeTable) (P : Table) (ts : Policies Outcome) → left_of kind g P (walked [] none pnil) ts ≡ reduce_policy g permits_first P (list_of kind ts)
+start_left All g P ts = ap (end_all g P) (start_all (walked_all (reduce_arms g permits_first P ts)))
+start_left Any g P ts = ap (end_any g P) (start_any (walked_any (reduce_arms g permits_first P ts)))
 
-pub start_words : (every : Bool) (ts : Policies Outcome) → words (list_of every ts) ≡ 1 + wordss ts
-start_words true ts = refl
-start_words false ts = refl
+pub start_words : (kind : ListKind) (ts : Policies Outcome) → words (list_of kind ts) ≡ 1 + wordss ts
+start_words All ts = refl
+start_words Any ts = refl
 
-start_decides : (every : Bool) (g : Option OutcomeTable) (T : Table) (W buf : List ℕ) → Decides T W buf None (sofar_value every g (walked [] none pnil))
-start_decides true g T W buf = tt
-start_decides false g T W buf = tt
+start_decides : (kind : ListKind) (g : Option OutcomeTable) (T : Table) (W buf : List ℕ) → Decides T W buf None (sofar_value kind g (walked [] none pnil))
+start_decides All g T W buf = tt
+start_decides Any g T W buf = tt
 
-pub list_reads : (every : Bool) (pc : _) (p : List ℕ → Parsed (Policy Outcome)) (n : ℕ) (ws : List ℕ) → policy_node pc p (list_head every n) ws ≡ next (many pnil pcons p n ws) (λ ts vs. got (list_of every ts) vs)
+pub list_reads : (kind : ListKind) (pc : _) (p : List ℕ → Parsed (Policy Outcome)) (n : ℕ) (ws : List ℕ) → policy_node pc p (list_head kind n) ws ≡ next (many pnil pcons p n ws) (λ ts vs. got (list_of kind ts) vs)
 unfolding policy_node
-list_reads true pc p n ws = refl
-list_reads false pc p n ws = refl
+list_reads All pc p n ws = refl
+list_reads Any pc p n ws = refl
 
-module _ (every : Bool) (g : Option OutcomeTable) (P : Table) (W : List ℕ) (at depth n : ℕ) (s : Lent) (r : ReducedPolicy) (t : Lent) (buf front out buf' out' : List ℕ) (lt : at < length W) where
-  none_kept : SofarIs every g P W (walked [] none pnil) none_yet buf front out
+module _ (kind : ListKind) (g : Option OutcomeTable) (P : Table) (W : List ℕ) (at depth n : ℕ) (s : Lent) (r : ReducedPolicy) (t : Lent) (buf front out buf' out' : List ℕ) (lt : at < length W) where
+  none_kept : SofarIs kind g P W (walked [] none pnil) none_yet buf front out
   none_kept = record {
-    decided = start_decides every g P W buf;
+    decided = start_decides kind g P W buf;
     nodes = laid_none front;
     free = get_or out 0 0;
     left = first_word out;
@@ -291,14 +290,14 @@ module _ (every : Bool) (g : Option OutcomeTable) (P : Table) (W : List ℕ) (at
     pending_is = refl;
   }
 
-  pub list_node_lem : ArmsLeft every g P W none_yet buf front out (at + 1) depth n s r t buf' out' → ReducesBy g permits_first (list_head every n) P W at depth s r t buf' (length front) out'
+  pub list_node_lem : ArmsLeft kind g P W none_yet buf front out (at + 1) depth n s r t buf' out' → ReducesBy g permits_first (list_head kind n) P W at depth s r t buf' (length front) out'
   list_node_lem a = record {
     fit = a.fit;
-    says = λ e. node_holds W at depth (list_head every n) lt e (rw (list_reads every _ (read_policy true depth) n (drop (at + 1) W))
-        (then_holds (many pnil pcons (read_policy true depth) n (drop (at + 1) W)) (λ ts vs. got (list_of every ts) vs) (a.says (walked [] none pnil) none_kept) (λ ts rest h. fine (record {
-          result = subst (λ x. Result x P W buf' (length front) out' r.to) (start_left every g P ts) h.result;
-          next_is = omega (arith, h.next_is, start_words every ts);
-          log = consults_as (read_start every g permits_first P ts) h.log;
+    says = λ e. node_holds W at depth (list_head kind n) lt e (rw (list_reads kind _ (read_policy true depth) n (drop (at + 1) W))
+        (then_holds (many pnil pcons (read_policy true depth) n (drop (at + 1) W)) (λ ts vs. got (list_of kind ts) vs) (a.says (walked [] none pnil) none_kept) (λ ts rest h. fine (record {
+          result = subst (λ x. Result x P W buf' (length front) out' r.to) (start_left kind g P ts) h.result;
+          next_is = omega (arith, h.next_is, start_words kind ts);
+          log = consults_as (read_start kind g permits_first P ts) h.log;
         }))));
   }
 

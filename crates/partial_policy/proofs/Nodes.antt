@@ -7,7 +7,8 @@ use Prim.Native.Nat.{ℕ, zero, suc, ◌+◌, ◌-◌, ◌/◌, ◌%◌, ◌≤�
 use native.Mathlib.Omega.{arith}
 use denote.Enum.Declared.{tag_of}
 use types.Run.{OneOf, miss}
-use lib.ListN.{length, take, drop, get_or, length-drop}
+use Rattle.std.specs.Prelude.{None}
+use lib.ListN.{length, take, drop, get_or, length-take, length-drop}
 use lib.Seq.{take_at, drop-drop}
 use Rattle.model.specs.Fields.{pack}
 use Rattle.model.specs.Facts.{Table}
@@ -181,6 +182,13 @@ own_words : (g : Clause Outcome) (c d : Condition) (rest : List ℕ) (n : ℕ) �
 own_words g c d rest n long =
     own_front _ _ ((n + 3) / 4) (pack obligation_bits g.obligations) (encode_c c) rest (encode_c d) (length_pack obligation_bits g.obligations ∙ ap (λ m. (m + 3) / 4) long)
 
+-- They were laid from `at` to `to`.
+pub own_laid : (W mid : List ℕ) (at to own : ℕ) → to - at ≡ own → own ≤ length W - at →
+    Laid (length (take (to - at) (drop at W))) (take (to - at) (drop at W)) mid (length (take (to - at) (drop at W))) → Laid own (take own (drop at W)) mid own
+own_laid W mid at to own e h l =
+    let long : length (take own (drop at W)) ≡ own = omega (arith, length-take own (drop at W), length-drop at W) in
+    rw long at (rw e at l)
+
 module _ (P : Table) (W : List ℕ) (at depth : ℕ) (shape : DenyShape) (n o own : ℕ) (lt : at < length W) (deep : depth < 32) (own_is : own ≡ 2 + (n + 3) / 4) where
   -- A grant that ends early.
   pub grant_short : {g : Option OutcomeTable} {order : Order} (s : Lent) (r : ReducedPolicy) (buf : List ℕ) (room : ℕ) (out : List ℕ) → Fit r.to → length W - at < own → ReducesBy g order (Grant shape n o) P W at depth s r s buf room out
@@ -231,8 +239,8 @@ module _ (P : Table) (W : List ℕ) (at depth : ℕ) (shape : DenyShape) (n o ow
     value_is b e = sym (known_again P c b e) ∙ same_value (eval_condition P c)
 
     decides_at : (x : model.ReducedCondition) (v : Bool) → reduce_condition P c ≡ x → condition.Left x a.to part → a.to ≡ Known v →
-        Result (reduce_grant g (eval_condition P c) x) P W buf room out (Resolved (granted_at v o at (length W)))
-    decides_at (known b) v e l p = subst (λ i. Result (reduce_grant g (eval_condition P c) (known b)) P W buf room out (Resolved (granted_at v i at (length W)))) is (record {
+        Result (reduce_grant g (eval_condition P c) x) P W buf room out (Resolved (granted_at v o at))
+    decides_at (known b) v e l p = subst (λ i. Result (reduce_grant g (eval_condition P c) (known b)) P W buf room out (Resolved (granted_at v i at))) is (record {
       decision_is = granted_is P W at buf g c rest node v (eval_condition P c) refl (same_known (sym p ∙ l) ∙ value_is b e);
       sound = granted_sound P W at buf g c rest node v;
     })
@@ -262,9 +270,9 @@ module _ (P : Table) (W : List ℕ) (at depth : ℕ) (shape : DenyShape) (n o ow
           })) (grant_known a s t part c h);
     }
 
-    pub grant_decides : {g : Option OutcomeTable} {order : Order} (v : Bool) → a.to ≡ Known v → ReducesBy g order (Grant shape n o) P W at depth s (resolved_to (granted_at v o at (length W)) a.next) t buf room out
+    pub grant_decides : {g : Option OutcomeTable} {order : Order} (v : Bool) → a.to ≡ Known v → ReducesBy g order (Grant shape n o) P W at depth s (resolved_to (granted_at v o at) a.next) t buf room out
     grant_decides v p =
-        granted (resolved_to (granted_at v o at (length W)) a.next) (granted_few v o at (length W)) refl (λ d k rest node is long were l.
+        granted (resolved_to (granted_at v o at) a.next) (granted_few v o at) refl (λ d k rest node is long were l.
         decides_at buf room out part a d k rest node is (reduce_condition P d) v refl l p)
 
     pub grant_pending : {g : Option OutcomeTable} {order : Order} (mid : List ℕ) (from size n' : ℕ) → a.to ≡ Pending n' → Laid own (take own (drop at W)) mid own → from ≡ min own (length mid) → length part ≡ length mid - from → size ≡ capped (own + n') →
@@ -287,20 +295,20 @@ permit_constant P W at zero lt e = no_levels true (drop at W)
 permit_constant P W at (suc depth) lt e = node_holds W at depth (Permit (get_or W at 0 % 65536)) lt (permit_word (get_or W at 0) true e) (fine (record { value_is = refl; read_is = λ l. refl }))
 
 pub reduce_permit : {g : Option OutcomeTable} {order : Order} (P : Table) (W : List ℕ) (at depth : ℕ) (s : Lent) (buf : List ℕ) (room : ℕ) (out : List ℕ) → at < length W → get_or W at 0 / 65536 ≡ 24576 →
-    ReducesP g order P W at depth s (resolved_to (permitted_at (get_or W at 0 % 65536) (length W) (length W) 0) (at + 1)) s buf room out
+    ReducesP g order P W at depth s (resolved_to (permitted_at (get_or W at 0 % 65536) None None 0) (at + 1)) s buf room out
 reduce_permit P W at depth s buf room out lt e =
     evaluated P W at depth s _ s buf room out (eval_permit_word _ P W at depth s buf lt e) (permit_constant P W at depth lt e)
 
 -- A grant on one settled fact, at every level: with too few levels for its condition it isn't read.
 pub reduce_plain : {g : Option OutcomeTable} {order : Order} (P : Table) (W : List ℕ) (at depth : ℕ) (s : Lent) (v : Bool) (t : Lent) (buf : List ℕ) (room : ℕ) (out : List ℕ) → SettledGrant P W at → EvaluatesHas P (get_or W (at + 2) 0 % 1024) s v t →
-    ReducesP g order P W at depth s (resolved_to (granted_at v (get_or W at 0 % 65536) at (length W)) (at + 3)) t buf room out
+    ReducesP g order P W at depth s (resolved_to (granted_at v (get_or W at 0 % 65536) at) (at + 3)) t buf room out
 reduce_plain P W at depth s v t buf room out k h =
     let f = get_or W (at + 2) 0 % 1024 in
     let rest = drop (at + 3) W in
     let node = node_reads W at 2 true _ rest (omega arith) (plain_reads W at k.plain true 0) in
-    let r = Resolved (granted_at v (get_or W at 0 % 65536) at (length W)) in
+    let r = Resolved (granted_at v (get_or W at 0 % 65536) at) in
     record {
-      fit = granted_few v (get_or W at 0 % 65536) at (length W);
+      fit = granted_few v (get_or W at 0 % 65536) at;
       says = in_fewer depth (suc (suc depth)) (drop at W) (omega arith)
           (rw (plain_reads W at k.plain true depth)
           (fine (record {

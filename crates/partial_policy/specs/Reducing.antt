@@ -1,5 +1,5 @@
 -- What the reduction of policies answers, and what it leaves in the lists and outputs that it is lent. Document 01, "Reducing".
-use Rattle.std.specs.Prelude.{◌≡◌, Bool, true, false, List, ◌∷◌, ◌++◌, ℕ, suc, ◌+◌, ◌%◌, ◌≤◌, ◌<◌, min, length, drop, get_or}
+use Rattle.std.specs.Prelude.{◌≡◌, Bool, true, false, not, List, ◌∷◌, ◌++◌, ℕ, suc, ◌+◌, ◌%◌, ◌≤◌, ◌<◌, min, length, drop, get_or}
 use Rattle.std.proofs.Math.Option.{Option}
 use Rattle.model.specs.Facts.{Table}
 use Rattle.model.specs.Levels.{OutcomeTable}
@@ -16,10 +16,13 @@ use Rattle.policy_model.specs.declared.PolicyHead.TheVariants as policy
 use Rattle.policy_model.specs.Heads.{policy_head}
 use Rattle.policy_model.specs.Plain.{plain_grant}
 use Rattle.consulted.specs.Listing.{Lent, Consults}
+use Rattle.decision.specs.declared.Decision.{Decision}
 use Rattle.evaluate.specs.declared.PolicyEval.{PolicyEval}
 use Rattle.evaluate.specs.Evaluating.{EvaluatesP}
 use Rattle.sizes.specs.Laid.{too_many}
 use Rattle.residual.specs.Weight.{weight}
+use Rattle.partial_list.specs.declared.ListKind.{ListKind}
+use Rattle.partial_list.specs.declared.ListKind.TheVariants.{All, Any}
 use Rattle.partial_list.specs.declared.Reduced.{Reduced}
 use Rattle.partial_list.specs.declared.ReducedPolicy.{ReducedPolicy}
 use Rattle.partial_list.specs.Within.{LaidWithin}
@@ -63,9 +66,14 @@ pub record SettledGrant (P : Table) (W : List ℕ) (at : ℕ) : Type 0 where
   pub known : is_settled (P (get_or W (at + 2) 0 % 1024)) ≡ true
 
 -- ---- lists
-abbrev pub list_head : Bool → ℕ → PolicyHead
-list_head true n = policy.All n
-list_head false n = policy.Any n
+-- A resolved deny stops an All.
+abbrev pub stopped_at : ListKind → Decision → Bool
+stopped_at All d = not d.permit
+stopped_at Any d = false
+
+abbrev pub list_head : ListKind → ℕ → PolicyHead
+list_head All n = policy.All n
+list_head Any n = policy.Any n
 
 -- ---- OrElse
 -- What stands for a part in a residual was laid: what is left of it, which stood there, or its node.

@@ -5,7 +5,7 @@
 // `out` are parameters of their own: a list rule lends its arms other tails of `buf`, `front` and `out`, so a struct of them would be made anew for each arm.
 #![tactic(auto)]
 
-ghost use Rattle.std.specs.Prelude.{◌≡◌, true, not, ◌&&◌, List, ℕ, ◌+◌, ◌^◌, ◌≤◌, ◌<◌, length, take, drop};
+ghost use Rattle.std.specs.Prelude.{◌≡◌, true, List, ℕ, ◌+◌, ◌^◌, ◌≤◌, ◌<◌, length};
 ghost use Rattle.model.specs.Facts.{table_of};
 ghost use Rattle.outcome.specs.Carried.{carried};
 ghost use Rattle.model.specs.Partial.{permits_first, sheet_order};
@@ -18,12 +18,12 @@ ghost use Rattle.sizes.specs.Laid.{too_many, Laid};
 ghost use Rattle.decision.specs.Room.{RoomToUnite};
 ghost use Rattle.clause.specs.Room.{RoomToName};
 ghost use Rattle.partial_list.specs.Answers.{resolved_to, Fit};
-ghost use Rattle.partial_policy.specs.Reducing.{order_of, list_head, ReducesP, ReducesBy, ReducesConstant, SettledGrant, ResidualLaid, OrElsePut};
+ghost use Rattle.partial_policy.specs.Reducing.{order_of, list_head, stopped_at, ReducesP, ReducesBy, ReducesConstant, SettledGrant, ResidualLaid, OrElsePut};
 
 use consulted::Consulted;
 use decision::{Decision, OBLIGATION_ROOM};
 use evaluate::Evaluation;
-use partial_list::{Reduced, ReducedPolicy};
+use partial_list::{ListKind, Reduced, ReducedPolicy};
 use policy_model::PolicyHead;
 
 // How the arms of a list stand in what is left of it.
@@ -49,21 +49,24 @@ fn resolved(decision: Decision, next: usize) -> ReducedPolicy
     }
 }
 
-// Lays `n` words from `at` on, as they stand.
-fn lay_words(words: &[u32], at: usize, n: usize, out: &mut [u32])
-    requires { (at + n ≤ length words.now) × (n ≤ record_words) }
-    ensures { Laid n (take n (drop at words.now)) out.new n }
+// Lays these words as they stand.
+fn lay_words(src: &[u32], out: &mut [u32])
+    requires { length src.now ≤ record_words }
+    ensures { Laid (length src.now) src.now out.new (length src.now) }
 {
-    if n <= out.len() {
-        out[..n].copy_from_slice(&words[at..at + n]);
+    if src.len() <= out.len() {
+        out[..src.len()].copy_from_slice(src);
     }
 }
 
-// A resolved deny stops All, in either list rule. `every` says All, as in `partial_list`.
-fn stops(every: bool, decision: Decision) -> bool
-    ensures { result ≡ (every && not decision.permit) }
+// A resolved deny stops an All, in either list rule.
+fn stops(kind: ListKind, decision: Decision) -> bool
+    ensures { result ≡ stopped_at kind decision }
 {
-    every && !decision.permit
+    match kind {
+        ListKind::All => !decision.permit,
+        ListKind::Any => false,
+    }
 }
 
 impl Reduction<'_> {
@@ -80,20 +83,14 @@ impl Reduction<'_> {
     {
         let walk = &self.evaluation.walk;
         let words = walk.words;
-        let none = words.len();
         let own = grant::before_condition_in(words, at) as usize;
-        if none - at < own {
-            return resolved(decision::denied(none), at);
+        if words.len() - at < own {
+            return resolved(decision::denied(), at);
         }
-        lay_words(words, at, own, out);
+        lay_words(&words[at..at + own], out);
         let from = sizes::tail_from(own, out.len());
-        let condition = partial_condition::reduce_condition(
-            walk,
-            at + own,
-            depth,
-            consulted,
-            &mut out[from..],
-        );
+        let rest = &mut out[from..];
+        let condition = partial_condition::reduce_condition(walk, at + own, depth, consulted, rest);
         let next = condition.next;
         match condition.to {
             partial_condition::Reduced::Pending(size) => ReducedPolicy {
@@ -102,7 +99,7 @@ impl Reduction<'_> {
             },
             partial_condition::Reduced::Known(satisfied) => {
                 let outcome = grant::outcome_in(words, at) as u16;
-                resolved(decision::granted(satisfied, outcome, at, none), next)
+                resolved(decision::granted(satisfied, outcome, at), next)
             }
         }
     }
@@ -131,7 +128,7 @@ impl Reduction<'_> {
         let outcome = (words[at] % policy_model::HALF) as u16;
         let fact = words[at + 2] % policy_model::FACTS;
         let satisfied = self.evaluation.walk.eval_has(fact, consulted);
-        let decision = decision::granted(satisfied, outcome, at, words.len());
+        let decision = decision::granted(satisfied, outcome, at);
         resolved(decision, at + 3)
     }
 
@@ -207,18 +204,19 @@ impl Reduction<'_> {
         ensures { ReducesP (carried self.now.evaluation.outcomes) (order_of self.now.order) (table_of self.now.evaluation.walk.facts.now) self.now.evaluation.walk.words.now at depth (held consulted.old) result (held consulted.new) buf.new (length front.old) out.new }
     {
         let words = self.evaluation.walk.words;
-        let none = words.len();
-        if none <= at || depth == 0 {
-            return resolved(decision::denied(none), at);
+        if words.len() <= at || depth == 0 {
+            return resolved(decision::denied(), at);
         }
         let below = depth - 1;
         match policy_model::policy_head(words[at], true) {
             PolicyHead::Grant { .. } => self.reduce_grant(at, below, consulted, out),
             PolicyHead::All(arms) => {
-                self.reduce_list(at, below, arms, true, consulted, buf, named, front, out)
+                let kind = ListKind::All;
+                self.reduce_list(at, below, arms, kind, consulted, buf, named, front, out)
             }
             PolicyHead::Any(arms) => {
-                self.reduce_list(at, below, arms, false, consulted, buf, named, front, out)
+                let kind = ListKind::Any;
+                self.reduce_list(at, below, arms, kind, consulted, buf, named, front, out)
             }
             PolicyHead::OrElse => {
                 self.reduce_or_else(at, below, consulted, buf, named, front, out)
@@ -227,7 +225,7 @@ impl Reduction<'_> {
         }
     }
 
-    // The same of an arm of a list with its permits first. A Permit and a grant on one fact that is settled, the commonest arms of a wide list, are answered here.
+    // The same of an arm of a list with its permits first. A Permit and a grant on one settled fact, the commonest arms of a wide list, are answered here.
     #[cycle(reduction)]
     fn reduce_arm(
         &self,
@@ -247,7 +245,7 @@ impl Reduction<'_> {
             let word = words[at];
             if word / policy_model::HALF == policy_model::PERMIT {
                 let outcome = (word % policy_model::HALF) as u16;
-                return resolved(decision::permitted(outcome, words.len()), at + 1);
+                return resolved(decision::permitted(outcome), at + 1);
             }
             if self.settled_grant(at) {
                 return self.reduce_on_fact(at, consulted);
@@ -256,15 +254,15 @@ impl Reduction<'_> {
         self.reduce_policy(at, depth, consulted, buf, named, front, out)
     }
 
-    // The All or Any at `at`, whose `arms` have at most `depth` levels, by the list rule of the order; `every` says All, as the definitions of the list rules
-    // are told it. It is called at two places, so that it isn't compiled into a policy's frame, of which there is one for each level.
+    // The All or Any at `at`, whose `arms` have at most `depth` levels, by the list rule of the order. It is called at two places, so that it isn't
+    // compiled into a policy's frame, of which there is one for each level.
     #[cycle(reduction)]
     fn reduce_list(
         &self,
         at: usize,
         depth: usize,
         arms: u32,
-        every: bool,
+        kind: ListKind,
         consulted: &mut Consulted<'_>,
         buf: &mut [u8],
         named: &mut [u16],
@@ -272,14 +270,14 @@ impl Reduction<'_> {
         out: &mut [u32],
     ) -> ReducedPolicy
         requires { (at < length self.now.evaluation.walk.words.now) × (depth < most_levels) × (arms < 2 ^ count_bits) × RoomToUnite (depth + 2) buf.old × RoomToName self.now.evaluation.walk.words.now named.old }
-        ensures { ReducesBy (carried self.now.evaluation.outcomes) (order_of self.now.order) (list_head every arms) (table_of self.now.evaluation.walk.facts.now) self.now.evaluation.walk.words.now at depth (held consulted.old) result (held consulted.new) buf.new (length front.old) out.new }
+        ensures { ReducesBy (carried self.now.evaluation.outcomes) (order_of self.now.order) (list_head kind arms) (table_of self.now.evaluation.walk.facts.now) self.now.evaluation.walk.words.now at depth (held consulted.old) result (held consulted.new) buf.new (length front.old) out.new }
     {
         match self.order {
             Order::PermitsFirst => {
-                self.reduce_permits_first(at, depth, arms, every, consulted, buf, named, front, out)
+                self.reduce_permits_first(at, depth, arms, kind, consulted, buf, named, front, out)
             }
             Order::SheetOrder => {
-                self.reduce_in_order(at, depth, arms, every, consulted, buf, named, front, out)
+                self.reduce_in_order(at, depth, arms, kind, consulted, buf, named, front, out)
             }
         }
     }
@@ -292,7 +290,7 @@ impl Reduction<'_> {
         at: usize,
         depth: usize,
         arms: u32,
-        every: bool,
+        kind: ListKind,
         consulted: &mut Consulted<'_>,
         buf: &mut [u8],
         named: &mut [u16],
@@ -300,7 +298,7 @@ impl Reduction<'_> {
         out: &mut [u32],
     ) -> ReducedPolicy
         requires { (at < length self.now.evaluation.walk.words.now) × (depth < most_levels) × (arms < 2 ^ count_bits) × RoomToUnite (depth + 2) buf.old × RoomToName self.now.evaluation.walk.words.now named.old × (order_of self.now.order ≡ permits_first) }
-        ensures { ReducesBy (carried self.now.evaluation.outcomes) (order_of self.now.order) (list_head every arms) (table_of self.now.evaluation.walk.facts.now) self.now.evaluation.walk.words.now at depth (held consulted.old) result (held consulted.new) buf.new (length front.old) out.new }
+        ensures { ReducesBy (carried self.now.evaluation.outcomes) (order_of self.now.order) (list_head kind arms) (table_of self.now.evaluation.walk.facts.now) self.now.evaluation.walk.words.now at depth (held consulted.old) result (held consulted.new) buf.new (length front.old) out.new }
     {
         let walk = &self.evaluation.walk;
         let outcomes = self.evaluation.outcomes;
@@ -309,31 +307,26 @@ impl Reduction<'_> {
         for left in (0..arms).rev() {
             let behind = sizes::tail_from(sofar.kept, front.len());
             let from = sizes::tail_from(sofar.size, out.len());
-            let arm = self.reduce_arm(
-                next,
-                depth,
-                consulted,
-                &mut buf[OBLIGATION_ROOM..],
-                named,
-                &mut front[behind..],
-                &mut out[from..],
-            );
+            let arm_buf = &mut buf[OBLIGATION_ROOM..];
+            let arm_front = &mut front[behind..];
+            let arm_out = &mut out[from..];
+            let arm = self.reduce_arm(next, depth, consulted, arm_buf, named, arm_front, arm_out);
             next = arm.next;
             match arm.to {
                 Reduced::Pending(size) => sofar = partial_list::with_pending(sofar, size),
                 Reduced::Resolved(decision) => {
-                    if stops(every, decision) {
+                    if stops(kind, decision) {
                         let end = policy_model::skip_policies(walk.words, next, left);
                         return resolved(decision, end);
                     }
                     sofar = partial_list::with_decision(
-                        walk, outcomes, every, sofar, decision, buf, named, front,
+                        walk, outcomes, kind, sofar, decision, buf, named, front,
                     );
                 }
             }
         }
         ReducedPolicy {
-            to: partial_list::end_list(walk, every, sofar, buf, named, front, out),
+            to: partial_list::end_list(walk, kind, sofar, buf, named, front, out),
             next,
         }
     }
@@ -345,7 +338,7 @@ impl Reduction<'_> {
         at: usize,
         depth: usize,
         arms: u32,
-        every: bool,
+        kind: ListKind,
         consulted: &mut Consulted<'_>,
         buf: &mut [u8],
         named: &mut [u16],
@@ -353,7 +346,7 @@ impl Reduction<'_> {
         out: &mut [u32],
     ) -> ReducedPolicy
         requires { (at < length self.now.evaluation.walk.words.now) × (depth < most_levels) × (arms < 2 ^ count_bits) × RoomToUnite (depth + 2) buf.old × RoomToName self.now.evaluation.walk.words.now named.old × (order_of self.now.order ≡ sheet_order) }
-        ensures { ReducesBy (carried self.now.evaluation.outcomes) (order_of self.now.order) (list_head every arms) (table_of self.now.evaluation.walk.facts.now) self.now.evaluation.walk.words.now at depth (held consulted.old) result (held consulted.new) buf.new (length front.old) out.new }
+        ensures { ReducesBy (carried self.now.evaluation.outcomes) (order_of self.now.order) (list_head kind arms) (table_of self.now.evaluation.walk.facts.now) self.now.evaluation.walk.words.now at depth (held consulted.old) result (held consulted.new) buf.new (length front.old) out.new }
     {
         let walk = &self.evaluation.walk;
         let outcomes = self.evaluation.outcomes;
@@ -361,46 +354,33 @@ impl Reduction<'_> {
         let mut next = at + 1;
         for left in (0..arms).rev() {
             let from = sizes::tail_from(sofar.size, out.len());
-            let arm = self.reduce_policy(
-                next,
-                depth,
-                consulted,
-                &mut buf[OBLIGATION_ROOM..],
-                named,
-                front,
-                &mut out[from..],
-            );
+            let arm_buf = &mut buf[OBLIGATION_ROOM..];
+            let arm_out = &mut out[from..];
+            let arm = self.reduce_policy(next, depth, consulted, arm_buf, named, front, arm_out);
             next = arm.next;
             match arm.to {
                 Reduced::Pending(size) => sofar = partial_list::with_pending(sofar, size),
                 Reduced::Resolved(decision) => {
-                    if stops(every, decision) {
-                        let end = policy_model::skip_policies(walk.words, next, left);
-                        if !sofar.pending {
-                            return resolved(decision, end);
-                        }
-                        let whole = partial_list::with_decision_in_order(
-                            walk, outcomes, every, sofar, decision, buf, named, out,
-                        );
+                    if stops(kind, decision) {
                         return ReducedPolicy {
-                            to: partial_list::end_in_order(walk.words.len(), every, whole, out),
-                            next: end,
+                            to: partial_list::end_at_deny(walk, sofar, decision, buf, named, out),
+                            next: policy_model::skip_policies(walk.words, next, left),
                         };
                     }
                     sofar = partial_list::with_decision_in_order(
-                        walk, outcomes, every, sofar, decision, buf, named, out,
+                        walk, outcomes, kind, sofar, decision, buf, named, out,
                     );
                 }
             }
         }
         ReducedPolicy {
-            to: partial_list::end_in_order(walk.words.len(), every, sofar, out),
+            to: partial_list::end_in_order(kind, sofar, out),
             next,
         }
     }
 
     // The OrElse at `at`, whose two policies have at most `depth` levels: a resolved permit of the primary is the answer, after a resolved deny the fallback
-    // is, and with a pending primary both are kept.
+    // is, and with a pending primary both are kept, which evaluation's has no case for.
     #[cycle(reduction)]
     fn reduce_or_else(
         &self,
@@ -416,29 +396,15 @@ impl Reduction<'_> {
         ensures { ReducesBy (carried self.now.evaluation.outcomes) (order_of self.now.order) OrElse (table_of self.now.evaluation.walk.facts.now) self.now.evaluation.walk.words.now at depth (held consulted.old) result (held consulted.new) buf.new (length front.old) out.new }
     {
         let from = sizes::tail_from(1, out.len());
-        let primary = self.reduce_policy(
-            at + 1,
-            depth,
-            consulted,
-            buf,
-            named,
-            front,
-            &mut out[from..],
-        );
+        let rest = &mut out[from..];
+        let primary = self.reduce_policy(at + 1, depth, consulted, buf, named, front, rest);
         let next = primary.next;
         match primary.to {
             Reduced::Pending(size) => {
                 let used = sizes::plus(1, size);
                 let behind = sizes::tail_from(used, out.len());
-                let fallback = self.reduce_policy(
-                    next,
-                    depth,
-                    consulted,
-                    buf,
-                    named,
-                    front,
-                    &mut out[behind..],
-                );
+                let rest = &mut out[behind..];
+                let fallback = self.reduce_policy(next, depth, consulted, buf, named, front, rest);
                 let whole = self.end_or_else(used, fallback.to, buf, named, out);
                 ReducedPolicy {
                     to: Reduced::Pending(whole),

@@ -18,7 +18,7 @@ use Rattle.model.specs.Reading.{Parsed, refuse, got, next, unless, another, read
 use Rattle.model.specs.Products.{Outcome, grant_more, more12, more13}
 use Rattle.laws.specs.Size.{quads, pairs, words_c, words_d, words}
 use Rattle.policy_model.specs.Answers.{checked}
-use Rattle.policy_model.specs.Lists.{mark_fits, marks_fit}
+use Rattle.policy_model.specs.Lists.{mark_fits, marks_fit, checked_marks}
 use Rattle.policy_model.specs.declared.DenyShape.{DenyShape}
 use Rattle.policy_model.specs.Heads.{bit_of, denied_by, grant_node, permit_trace_node, deny_trace_node}
 use Rattle.policy_model.proofs.Checking.{word_at, no_word, go_on, give_up, end_with}
@@ -98,6 +98,44 @@ module _ {C : Type 0} (size : C → ℕ) (at : ℕ) (r : Result ℕ ℕ) where
   word_missing : (words : List ℕ) (from : ℕ) (k : ℕ → List ℕ → Parsed C) → length words ≤ from → r ≡ Err 6 → r ≡ checked size at (another (drop from words) k)
   unfolding checked
   word_missing words from k lt h = h ∙ ap (λ us. checked size at (another us k)) (sym (no_word words from lt))
+
+-- What the check of a label and a reason found: the word is there and holds them, or they are refused as they are read.
+module _ (ws : List ℕ) (at n : ℕ) where
+  abbrev Marked : Type 0
+  Marked = (at < length ws) × (marks_fit (get_or ws at 0) ≡ true) × (n ≡ at + 1)
+
+  fit_by : at < length ws → (t : Bool) → marks_fit (get_or ws at 0) ≡ t → ◌≡◌ {A = Result ℕ ℕ} (Ok n) (cond t (Ok (at + 1)) (Err 8)) → Marked
+  fit_by lt true f e = (lt, f, cc)
+  fit_by lt false f e = absurd cc
+
+  marked_by : (t : Bool) → ltb at (length ws) ≡ t → Ok n ≡ checked_marks at (drop at ws) → Marked
+  unfolding checked_marks
+  marked_by true h e =
+      let lt = ltb-true at (length ws) h in
+      fit_by lt (marks_fit (get_or ws at 0)) refl (e ∙ ap (checked_marks at) (word_at ws at lt))
+  marked_by false h e =
+      let wrong : ◌≡◌ {A = Result ℕ ℕ} (Ok n) (Err 6) = e ∙ ap (checked_marks at) (no_word ws at (ltb-false at (length ws) h)) in
+      absurd cc
+
+  pub marked : Ok n ≡ checked_marks at (drop at ws) → Marked
+  marked e = marked_by (ltb at (length ws)) refl e
+
+  module _ (asked : Result ℕ ℕ) (short : length ws ≤ at → Err 6 ≡ asked) (unfit : at < length ws → marks_fit (get_or ws at 0) ≡ false → Err 8 ≡ asked) where
+    unfit_by : at < length ws → (t : Bool) → marks_fit (get_or ws at 0) ≡ t → ◌≡◌ {A = Result ℕ ℕ} (Err n) (cond t (Ok (at + 1)) (Err 8)) → Err n ≡ asked
+    unfit_by lt true f e = absurd cc
+    unfit_by lt false f e = e ∙ unfit lt f
+
+    unmarked_by : (t : Bool) → ltb at (length ws) ≡ t → Err n ≡ checked_marks at (drop at ws) → Err n ≡ asked
+    unfolding checked_marks
+    unmarked_by true h e =
+        let lt = ltb-true at (length ws) h in
+        unfit_by lt (marks_fit (get_or ws at 0)) refl (e ∙ ap (checked_marks at) (word_at ws at lt))
+    unmarked_by false h e =
+        let ends = ltb-false at (length ws) h in
+        e ∙ ap (checked_marks at) (no_word ws at ends) ∙ short ends
+
+    pub unmarked : Err n ≡ checked_marks at (drop at ws) → Err n ≡ asked
+    unmarked e = unmarked_by (ltb at (length ws)) refl e
 
 -- A word after the first one has 32 bits.
 second_fits : (ws : List ℕ) (at : ℕ) → ((i : ℕ) → Fits w32 (get_or ws i 0)) → get_or ws (at + 1) 0 < 4294967296

@@ -125,6 +125,16 @@ module _ (words : List ℕ) (at left : ℕ) where
   pub walk_done : left ≡ 0 → Ok at ≡ walk at (drop at words) (Ok left)
   walk_done e = all_seen at (drop at words) ∙ ap (λ k. walk at (drop at words) (Ok k)) (sym e)
 
+-- A word that was passed has four of the count.
+left_over : (n m : ℕ) (t : Fields ℕ) → ToCome obligation m t → ◌≡◌ {A = Result ℕ ℕ} (Ok n) (state_of t) → n ≡ m
+left_over n m (bad e) h f = absurd cc
+left_over n m (ok xs k) h f = let same : n ≡ k = cc in same ∙ h.it
+
+pub four_passed : (left n w : ℕ) → ◌≡◌ {A = Result ℕ ℕ} (Ok n) (seen_all (Ok left) (split obligation_bits 4 w)) → n ≡ left - 4
+four_passed k n w e =
+    let bs = split obligation_bits 4 w in
+    left_over n (k - 4) (take_fields obligation (ok [] k) bs) (left obligation bs [] k) (e ∙ seen_all_lem bs (ok [] k))
+
 -- The walk from the first word on is the check of the list.
 pub walk_list : (words : List ℕ) (at k : ℕ) → walk at (drop at words) (Ok k) ≡ checked quads at (read_list obligation obligation_bits k (drop at words))
 walk_list words at k = walk_is (drop at words) at (ok [] k) ∙ sym (list_ends (λ o. o) obligation same_obligation obligation_bits 3 refl at k (drop at words))
@@ -147,4 +157,4 @@ four_seen w s s₁ s₂ s₃ r e₁ e₂ e₃ e₄ =
     all ∙ ap (seen_all s) (sym (four_fields w))
 
 -- What the loop over the words asks.
-pub ruleset walks = (passed_on, walk_word, walk_refused, walk_short, walk_done, walk_list)
+pub ruleset walks = (passed_on, walk_word, walk_refused, walk_short, walk_done, walk_list, four_passed)

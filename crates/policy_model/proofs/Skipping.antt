@@ -123,6 +123,15 @@ grant_says res w shape n o e = (subst (OpensP w) (sym e) (opens_p res w)).1
 pub permit_says : (res : Bool) (w n o : ℕ) → PermitWithTrace n o ≡ policy_head w res → Says w n o
 permit_says res w n o e = (subst (OpensP w) (sym e) (opens_p res w)).1
 
+-- The own words of a stored decision.
+pub permit_owns : (res : Bool) (w n o : ℕ) (ws : List ℕ) → PermitWithTrace n o ≡ policy_head w res →
+    own_of w ws ≡ suc (words_for 4 n + words_for 2 (get_or ws 0 0 % 4096))
+permit_owns res w n o ws e = (subst (OpensP w) (sym e) (opens_p res w)).0.own_are ws
+
+pub deny_owns : (res : Bool) (w : ℕ) (shape : DenyShape) (denied : prelude.Option ℕ) (ws : List ℕ) → DenyWithTrace shape denied ≡ policy_head w res →
+    own_of w ws ≡ suc (suc (words_for 2 (get_or ws 1 0 % 4096)))
+deny_owns res w shape denied ws e = (subst (OpensP w) (sym e) (opens_p res w)).own_are ws
+
 -- ---- the span
 span_word : (w : ℕ) (ws : List ℕ) (nodes a : ℕ) (own : List ℕ → ℕ) → Opens w a own → span (w ∷ ws) 0 (suc nodes) ≡ suc (span ws (own ws) (a + nodes))
 unfolding span

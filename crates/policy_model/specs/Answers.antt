@@ -1,5 +1,5 @@
 -- What the checks answer, from what is read of the words. Document 01, "How a request is turned back".
-use Rattle.std.specs.Prelude.{◌≡◌, cond, Result, Ok, Err, List, [], ℕ, ◌+◌, ◌-◌, ◌<◌, ltb, length}
+use Rattle.std.specs.Prelude.{◌≡◌, cond, Result, Ok, Err, List, [], ℕ, ◌+◌, ◌-◌, ◌≤◌, ◌<◌, ltb, length, get_or}
 use Rattle.std.proofs.Math.Option.{Option, none, some}
 use Rattle.model.specs.Partial.{ReducedPolicy, as_residual}
 use Rattle.model.specs.Record.{Record}
@@ -14,6 +14,11 @@ use Rattle.policy_model.specs.declared.Step.TheVariants.{Leaf, Arms}
 use Rattle.policy_model.specs.declared.Status.{Status}
 use Rattle.policy_model.specs.declared.Status.TheVariants.{Resolved, Pending}
 use Rattle.policy_model.specs.declared.RecordHead.{RecordHead}
+
+-- The word at a position, or 6 where the words have ended.
+abbrev pub WordOrEnd : List ℕ → ℕ → Result ℕ Refusal → Type 0
+WordOrEnd ws at (Ok w) = (at < length ws) × (w ≡ get_or ws at 0)
+WordOrEnd ws at (Err e) = (length ws ≤ at) × (number_of e ≡ 6)
 
 -- The position after what was read from `at`, or the refusal. `size` is how many words it takes.
 unfoldable pub checked : {A : Type 0} → (A → ℕ) → ℕ → Parsed A → Result ℕ ℕ

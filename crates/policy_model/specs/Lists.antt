@@ -29,6 +29,11 @@ mark_fits h = eqb h 0 || leb (2 ^ mark_bits) h
 unfoldable pub marks_fit : ℕ → Bool
 marks_fit w = mark_fits (w / 2 ^ (1 + mark_bits)) && mark_fits (w % 2 ^ (1 + mark_bits))
 
+-- A label and a reason, one word.
+unfoldable pub checked_marks : ℕ → List ℕ → Result ℕ ℕ
+checked_marks at [] = Err 6
+checked_marks at (w ∷ ws) = cond (marks_fit w) (Ok (at + 1)) (Err 8)
+
 -- A list of entries, two a word, word by word.
 unfoldable pub checked_pairs : ℕ → ℕ → List ℕ → ℕ → Result ℕ ℕ
 checked_pairs presences at [] zero = Ok at

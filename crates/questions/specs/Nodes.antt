@@ -1,14 +1,13 @@
--- What a policy's first word says to the questions, by its kind. Document 01, "What a call receives" and the end of "How a request is turned back".
-use Rattle.std.specs.Prelude.{◌≡◌, Bool, true, false, cond, ◌||◌, List, ℕ, ◌+◌, ◌%◌, ◌^◌, eqb, drop}
+-- What a policy's first word says to the questions, by its kind, and the words of a tree node by node. Document 01, "What a call receives" and the end of "How a
+-- request is turned back".
+use Rattle.std.specs.Prelude.{Bool, false, cond, ◌||◌, List, [], ◌∷◌, ℕ, zero, suc, ◌+◌, eqb}
 use Rattle.model.specs.Fields.{bits}
 use Rattle.model.specs.Outcome.{outcome_bits}
 use Rattle.model.specs.Decision.{permits, denies}
-use Rattle.model.specs.Policy.{Policy, permit, deny, grant, all, any, or_else, stored, pnil, pcons}
-use Rattle.model.specs.Writing.{count_bits}
-use Rattle.model.specs.Reading.{many, kind_of}
-use Rattle.model.specs.Products.{Outcome, read_policy}
-use Rattle.laws.specs.Size.{wordss}
-use Rattle.policy_model.specs.Span.{Skipped}
+use Rattle.model.specs.Policy.{Policy, permit, deny, grant, all, any, or_else, stored}
+use Rattle.model.specs.Reading.{kind_of}
+use Rattle.model.specs.Products.{Outcome}
+use Rattle.policy_model.specs.Span.{own_of}
 
 -- The kind of the top node.
 abbrev pub kind_at : Policy Outcome → ℕ
@@ -29,11 +28,8 @@ one_of one other t = eqb (kind_at t) one || eqb (kind_at t) other
 unfoldable pub obligation_at : ℕ → Bool
 obligation_at w = cond (eqb (bits (4 + outcome_bits) 7 w) 0) false (eqb (kind_of w) 8 || eqb (kind_of w) 12)
 
--- The policies that are arms: as many as the last 12 bits say under 9 All and 10 Any, two under 11 OrElse.
-unfoldable pub arms_at : ℕ → ℕ
-arms_at w = cond (eqb (kind_of w) 9 || eqb (kind_of w) 10) (w % 2 ^ count_bits) (cond (eqb (kind_of w) 11) 2 0)
-
--- The policy at `at` is passed: whole, if it has no arms, or else its first word.
-pub record Passed (words : List ℕ) (at arms next : ℕ) : Type 0 where
-  pub over : arms ≡ 0 → (depth : ℕ) → Skipped wordss at (many pnil pcons (read_policy true depth) 1 (drop at words)) next
-  pub into : (arms ≡ 0 → ⊥) → next ≡ at + 1
+-- Whether a node of these words has obligations, after so many words that are passed: node by node, those of conditions too.
+unfoldable pub words_oblige : List ℕ → ℕ → Bool
+words_oblige [] passed = false
+words_oblige (w ∷ ws) (suc passed) = words_oblige ws passed
+words_oblige (w ∷ ws) zero = obligation_at w || words_oblige ws (own_of w ws)

@@ -1,14 +1,13 @@
 // The questions about a record, after gatekeep's ResidualPolicy: whether its tree is a permit or a deny constant, and whether it carries an obligation.
 #![tactic(auto)]
 
-ghost use Rattle.std.specs.Prelude.{◌≡◌, ◌||◌, ◌<◌, ◌≤◌, eqb, length};
+ghost use Rattle.std.specs.Prelude.{◌≡◌, ◌||◌, eqb};
 ghost use Rattle.model.specs.Policy.{Policy};
-ghost use Rattle.model.specs.Reading.{record_words};
 ghost use Rattle.model.specs.Record.{tree};
 ghost use Rattle.model.specs.Required.{obliges, asked_of};
 ghost use Rattle.refusal.specs.Numbers.{by_number};
 ghost use Rattle.model.specs.Products.{Outcome, read_record, is_permit_constant, is_deny_constant, carries_obligation};
-ghost use Rattle.questions.specs.Nodes.{kind_at, one_of, obligation_at, arms_at, Passed};
+ghost use Rattle.questions.specs.Nodes.{kind_at, one_of, obligation_at};
 ghost use Rattle.questions.specs.Answers.{told_of, Stands, SomeTree, Found};
 
 use refusal::Refusal;
@@ -82,51 +81,19 @@ fn obligation_at(word: u32) -> bool
         )
 }
 
-// How many policies are the arms of a policy with this first word.
-#[tactic(auto, unfolding(crate::specs::Nodes::arms_at))]
-fn arms_at(word: u32) -> u32
-    ensures { result ≡ arms_at word }
-{
-    match word / policy_model::KIND {
-        policy_model::KIND_POLICY_ALL | policy_model::KIND_POLICY_ANY => {
-            word % policy_model::COUNTS
-        }
-        policy_model::KIND_OR_ELSE => 2,
-        _ => 0,
-    }
-}
-
-// The index of the policy after the one at `at`, or of its first arm.
-fn next_policy(words: &[u32], at: usize, arms: u32) -> usize
-    requires { (length words.now ≤ record_words) × (at < length words.now) }
-    ensures { Passed words.now at arms result }
-{
-    if arms == 0 {
-        policy_model::skip_policies(words, at, 1)
-    } else {
-        at + 1
-    }
-}
-
-// Looks for an obligation in the tree at `at`, from node to node by a count of the policies that are to come.
+// Looks for an obligation in the tree at `at`, which ends with the words. These were checked before, so its nodes need no level: each is seen as it comes,
+// those of conditions too, which have none.
+#[tactic(auto, using(crate::proofs::Nodes::walks))]
 fn carries(words: &[u32], at: usize) -> bool
-    requires { SomeTree words.now at }
     ensures { (t : Policy Outcome) → Stands words.now at t → result ≡ obliges t }
 {
     let mut next = at;
-    let mut left: u64 = 1;
-    // no `for`, since the nodes have many lengths, and each opens others
-    while left != 0 {
-        if words.len() <= next {
-            return false;
-        }
-        let word = words[next];
-        if obligation_at(word) {
+    // no `for`, since the nodes have many lengths
+    while next < words.len() {
+        if obligation_at(words[next]) {
             return true;
         }
-        let arms = arms_at(word);
-        next = next_policy(words, next, arms);
-        left = left - 1 + u64::from(arms);
+        next = next + 1 + policy_model::own_of(words, next);
     }
     false
 }

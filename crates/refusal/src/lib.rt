@@ -1,7 +1,7 @@
 // Why a call is turned back: the numbered causes of document 01's table, and of the requests after it.
 #![tactic(auto)]
 
-ghost use Rattle.std.specs.Prelude.{◌≡◌};
+ghost use Rattle.std.specs.Prelude.{◌≡◌, ◌*◌, ◌^◌};
 ghost use Rattle.refusal.specs.Numbers.{number_of};
 
 // Each cause stands for its number. 9 is free: obligations may repeat.
@@ -55,5 +55,12 @@ impl Refusal {
         ensures { result ≡ number_of self }
     {
         self as u32
+    }
+
+    // Its number above 32 zero bits: what a call that it turns back returns.
+    pub fn high_half(self) -> u64
+        ensures { result ≡ number_of self * 2 ^ 32 }
+    {
+        u64::from(self.number()) << 32
     }
 }

@@ -20,11 +20,12 @@ const ABOVE_ZERO: u32 = 8388608;
 
 const ABOVE_WITHDRAWN: u32 = 16777216;
 
-// What stands for none where a sheet's number is asked for: the number after the last that a sheet can have.
+// What stands for none where a sheet's number is asked for: the number after the last that a sheet can have. In code none is `None`; the C interface has a
+// number for it.
 pub const NO_SHEET: u32 = ABOVE_NUMBER;
 
 // An entry of the register.
-#[derive(Clone, Copy, PartialEq, Eq)]
+#[derive(Clone, Copy)]
 pub struct Entry {
     pub group: u32,
     pub withdrawn: bool,
@@ -34,7 +35,7 @@ pub struct Entry {
 }
 
 impl Entry {
-    // Of its two words: group (8), withdrawn (1), zero (7), sheet number (16); effective day (32).
+    // Of its two words: group (8), withdrawn (1), zero (7), sheet number (16); effective day (32). No `From`: two words may be no entry.
     fn of(lead: u32, day: u32) -> Entry
         ensures { entry_meant result ≡ entry_of lead day }
     {
@@ -51,14 +52,14 @@ impl Entry {
     fn same_sheet(self, other: Entry) -> bool
         ensures { result ≡ same_sheet (entry_meant self) (entry_meant other) }
     {
-        (self.group == other.group) & (self.number == other.number)
+        (self.group, self.number) == (other.group, other.number)
     }
 
     // Whether it is of the group, not withdrawn, and effective by that day.
     fn qualifies(self, group: u32, day: u32) -> bool
         ensures { result ≡ qualifies group day (entry_meant self) }
     {
-        (self.group == group) & !self.withdrawn & (self.day <= day)
+        self.group == group && !self.withdrawn && self.day <= day
     }
 
     // Whether it is effective after the other, or on the same day with a greater number.
@@ -81,8 +82,8 @@ fn repeated(entry: Entry, entries: &[[u32; 2]]) -> bool
     met
 }
 
-// Whether every entry's zero field is 0 and no group and number stands twice. No `all`, which is no plainer: each turn needs the entry's place too, for the
-// entries after it.
+// Whether every entry's zero field is 0 and no group and number stands twice. No `all`: its closure has a branch, so what it answers is known only by clauses
+// of its own or from a function made for it, and either is longer than this loop.
 fn entries_faultless(entries: &[[u32; 2]]) -> bool
     ensures { result ≡ faultless (map entry_in entries.now) }
 {

@@ -4,12 +4,12 @@ use mathlib.Core.Path.{◌≡◌, refl, sym, ◌∙◌, ap, subst}
 use mathlib.Core.Bool.{Bool, true, false, cond}
 use mathlib.Core.List.{List, [], ◌∷◌, ◌++◌, map}
 use Prim.Native.Nat.{ℕ, suc, ◌+◌, ◌/◌, ◌%◌, ◌≤◌, ◌<◌}
-use native.Mathlib.Nat.{add-zero}
 use native.Mathlib.Numerals.{add-one}
 use native.Mathlib.Omega.{arith}
+use borrow.Author.Tests.{ltb-true}
 use lib.Dec.{eqb, ltb, leb}
 use lib.ListN.{length, drop, get_or, length-map}
-use lib.Seq.{drop-cons, drop-drop, get_or-drop}
+use lib.Seq.{drop-cons, drop-drop}
 use Rattle.model.specs.Fields.{words_for, per_word, pack}
 use Rattle.model.specs.Outcome.{product_sets}
 use Rattle.model.specs.Condition.{Condition, names_c}
@@ -28,10 +28,12 @@ use Rattle.policy_model.specs.declared.DenyShape.{DenyShape}
 use Rattle.policy_model.specs.declared.PolicyHead.{PolicyHead}
 use Rattle.policy_model.specs.declared.PolicyHead.TheVariants.{Permit, Deny, Grant, OrElse, PermitWithTrace, DenyWithTrace}
 use Rattle.policy_model.specs.declared.PolicyHead.TheVariants as policy
-use Rattle.policy_model.specs.Heads.{shape_by, permit_trace_node, deny_trace_node, grant_node, grant_head, permit_trace_head, policy_head, policy_node}
+use Rattle.policy_model.specs.Heads.{shape_by, permit_trace_node, deny_trace_node, grant_node, grant_head, policy_head, policy_node}
 use Rattle.policy_model.specs.HeadLaws.{head_cases, policy_node_lem}
+use Rattle.policy_model.specs.Span.{own_of}
+use Rattle.policy_model.proofs.Skipping.{permit_owns, deny_owns}
 use Rattle.required.specs.Sets.{Walked, Collected}
-use Rattle.required.specs.Nodes.{Ended, OwnFacts}
+use Rattle.required.specs.Nodes.{OwnFacts}
 use Rattle.required.proofs.Arms.{grown_none, left_of_lem}
 
 -- What a policy leaves begins where its words end.
@@ -62,11 +64,8 @@ obligations_left n us =
 facts_long : (n : ℕ) (us : List ℕ) → Holds (λ fs vs. length fs ≡ n) (read_list listed entry_bits n us)
 facts_long n us = weaker (read_list listed entry_bits n us) (λ fs vs r. r.long) (same_list_lem (λ f. f) listed same_listed entry_bits 1 n us refl)
 
--- The word at an index, and the words after it.
+-- The words after the one at an index.
 module _ (sheet : List ℕ) (at w : ℕ) (vs : List ℕ) (e : drop at sheet ≡ w ∷ vs) where
-  word_at : get_or sheet at 0 ≡ w
-  word_at = ap (λ k. get_or sheet k 0) (sym (add-zero at)) ∙ sym (get_or-drop at sheet 0 0) ∙ ap (λ l. get_or l 0 0) e
-
   words_after : vs ≡ drop (at + 1) sheet
   words_after = ap (drop 1) (sym e) ∙ drop-drop 1 at sheet
 
@@ -100,44 +99,36 @@ module _ (sheet : List ℕ) (at end n : ℕ) (s t : List ℕ) where
       fine (record { ends = omega (arith, v.ends); adds = v.adds })))))))
 
 -- Nodes 12 and 13: their words are counted by what their lists hold.
-module _ (sheet : List ℕ) (at end : ℕ) where
-  ended_of : (q : Parsed (Decision Outcome)) → Holds (λ d vs. end ≡ at + words_d d) q → Ended at q end
-  unfolding Ended
-  ended_of (refuse k) h = tt
-  ended_of (got d vs) h = h.it
+permit_trace_long : (n o : ℕ) (ws : List ℕ) → Holds (λ d vs. words_d d ≡ 2 + (words_for 4 n + words_for 2 (get_or ws 0 0 % 4096))) (permit_trace_node n o ws)
+unfolding permit_trace_node
+permit_trace_long n o [] = nothing
+permit_trace_long n o (w ∷ vs) =
+    then_holds (mark (w / 65536)) _ (anything (mark (w / 65536))) (λ l _ _.
+    if_holds (ltb (w % 65536) 4096) 8 _ (λ t.
+    then_holds (read_list obligation obligation_bits n vs) _ (obligations_left n vs) (λ os us r.
+    then_holds (read_list listed entry_bits (w % 65536) us) _ (facts_long (w % 65536) us) (λ fs _ k.
+    let few : w % 65536 < 4096 = ltb-true (w % 65536) 4096 t in
+    let lo : length os ≡ n = r.0 in
+    fine (omega arith)))))
 
-  pub permit_trace_ends : (n o : ℕ) → end ≡ at + 2 + (n + 3) / 4 + (get_or sheet (at + 1) 0 % 65536 + 1) / 2 → Ended at (permit_trace_node n o (drop (at + 1) sheet)) end
-  unfolding permit_trace_node
-  permit_trace_ends n o h =
-      ended_of (permit_trace_node n o (drop (at + 1) sheet))
-      (another_of (drop (at + 1) sheet) _ (λ w vs ew.
-      then_holds (mark (w / 65536)) _ (anything (mark (w / 65536))) (λ l _ _.
-      if_holds (ltb (w % 65536) 4096) 8 _ (λ _.
-      then_holds (read_list obligation obligation_bits n vs) _ (obligations_left n vs) (λ os us r.
-      then_holds (read_list listed entry_bits (w % 65536) us) _ (facts_long (w % 65536) us) (λ fs _ k.
-      let x : get_or sheet (at + 1) 0 ≡ w = word_at sheet (at + 1) w vs ew in
-      let lo : length os ≡ n = r.0 in
-      fine (omega arith)))))))
+deny_trace_long : (shape : DenyShape) (denied : prelude.Option ℕ) (ws : List ℕ) → Holds (λ d vs. words_d d ≡ 3 + words_for 2 (get_or ws 1 0 % 4096)) (deny_trace_node shape denied ws)
+unfolding deny_trace_node
+deny_trace_long shape denied [] = nothing
+deny_trace_long shape denied (w ∷ vs) =
+    then_holds (mark (w / 65536)) _ (anything (mark (w / 65536))) (λ l _ _.
+    then_holds (mark (w % 65536)) _ (anything (mark (w % 65536))) (λ m _ _.
+    another_of vs _ (λ n us en.
+    let counted : get_or (w ∷ vs) 1 0 ≡ n = ap (λ l. get_or (w ∷ l) 1 0) en in
+    if_holds (ltb n 4096) 8 _ (λ t.
+    then_holds (read_list listed entry_bits n us) _ (facts_long n us) (λ fs _ k.
+    let few : n < 4096 = ltb-true n 4096 t in
+    fine (omega arith))))))
 
-  pub deny_trace_ends : (shape : DenyShape) (denied : prelude.Option ℕ) → end ≡ at + 3 + (get_or sheet (at + 2) 0 + 1) / 2 → Ended at (deny_trace_node shape denied (drop (at + 1) sheet)) end
-  unfolding deny_trace_node
-  deny_trace_ends shape denied h =
-      ended_of (deny_trace_node shape denied (drop (at + 1) sheet))
-      (another_of (drop (at + 1) sheet) _ (λ w vs ew.
-      then_holds (mark (w / 65536)) _ (anything (mark (w / 65536))) (λ l _ _.
-      then_holds (mark (w % 65536)) _ (anything (mark (w % 65536))) (λ m _ _.
-      another_of vs _ (λ n us en.
-      let e₂ : drop (at + 2) sheet ≡ n ∷ us = ap (λ k. drop k sheet) (let k : at + 2 ≡ at + 1 + 1 = omega arith in k) ∙ sym (words_after sheet (at + 1) w vs ew) ∙ en in
-      if_holds (ltb n 4096) 8 _ (λ _.
-      then_holds (read_list listed entry_bits n us) _ (facts_long n us) (λ fs _ k.
-      let x : get_or sheet (at + 2) 0 ≡ n = word_at sheet (at + 2) n us e₂ in
-      fine (omega arith))))))))
-
-  -- They name nothing.
-  stored_facts : (s : List ℕ) (q : Parsed (Decision Outcome)) → Ended at q end → Collected words names at s s (next q (λ d vs. got (stored d) vs)) end
-  unfolding Ended Collected
-  stored_facts s (refuse k) e = tt
-  stored_facts s (got d vs) e = record { ends = e; adds = grown_none s }
+-- They name nothing.
+stored_facts : (at end : ℕ) (s : List ℕ) (q : Parsed (Decision Outcome)) → Holds (λ d vs. end ≡ at + words_d d) q → Collected words names at s s (next q (λ d vs. got (stored d) vs)) end
+unfolding Collected
+stored_facts at end s (refuse k) h = tt
+stored_facts at end s (got d vs) h = record { ends = h.it; adds = grown_none s }
 
 -- ---- what stands at `at`
 pub policy_here : (sheet : List ℕ) (at : ℕ) → at < length sheet →
@@ -188,36 +179,26 @@ module _ (pc : List ℕ → Parsed Condition) (sheet : List ℕ) (at : ℕ) (s :
         grant_facts sheet at end n s t pc shape o (subst (λ k. Collected words_c names_c k s t (pc (drop k sheet)) end) same c) in
         rw e (own_if t end (leb n most_obligations) _ (own_if t end (eqb (r / 65536 % 16) 0) (Grant shape n o) g))
 
-    pub own_permit_trace : (end : ℕ) → w / 268435456 ≡ 12 → ((o : ℕ) → Ended at (permit_trace_node (w / 1048576 % 128) o (drop (at + 1) sheet)) end) →
-        OwnFacts pc (policy_head w true) (drop (at + 1) sheet) at s s end
-    unfolding OwnFacts policy_node policy_head permit_trace_head
-    own_permit_trace end e c =
-        let r = w % 268435456 in
-        let n = r / 1048576 % 128 in
-        let same : w / 1048576 % 128 ≡ n = omega arith in
-        let o = r % 65536 in
-        let g : OwnFacts pc (PermitWithTrace n o) (drop (at + 1) sheet) at s s end =
-        stored_facts sheet at end s (permit_trace_node n o (drop (at + 1) sheet)) (subst (λ k. Ended at (permit_trace_node k o (drop (at + 1) sheet)) end) same (c o)) in
-        rw e (own_if s end (eqb (r / 134217728) 0) _ (own_if s end (eqb (r / 65536 % 16) 0) (PermitWithTrace n o) g))
-
-    -- Kind 13; from 14 on there is no policy.
-    pub own_last : (end : ℕ) → 13 ≤ w / 268435456 → ((shape : DenyShape) (denied : prelude.Option ℕ) → Ended at (deny_trace_node shape denied (drop (at + 1) sheet)) end) →
-        OwnFacts pc (policy_head w true) (drop (at + 1) sheet) at s s end
+    -- Kinds 12 and 13; from 14 on there is no policy.
+    pub own_stored : (own : ℕ) → own ≡ own_of w (drop (at + 1) sheet) → 12 ≤ w / 268435456 → OwnFacts pc (policy_head w true) (drop (at + 1) sheet) at s s (at + 1 + own)
     unfolding OwnFacts policy_node
-    own_last end h c =
-        head_cases (λ q. OwnFacts pc q (drop (at + 1) sheet) at s s end) w true (record {
-          bad_kind_is = tt;
-          bad_field_is = tt;
-          permit_is = λ e. absurd (omega arith);
-          deny_is = λ e. absurd (omega arith);
-          grant_is = λ e. absurd (omega arith);
-          all_is = λ e _. absurd (omega arith);
-          any_is = λ e _. absurd (omega arith);
-          or_else_is = λ e. absurd (omega arith);
-          permit_trace_is = λ e _. absurd (omega arith);
-          deny_trace_is = λ e _ denied _. stored_facts sheet at end s (deny_trace_node _ denied (drop (at + 1) sheet)) (c _ denied);
+    own_stored own o h =
+        let ws = drop (at + 1) sheet in
+        let n = w % 268435456 / 1048576 % 128 in
+        head_cases (λ q. q ≡ policy_head w true → OwnFacts pc q ws at s s (at + 1 + own)) w true (record {
+          bad_kind_is = λ _. tt;
+          bad_field_is = λ _. tt;
+          permit_is = λ e _. absurd (omega arith);
+          deny_is = λ e _. absurd (omega arith);
+          grant_is = λ e _. absurd (omega arith);
+          all_is = λ e _ _. absurd (omega arith);
+          any_is = λ e _ _. absurd (omega arith);
+          or_else_is = λ e _. absurd (omega arith);
+          permit_trace_is = λ _ _ here.
+              stored_facts at (at + 1 + own) s (permit_trace_node n _ ws) (weaker (permit_trace_node n _ ws) (λ d vs l. omega (arith, o, permit_owns true w n _ ws here)) (permit_trace_long n _ ws));
+          deny_trace_is = λ _ _ denied _ here.
+              stored_facts at (at + 1 + own) s (deny_trace_node _ denied ws) (weaker (deny_trace_node _ denied ws) (λ d vs l. omega (arith, o, deny_owns true w _ denied ws here)) (deny_trace_long _ denied ws));
         })
+        refl
 
-pub ruleset own_words = (own_word, own_grant)
-
-pub ruleset stored_ends = (permit_trace_ends, deny_trace_ends, own_permit_trace, own_last)
+pub ruleset own_words = (own_word, own_grant, own_stored)

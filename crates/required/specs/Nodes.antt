@@ -1,11 +1,9 @@
 -- How many arms a policy has, and what stands before them, by what its first word says. Document 01, "What a call receives".
-use Rattle.std.specs.Prelude.{◌≡◌, false, List, ℕ, ◌+◌, ◌≤◌, ◌<◌, length, get_or}
+use Rattle.std.specs.Prelude.{false, List, ℕ}
 use Rattle.model.specs.Condition.{Condition}
-use Rattle.model.specs.Decision.{Decision}
 use Rattle.model.specs.Policy.{names}
-use Rattle.model.specs.Reading.{Parsed, refuse, got, kind_of}
-use Rattle.model.specs.Products.{Outcome}
-use Rattle.laws.specs.Size.{words_d, words}
+use Rattle.model.specs.Reading.{Parsed, refuse}
+use Rattle.laws.specs.Size.{words}
 use Rattle.policy_model.specs.declared.PolicyHead.{PolicyHead}
 use Rattle.policy_model.specs.declared.PolicyHead.TheVariants.{Permit, Deny, Grant, OrElse, PermitWithTrace, DenyWithTrace}
 use Rattle.policy_model.specs.declared.PolicyHead.TheVariants as policy
@@ -24,16 +22,6 @@ policy_arms (PermitWithTrace n o) = 0
 policy_arms (DenyWithTrace shape denied) = 0
 policy_arms policy.BadKind = 0
 policy_arms policy.BadField = 0
-
--- A word from kind 12 on.
-pub record StoredAt (sheet : List ℕ) (at : ℕ) : Type 0 where
-  pub inside : at < length sheet
-  pub stored : 12 ≤ kind_of (get_or sheet at 0)
-
--- Where a node 12 or 13 ends.
-unfoldable pub Ended : ℕ → Parsed (Decision Outcome) → ℕ → Type 0
-Ended at (refuse n) next = Unit {0}
-Ended at (got d ws) next = next ≡ at + words_d d
 
 -- A walk over a policy up to its arms: a policy without arms whole, of the others the first word.
 unfoldable pub OwnFacts : (List ℕ → Parsed Condition) → PolicyHead → List ℕ → ℕ → List ℕ → List ℕ → ℕ → Type 0

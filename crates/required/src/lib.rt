@@ -11,7 +11,7 @@ ghost use Rattle.model.specs.Products.{read_sheet, read_record, required_facts, 
 ghost use Rattle.laws.specs.Size.{words_c};
 ghost use Rattle.policy_model.specs.Heads.{policy_head};
 ghost use Rattle.required.specs.Sets.{Collected};
-ghost use Rattle.required.specs.Nodes.{StoredAt, OwnFacts};
+ghost use Rattle.required.specs.Nodes.{OwnFacts};
 ghost use Rattle.required.specs.Answers.{set_after, SetOf, FactsOf, Answered, tree_of};
 
 use policy_model::Status;
@@ -48,24 +48,8 @@ fn collect_condition_facts(words: &[u32], at: usize, depth: usize, set: [u64; 16
     Grew { set: grown, next }
 }
 
-// Where a stored decision ends, a PermitWithTrace or a DenyWithTrace.
-#[tactic(auto, using(crate::proofs::Policies::stored_ends))]
-fn stored_end(words: &[u32], at: usize) -> usize
-    requires { StoredAt words.now at }
-    ensures facts { (pc : List ℕ → Parsed Condition) (s : List ℕ) → OwnFacts pc (policy_head (get_or words.now at 0) true) (drop (at + 1) words.now) at s s result }
-    ensures forward { at < result }
-{
-    let word = words[at];
-    if word / policy_model::KIND == policy_model::KIND_PERMIT_WITH_TRACE {
-        let obligations = policy_model::obligation_words(policy_model::obligations_of(word));
-        let count = policy_model::word_at(words, at + 1) % policy_model::HALF;
-        return at + 2 + obligations + policy_model::entry_words(count);
-    }
-    at + 3 + policy_model::entry_words(policy_model::word_at(words, at + 2))
-}
-
-// Adds the facts of what stands in a policy before its arms, and returns the index of the word after that. Stored decisions name nothing. Kinds are
-// numbers, as policy_model says.
+// Adds the facts of what stands in a policy before its arms, and returns the index of the word after that. Stored decisions name nothing: they end after
+// their own words. Kinds are numbers, as policy_model says.
 #[tactic(auto, using(crate::proofs::Policies::own_words))]
 fn collect_own_facts(words: &[u32], at: usize, set: &mut [u64; 16]) -> usize
     requires { at < length words.now }
@@ -84,10 +68,11 @@ fn collect_own_facts(words: &[u32], at: usize, set: &mut [u64; 16]) -> usize
         *set = grown;
         return next;
     }
+    // nodes of one word: by `own_of` too, a mixed sheet takes 10% longer
     if kind < policy_model::KIND_PERMIT_WITH_TRACE {
         return at + 1;
     }
-    stored_end(words, at)
+    at + 1 + policy_model::own_of(words, at)
 }
 
 // The facts of the policy at `at`, which ends with the words. These were checked before, so its nodes need no level: each is seen as it comes.

@@ -6,6 +6,7 @@ use mathlib.Core.List.{List, [], ◌∷◌, ◌++◌}
 use Prim.Native.Nat.{ℕ, ◌+◌, ◌*◌, ◌%◌, ◌≤◌}
 use native.Mathlib.Omega.{arith}
 use lib.ListN.{length, drop, get_or, set}
+use Rattle.std.specs.Prelude.{None, Some}
 use Rattle.model.specs.Facts.{Presence, absent, present, unknown, silent, Table}
 use Rattle.model.specs.Condition.{eval_has}
 use Rattle.model.specs.Decision.{Decision as Decided, permits, combined}
@@ -14,8 +15,9 @@ use Rattle.model.specs.Products.{Outcome}
 use Rattle.decision.specs.declared.Decision.{Decision}
 use Rattle.policy_model.specs.Plain.{plain_grant}
 use Rattle.policy_model.specs.PlainLaws.{plain_reads}
-use Rattle.decision.specs.Nodes.{named, node_at, clause_read, obligations_read, clause_at, obligations_at}
+use Rattle.decision.specs.Nodes.{reached, named, node_at, clause_read, obligations_read, clause_at, obligations_at}
 use Rattle.decision.specs.Meaning.{permitted_at, obligations_in, permit_of, decision_of}
+use Rattle.decision.proofs.Nodes.{reached_is}
 use Rattle.decision.proofs.Standing.{permitted_bare}
 use Rattle.record.specs.Nodes.{decision_words}
 use Rattle.packing.specs.Written.{Written}
@@ -51,7 +53,7 @@ node_as {W} {T} {d} {buf} {out} {n} {r} D e w l = record {
   bytes = λ s. refl;
 }
 
-pub node_bare : {W : List ℕ} {T : Table} {d : Decision} {buf out : List ℕ} {r : ℕ} → d ≡ permitted_at d.outcome d.clause d.clause 0 → length W ≤ d.clause →
+pub node_bare : {W : List ℕ} {T : Table} {d : Decision} {buf out : List ℕ} {r : ℕ} → d ≡ permitted_at d.outcome d.clause d.clause 0 → None ≡ reached W d.clause →
     Laid 2 (decision_words (permits (combined d.outcome []))) out r → NodeLaid W T d buf buf out r
 node_bare {W} {T} {d} {buf} e h l = node_as (permits (combined d.outcome [])) (ap (decision_of W T buf) e ∙ permitted_bare W T buf d.outcome d.clause h) refl l
 
@@ -62,14 +64,15 @@ names_it f present = refl
 names_it f unknown = refl
 names_it f silent = refl
 
-fact_is : (W : List ℕ) (T : Table) (buf : List ℕ) (o at : ℕ) → plain_grant (drop at W) ≡ true → decision_of W T buf (permitted_at o at at 0) ≡ on_fact o (get_or W (at + 2) 0 % 1024)
+fact_is : (W : List ℕ) (T : Table) (buf : List ℕ) (o at : ℕ) → plain_grant (drop at W) ≡ true → decision_of W T buf (permitted_at o (Some at) (Some at) 0) ≡ on_fact o (get_or W (at + 2) 0 % 1024)
 unfolding decision_of permit_of obligations_in clause_at obligations_at node_at
 fact_is W T buf o at plain =
     let f = get_or W (at + 2) 0 % 1024 in
     ap (λ q. permits (record { outcome = o; obligations = obligations_read q ++ []; label = (clause_read T q).label; facts = (clause_read T q).facts })) (plain_reads W at plain true 30)
     ∙ ap (λ fs. permits (record { outcome = o; obligations = []; label = none; facts = fs })) (names_it f (T f))
 
-pub node_on_fact : {W : List ℕ} {T : Table} {d : Decision} {buf out : List ℕ} {r : ℕ} → d ≡ permitted_at d.outcome d.clause d.clause 0 → plain_grant (drop d.clause W) ≡ true →
-    Laid 3 (decision_words (on_fact d.outcome (get_or W (d.clause + 2) 0 % 1024))) out r → NodeLaid W T d buf buf out r
-node_on_fact {W} {T} {d} {buf} e plain l =
-    node_as (on_fact d.outcome (get_or W (d.clause + 2) 0 % 1024)) (ap (decision_of W T buf) e ∙ fact_is W T buf d.outcome d.clause plain) refl l
+pub node_on_fact : {W : List ℕ} {T : Table} {d : Decision} {at : ℕ} {buf out : List ℕ} {r : ℕ} → d ≡ permitted_at d.outcome d.clause d.clause 0 → Some at ≡ reached W d.clause →
+    plain_grant (drop at W) ≡ true → Laid 3 (decision_words (on_fact d.outcome (get_or W (at + 2) 0 % 1024))) out r → NodeLaid W T d buf buf out r
+node_on_fact {W} {T} {d} {at} {buf} e reach plain l =
+    let same : d ≡ permitted_at d.outcome (Some at) (Some at) 0 = e ∙ ap (λ place. permitted_at d.outcome place place 0) (reached_is W d.clause at reach).0 in
+    node_as (on_fact d.outcome (get_or W (at + 2) 0 % 1024)) (ap (decision_of W T buf) same ∙ fact_is W T buf d.outcome at plain) refl l

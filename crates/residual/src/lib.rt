@@ -66,10 +66,9 @@ pub fn policy_from_decision(
     let words = walk.words;
     // The commonest nodes, those of a Permit and of a grant on one fact, are short.
     if from_one_node(decision) {
-        let at = decision.clause;
-        if words.len() <= at {
+        let Some(at) = decision::node_in(words, decision.clause) else {
             return lay_bare(decision.outcome, out);
-        }
+        };
         if policy_model::plain_grant(words, at) {
             return lay_on_fact(decision.outcome, words[at + 2] % policy_model::FACTS, out);
         }
@@ -78,7 +77,7 @@ pub fn policy_from_decision(
     let held = decision::obligations(words, decision, buf, &mut obligations);
     let count = clause::clause_facts(walk, decision.clause, named);
     if !clause::countable(decision.permit, held, count) {
-        return sizes::LIMIT + 1;
+        return sizes::TOO_MANY;
     }
     let size = clause::decision_words(decision.permit, held, count);
     if out.len() < size {

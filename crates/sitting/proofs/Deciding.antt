@@ -24,7 +24,7 @@ use Rattle.model.specs.Products.{Outcome, evaluate_by, encode_r, read_sheet, rea
 use Rattle.model.specs.Levels.{outcome_count, meet_of, join_of}
 use Rattle.laws.proofs.LevelLaws.{none_is}
 use Rattle.staging.proofs.Demand3.{evaluate_of, evaluate_back_of}
-use Rattle.std.specs.Prelude.{Result, Ok, Err}
+use Rattle.std.specs.Prelude.{Ok, Err}
 use Rattle.refusal.specs.declared.Refusal.{Refusal}
 use Rattle.refusal.specs.Numbers.{number_of, by_number}
 use Rattle.answer.specs.Answers.{Answer, Answered, answer_of}

@@ -1,9 +1,8 @@
-// The staged guarantee of what the calls return, in specs/. The functions say that the runs it speaks of are the calls' own: one for
-// each call.
+// The staged guarantee of what the calls return, in specs/. The functions say that the runs it speaks of are the calls' own: one for each call, so twice for
+// those that are there by an outcome table too.
 #![tactic(auto)]
 
 ghost use Rattle.std.proofs.Math.Option.{none, some};
-ghost use Rattle.model.specs.Partial.{permits_first, sheet_order};
 ghost use Rattle.outcome.specs.Carried.{table};
 ghost use Rattle.partial_policy.specs.Reducing.{order_of};
 ghost use Rattle.stages.specs.Runs.{run_of, Evaluated, Reduced, Narrowed, Completed, asking_of, Asked};
@@ -18,28 +17,16 @@ pub fn evaluated(sheet: &[u32], number: u32, facts: &[u8], out: &mut [u32]) -> A
     calls::evaluate(sheet, number, facts, out)
 }
 
-pub fn reduced(sheet: &[u32], number: u32, facts: &[u8], out: &mut [u32]) -> Answer
-    ensures { Reduced none permits_first number sheet.now (run_of facts.now out.old out.new result) }
+pub fn reduced(sheet: &[u32], number: u32, order: Order, facts: &[u8], out: &mut [u32]) -> Answer
+    ensures { Reduced none (order_of order) number sheet.now (run_of facts.now out.old out.new result) }
 {
-    calls::partial_evaluate(sheet, number, facts, out)
+    calls::partial_evaluate(sheet, number, order, facts, out)
 }
 
-pub fn reduced_in_order(sheet: &[u32], number: u32, facts: &[u8], out: &mut [u32]) -> Answer
-    ensures { Reduced none sheet_order number sheet.now (run_of facts.now out.old out.new result) }
+pub fn narrowed(given: &[u32], number: u32, order: Order, facts: &[u8], out: &mut [u32]) -> Answer
+    ensures { Narrowed none (order_of order) number given.now (run_of facts.now out.old out.new result) }
 {
-    calls::partial_evaluate_in_order(sheet, number, facts, out)
-}
-
-pub fn narrowed(given: &[u32], number: u32, facts: &[u8], out: &mut [u32]) -> Answer
-    ensures { Narrowed none permits_first number given.now (run_of facts.now out.old out.new result) }
-{
-    calls::narrow_residual(given, number, facts, out)
-}
-
-pub fn narrowed_in_order(given: &[u32], number: u32, facts: &[u8], out: &mut [u32]) -> Answer
-    ensures { Narrowed none sheet_order number given.now (run_of facts.now out.old out.new result) }
-{
-    calls::narrow_residual_in_order(given, number, facts, out)
+    calls::narrow_residual(given, number, order, facts, out)
 }
 
 pub fn completed(given: &[u32], number: u32, facts: &[u8], out: &mut [u32]) -> Answer

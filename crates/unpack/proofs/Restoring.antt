@@ -133,4 +133,4 @@ ends {run} {out₀} {out} {from} {end} {at} {to} p h =
 pub same_long : {run out₀ out : List ℕ} {from end at to : ℕ} → Restoring run out₀ out from end at to → end ≤ at → length (restored (drop from run) 0 (end - from)) ≤ length out₀ → length out ≡ length out₀
 same_long p h r = let w = ends p h in written_long w (omega (arith, w.number))
 
-pub ruleset restoring = (length_run, room_node, long_out, begins, same_long, list_roomy)
+pub ruleset restoring = (length_run, room_node, long_out, begins, same_long, list_roomy, room_list, after_list, room_plain, after_plain, ends)

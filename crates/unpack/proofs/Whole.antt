@@ -4,9 +4,9 @@ use mathlib.Core.Bool.{Bool, true, false, cond, ◌&&◌}
 use Rattle.std.specs.Prelude.{Ok, Err}
 use Rattle.std.proofs.Math.Option.{Option, none, some}
 use mathlib.Core.List.{List, [], ◌++◌, append-nil}
-use Prim.Native.Nat.{ℕ, ◌+◌, ◌-◌, ◌≤◌, ◌<◌}
+use Prim.Native.Nat.{ℕ, ◌+◌, ◌-◌, ◌≤◌}
 use native.Mathlib.Omega.{arith}
-use borrow.Author.Tests.{le-leb, lt-leb, leb-true}
+use borrow.Author.Tests.{le-leb, leb-true}
 use lib.Dec.{leb, ltb}
 use lib.ListN.{length, drop, length-drop}
 use Rattle.model.specs.Bits.{run_of}
@@ -23,7 +23,6 @@ use Rattle.laws.specs.Size.{words}
 use Rattle.laws.proofs.Lengths.{length_encode, length_encode_r, length_numbered}
 use Rattle.packing.specs.Written as packing
 use Rattle.refusal.specs.declared.Refusal.{Refusal}
-use Rattle.refusal.specs.declared.Refusal.TheVariants as refusal
 use Rattle.refusal.specs.Numbers.{number_of}
 use Rattle.answer.specs.Answers.{Answered}
 use Rattle.unpack.specs.declared.Found.{Found}
@@ -46,17 +45,7 @@ module _ {A : Type 0} (call : Call A) (bytes out : List ℕ) where
   abbrev given : model.Answer
   given = model.unless_long (leb (length bytes) 65536) (model.on_read (filled (call.read (run_of bytes))) gives)
 
-  pub too_long : 65536 < length bytes → Answered given out out (Err refusal.Length)
-  too_long h = rw (lt-leb (length bytes) 65536 h) (record { answer_is = refl; output_is = refl })
-
   module _ (fits : length bytes ≤ 65536) where
-    pub turned_back : (r : Refusal) → sized call.size 0 (call.read (run_of bytes)) ≡ refuse (number_of r) → Answered given out out (Err r)
-    turned_back r e = rw (le-leb (length bytes) 65536 fits) (by (call.read (run_of bytes)) e)
-      where
-        by : (q : Parsed A) → sized call.size 0 q ≡ refuse (number_of r) → Answered (model.on_read (filled q) gives) out out (Err r)
-        by (refuse m) f = record { answer_is = cc; output_is = refl }
-        by (got a bs) f = absurd (cc)
-
     module _ (found : Found) (e : sized call.size 0 (call.read (run_of bytes)) ≡ got found.words (drop found.at (run_of bytes))) where
       abbrev left : List ℕ
       left = drop found.at (run_of bytes)

@@ -1,5 +1,5 @@
 -- What the checks of bits answer, from what is read of them: the words that it takes, and the bits after it. Request 11.
-use Rattle.std.specs.Prelude.{◌≡◌, Bool, cond, ◌&&◌, List, ℕ, ◌+◌, ◌≤◌, ◌<◌, ltb, leb, length, drop, Result, Ok, Err}
+use Rattle.std.specs.Prelude.{◌≡◌, Bool, cond, ◌&&◌, List, ℕ, ◌+◌, ◌≤◌, ltb, leb, length, drop, Result, Ok, Err}
 use Rattle.std.proofs.Math.Option.{Option, none, some}
 use Rattle.model.specs.Outcome.{product_sets}
 use Rattle.model.specs.Condition.{cnil, ccons}
@@ -9,11 +9,8 @@ use Rattle.model.specs.Products.{Outcome}
 use Rattle.model.specs.Reading.{Parsed, refuse, got, many}
 use Rattle.model.specs.Tight.{kind_bits, loose_c, loose, UnderNumber}
 use Rattle.laws.specs.Size.{words_c, words_cs, words as words_t, wordss as words_ts, words_r}
-use Rattle.policy_model.specs.Span.{arms_of}
-use Rattle.bits.specs.Widths.{plain_width}
-use Rattle.unpack.specs.Nodes.{lead_kind_of, lead_in, plain_word}
+use Rattle.unpack.specs.Nodes.{lead_in}
 use Rattle.unpack.specs.declared.Found.{Found}
-use Rattle.unpack.specs.declared.Step.{Step}
 
 -- Why bits that are needed up to `at` are turned back.
 abbrev pub ended : List ℕ → ℕ → Option ℕ
@@ -31,18 +28,6 @@ sized size words (got a bs) = got (words + size a) bs
 abbrev pub Says : List ℕ → ℕ → Parsed ℕ → Result Found ℕ → Type 0
 Says run from asked (Ok f) = (asked ≡ got f.words (drop f.at run)) × (f.at ≤ length run) × (f.words ≤ f.at) × (from ≤ f.at)
 Says run from asked (Err n) = asked ≡ refuse n
-
--- Of one node, after which come so many arms.
-abbrev pub Steps : List ℕ → ℕ → ℕ → Parsed ℕ → (ℕ → List ℕ → ℕ → Parsed ℕ) → Result Step ℕ → Type 0
-Steps run at depth asked arms (Ok s) = (asked ≡ arms s.words (drop s.after run) s.arms) × (s.after ≤ length run) × (at < s.after) × (s.words ≤ s.after) × (0 < depth)
-Steps run at depth asked arms (Err n) = asked ≡ refuse n
-
--- A node without lists at `at`, from its first bits.
-unfoldable pub plain_step : List ℕ → ℕ → ℕ → ℕ → Result Step ℕ
-plain_step run at words lead =
-    cond (ltb (length run) (at + (kind_bits + plain_width (lead_kind_of lead))))
-    (Err 19)
-    (Ok (record { after = at + (kind_bits + plain_width (lead_kind_of lead)); words = words + 1; arms = arms_of (plain_word lead) }))
 
 -- Why the words of what was read are turned back: it was itself, or they are too many.
 abbrev pub judged : Parsed ℕ → ℕ → ℕ → Option ℕ

@@ -1,5 +1,6 @@
 pub mod Nodes
 pub mod Answers
+pub mod Places
 pub mod FieldLaws
 pub mod NormalLaws
 pub mod Levels

@@ -13,6 +13,7 @@ ghost use Rattle.vectors.specs.Replies.{number_of, Replied, reply_to, requiring}
 ghost use Rattle.vectors.specs.Stored.{number_bytes, number_in, size_of, Whole, Fitted, Ran, told_in, agrees_in};
 ghost use Rattle.vectors.specs.Tallies.{noted_in, step_of, tally_of};
 
+use partial_policy::Order;
 use refusal::Refusal;
 use std::io;
 
@@ -130,8 +131,20 @@ impl Call {
     {
         match self {
             Call::Evaluate => replied(calls::evaluate(words, sheet, table, out)),
-            Call::PartialEvaluate => replied(calls::partial_evaluate(words, sheet, table, out)),
-            Call::NarrowResidual => replied(calls::narrow_residual(words, sheet, table, out)),
+            Call::PartialEvaluate => replied(calls::partial_evaluate(
+                words,
+                sheet,
+                Order::PermitsFirst,
+                table,
+                out,
+            )),
+            Call::NarrowResidual => replied(calls::narrow_residual(
+                words,
+                sheet,
+                Order::PermitsFirst,
+                table,
+                out,
+            )),
             Call::CompleteResidual => replied(calls::complete_residual(words, sheet, table, out)),
             Call::RequiredFacts => sheet_facts(words, out),
             Call::RequiredResidualFacts => record_facts(words, out),
@@ -179,6 +192,7 @@ fn expect(case: &[u8], at: usize, count: usize, out: &mut [u32])
     ensures { out.new ≡ words_in case.now at count ++ drop count (marks (length out.old)) }
 {
     fill(out);
+    // the words are there, as the case is whole
     listing::read_words(&case[at..], &mut out[..count]);
 }
 
@@ -196,6 +210,7 @@ fn run(call: Call, case: &[u8], words: &mut [u32], expected: &mut [u32], out: &m
     ensures { Ran call case.now expected.new out.new result }
 {
     let start = NUMBERS + number_in(case, 2);
+    // they are there, as the case is whole
     listing::read_words(&case[start..], words);
     expect(case, start + 4 * words.len(), number_in(case, 6), expected);
     fill(out);
@@ -224,7 +239,7 @@ fn agrees(call: Call, case: &[u8]) -> bool
 
 // ---- tallies
 
-// One more answer was replayed.
+// One more answer was replayed, and agrees or not, as was just found.
 fn noted(tally: Tally, agrees: bool, place: usize) -> Tally
     requires { (tally.replayed + 1 < 2 ^ 64) × (tally.differ ≤ tally.replayed) }
     ensures { result ≡ noted_in tally agrees place }

@@ -1,8 +1,8 @@
 -- From a call's answer to the number that is returned. Assumes nothing.
-use mathlib.Core.Path.{◌≡◌, refl, sym, ◌∙◌, ap}
+use mathlib.Core.Path.{◌≡◌, refl, ◌∙◌, ap}
 use mathlib.Core.Bool.{Bool}
 use mathlib.Core.List.{List}
-use Prim.Native.Nat.{ℕ, ◌+◌, ◌*◌, ◌^◌}
+use Prim.Native.Nat.{ℕ, ◌*◌, ◌^◌}
 use native.Mathlib.Omega.{arith}
 use Rattle.std.specs.Prelude.{Option, Some, None, Result, Ok, Err}
 use Rattle.refusal.specs.declared.Refusal.{Refusal}
@@ -15,7 +15,7 @@ use Rattle.required.specs.Answers as asked
 use Rattle.questions.specs.Answers as told
 use Rattle.register.specs.Answers.{in_force_of}
 use Rattle.batch.specs.Answers.{batch_meant, Runs}
-use Rattle.vierskof.specs.Answers.{in_one, itself, one_bit_of, none_or, returned, Requires, Writes, Batches, said, named}
+use Rattle.vierskof.specs.Answers.{in_one, itself, one_bit_of, none_or, returned, Writes, Batches, said, named}
 
 -- ---- a refusal's number or 0, and a value or 0
 refusal_alone : (n : ℕ) → n * 2 ^ 32 ≡ returned n 0

@@ -1,5 +1,5 @@
 // The exported C interface. A slice passes as a pointer and an element count. A call returns one number: that of the refusal times 2^32, or 0
-// when it is accepted, and the call's value.
+// when it is accepted, and the call's value. Each export is a function of its own, as C has no type for a table or an order.
 #![tactic(auto)]
 
 ghost use Rattle.model.specs.Products.{evaluate, required_facts, required_residual_facts, is_permit_constant, is_deny_constant, carries_obligation, partial_evaluate, narrow_residual, complete_residual, evaluate_by, partial_evaluate_by, narrow_residual_by, complete_residual_by};
@@ -71,7 +71,7 @@ fn returned<V: Value>(answer: Result<V, Refusal>) -> u64
 {
     match answer {
         Ok(value) => value.number(),
-        Err(cause) => u64::from(cause.number()) * 4294967296,
+        Err(cause) => cause.high_half(),
     }
 }
 
@@ -98,7 +98,7 @@ pub extern "C" fn vierskof_partial_evaluate(
 ) -> u64
     ensures { Writes (partial_evaluate_by none permits_first number sheet.now facts.now (length out.old)) out.old out.new result }
 {
-    returned(calls::partial_evaluate(sheet, number, facts, out))
+    returned(calls::partial_evaluate(sheet, number, Order::PermitsFirst, facts, out))
 }
 
 // Reduces a sheet, and leaves arms in sheet order.
@@ -111,7 +111,7 @@ pub extern "C" fn vierskof_partial_evaluate_in_order(
 ) -> u64
     ensures { Writes (partial_evaluate_by none sheet_order number sheet.now facts.now (length out.old)) out.old out.new result }
 {
-    returned(calls::partial_evaluate_in_order(sheet, number, facts, out))
+    returned(calls::partial_evaluate(sheet, number, Order::SheetOrder, facts, out))
 }
 
 // Narrows a record of the sheet that has the number by a table of further facts, and writes the record that results.
@@ -124,7 +124,7 @@ pub extern "C" fn vierskof_narrow_residual(
 ) -> u64
     ensures { Writes (narrow_residual_by none permits_first number residual.now facts.now (length out.old)) out.old out.new result }
 {
-    returned(calls::narrow_residual(residual, number, facts, out))
+    returned(calls::narrow_residual(residual, number, Order::PermitsFirst, facts, out))
 }
 
 // Narrows a record, and leaves arms in sheet order.
@@ -137,7 +137,7 @@ pub extern "C" fn vierskof_narrow_residual_in_order(
 ) -> u64
     ensures { Writes (narrow_residual_by none sheet_order number residual.now facts.now (length out.old)) out.old out.new result }
 {
-    returned(calls::narrow_residual_in_order(residual, number, facts, out))
+    returned(calls::narrow_residual(residual, number, Order::SheetOrder, facts, out))
 }
 
 // Completes a record of the sheet that has the number with a known table, and writes the record that results.

@@ -25,13 +25,14 @@ struct Visit {
     nodes: u32,
 }
 
-// What a walk reads, and how many nodes it may visit. Not condition's `Walk` with an allowance beside it: that one's methods list what they read, and none
-// of them is called here.
+// What a walk reads, and how many nodes it may visit. Condition's `Walk` has two of these fields, but none of its methods
+// is used here, and this crate stands apart from the evaluation that it counts.
 #[derive(Clone, Copy)]
 struct Walk<'a> {
     words: &'a [u32],
     facts: &'a [u8],
     allowance: u32,
+    ghost bounded: { length words.now ≤ record_words },
 }
 
 impl Walk<'_> {
@@ -127,7 +128,6 @@ impl Walk<'_> {
     // The policy at `at`, of at most `depth` levels, in a sheet.
     #[cycle(policy_visits)]
     fn visit_policy(&self, at: usize, depth: usize, nodes: u32) -> Option<Visit>
-        requires { length self.now.words.now ≤ record_words }
         ensures { Counts words_t (holds_p (table_of self.now.facts.now)) (nodes_p (table_of self.now.facts.now)) at self.now.allowance nodes (read_policy false depth (drop at self.now.words.now)) result }
     {
         if self.words.len() <= at || depth == 0 || self.allowance <= nodes {
@@ -162,7 +162,8 @@ impl Walk<'_> {
     }
 
     // The `arms` from `at` of an All, up to its deny (`stop` false), or an OrElse's two, up to a permit (`stop` true).
-    // Beside `visit_conditions`: one rule for both would take a trait of the two cycles, with a member for each reading, size, value and count, for a loop of nine lines.
+    // Beside `visit_conditions`: one rule for both would take a trait of the two cycles, with a member for each reading, size, value and count, for a loop of
+    // nine lines.
     #[cycle(policy_visits)]
     fn visit_policies(
         &self,
@@ -172,7 +173,6 @@ impl Walk<'_> {
         stop: bool,
         nodes: u32,
     ) -> Option<Visit>
-        requires { length self.now.words.now ≤ record_words }
         ensures { Counts words_ts (holds_ps stop (table_of self.now.facts.now)) (nodes_ps stop (table_of self.now.facts.now)) at self.now.allowance nodes (many pnil pcons (read_policy false depth) arms (drop at self.now.words.now)) result }
     {
         let mut next = at;
@@ -192,7 +192,6 @@ impl Walk<'_> {
     // The `arms` from `at` of an Any, each of which is visited. So it stands beside `visit_policies`: no arm ends the loop, and their values are joined.
     #[cycle(policy_visits)]
     fn visit_any(&self, at: usize, depth: usize, arms: u32, nodes: u32) -> Option<Visit>
-        requires { length self.now.words.now ≤ record_words }
         ensures { Counts words_ts (holds_any (table_of self.now.facts.now) false) (nodes_any (table_of self.now.facts.now)) at self.now.allowance nodes (many pnil pcons (read_policy false depth) arms (drop at self.now.words.now)) result }
     {
         let mut next = at;

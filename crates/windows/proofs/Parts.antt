@@ -2,20 +2,21 @@
 use mathlib.Core.Path.{◌≡◌, refl, sym, ◌∙◌, ap, ap₂, subst}
 use mathlib.Core.Bool.{Bool, true, false, cond, not, ◌&&◌, ◌||◌, and-true, and-false}
 use mathlib.Core.Option.{none}
-use mathlib.Core.List.{List, [], ◌∷◌, ◌++◌, map, append_assoc}
+use mathlib.Core.List.{List, [], ◌∷◌, ◌++◌, map, append_assoc, reverse}
 use Prim.Native.Nat.{ℕ, zero, suc, ◌+◌, ◌-◌, ◌*◌, ◌/◌, ◌%◌, ◌^◌, ◌≤◌, ◌<◌}
 use native.Mathlib.Omega.{arith}
 use lib.Bits.{bit_and, and_high}
 use lib.Dec.{eqb, leb}
-use borrow.Author.Tests.{le-leb, lt-leb, ne_eqb, not-false}
-use lib.ListN.{length, drop, get_or, set, drop_of_length-le, length-append, length-drop}
-use lib.Seq.{drop-cons}
-use Rattle.model.specs.Fields.{bits, split, packed}
-use Rattle.model.specs.Facts.{Presence, unknown, fact_bits, table_bytes, table_fields}
+use borrow.Author.Tests.{le-leb, lt-leb, not-false}
+use lib.ListN.{length, drop, get_or, set}
+use Rattle.std.proofs.lemmas.List.{map-append, reverse-append}
+use Rattle.std.specs.Borrow.{Bor}
+use Rattle.model.specs.Fields.{split, packed}
+use Rattle.model.specs.Facts.{Presence, unknown, table_bytes, table_fields}
 use Rattle.model.specs.Writing.{presence_field}
 use Rattle.model.specs.Windows.{Window, windows_of, right_window, right_windows, decided, becomes, named, set_fields, bad_date, bad_list, windows_fault, windowed_table, apply_windows}
 use Rattle.model.specs.Calls.{refusal, wrote, unless_fault}
-use Rattle.model.specs.Calendar.{Date, exists, unknown_date, age_in_days, age_in_years}
+use Rattle.model.specs.Calendar.{Date, exists, unknown_date}
 use Rattle.laws.proofs.Pairs.{pairs_are}
 use Rattle.laws.proofs.ShiftLaws.{split_shift}
 use Rattle.laws.proofs.WordLaws.{length_packed}
@@ -25,9 +26,10 @@ use Rattle.laws.proofs.FieldSetLaws.{unit_at, replaced}
 use Rattle.std.specs.Prelude.{Ok}
 use Rattle.std.specs.Simd.{first_chunks}
 use Rattle.answer.specs.Answers.{Answered}
-use Rattle.windows.specs.Setting.{number_of, window_in, all_right, held_as, fields_by, set_where, marked, Windowed}
-use Rattle.calendar.specs.Answers.{shown}
-use Rattle.windows.specs.SettingLaws.{by_same, by_none, by_append, set_fields_by, decided_fields, set_by, then_set, set_one, set_none}
+use Rattle.windows.specs.Setting.{window_in, all_right, held_as, fields_by, set_where, marked}
+use Rattle.windows.specs.declared.Ages.{Ages}
+use Rattle.windows.specs.declared.Verdict.TheVariants.{Closed, Open}
+use Rattle.windows.specs.SettingLaws.{by_same, by_none, set_fields_by, ages_of, decided_fields, set_by, then_set, set_one, set_none}
 
 -- ---- one field of a byte
 abbrev old_of : ℕ → ℕ → ℕ
@@ -111,51 +113,53 @@ module _ (list : List ℕ) (ps : List (List ℕ)) (are : ps ≡ first_chunks 2 (
   bad_rest h k = sym (bad_by ∙ ap₂ (λ a b. not ((a && all_right ps) && b)) h (le-leb (length list) 64 k) ∙ ap not (and-true (all_right ps)))
 
 -- ---- a turn of a loop from the last window to the first
-module _ (such : Window → Bool) (value : ℕ) (ps : List (List ℕ)) (fields : List ℕ) where
-  -- The facts of the windows from i on are set, where these are such.
-  abbrev pub SetFrom : ℕ → List ℕ → Type 0
-  SetFrom i now = now ≡ fields_by (set_where such value (map window_in (drop i ps))) 0 fields
+-- The windows that were yielded, in the list's order.
+abbrev pub yielded_last : List (Bor (List ℕ)) → List (List ℕ)
+yielded_last ys = reverse (map (λ y. y.now) ys)
 
-  pub none_set : (i : ℕ) → length ps ≤ i → SetFrom i fields
-  none_set i h = sym (ap (λ l. fields_by (set_where such value (map window_in l)) 0 fields) (drop_of_length-le ps h) ∙ by_none (set_where such value []) 0 (λ f q k. refl) fields)
+yielded_next : (ys : List (Bor (List ℕ))) (y : Bor (List ℕ)) → yielded_last (ys ++ (y ∷ [])) ≡ y.now ∷ yielded_last ys
+yielded_next ys y = ap reverse (map-append (λ y. y.now) ys (y ∷ [])) ∙ reverse-append (map (λ y. y.now) ys) (y.now ∷ [])
 
-  module _ (i j : ℕ) (w : Window) (e : j ≡ suc i) (h : i < length ps) (is : w ≡ window_in (get_or ps i [])) where
-    next : w ∷ map window_in (drop (suc i) ps) ≡ map window_in (drop i ps)
-    next = ap (λ x. x ∷ map window_in (drop (suc i) ps)) is ∙ sym (ap (map window_in) (drop-cons ps i [] h))
+pub still_all : (ys : List (Bor (List ℕ))) (y : Bor (List ℕ)) (rest left all : List (List ℕ)) → rest ≡ left ++ (y.now ∷ []) → rest ++ yielded_last ys ≡ all → left ++ yielded_last (ys ++ (y ∷ [])) ≡ all
+still_all ys y rest left all e h = ap (λ ps. left ++ ps) (yielded_next ys y) ∙ sym (append_assoc left (y.now ∷ []) (yielded_last ys)) ∙ ap (λ l. l ++ yielded_last ys) (sym e) ∙ h
 
-    pub one_set : {now new : List ℕ} {b : Bool} → b ≡ such w → b ≡ true → SetFrom j now → new ≡ set now w.fact value → SetFrom i new
+pub none_left : (rest ps all : List (List ℕ)) → length rest ≡ 0 → rest ++ ps ≡ all → ps ≡ all
+none_left [] ps all h e = e
+none_left (p ∷ rest) ps all h e = absurd (omega arith)
+
+module _ (such : Window → Bool) (value : ℕ) (fields : List ℕ) where
+  -- The facts of these windows are set, where the windows are such.
+  abbrev pub SetBy : List (List ℕ) → List ℕ → Type 0
+  SetBy ps now = now ≡ fields_by (set_where such value (map window_in ps)) 0 fields
+
+  pub none_set : SetBy [] fields
+  none_set = sym (by_none (set_where such value []) (λ f q. refl) 0 fields)
+
+  module _ (ys : List (Bor (List ℕ))) (y : Bor (List ℕ)) (w : Window) (is : w ≡ window_in y.now) where
+    abbrev Ws : List Window
+    Ws = map window_in (yielded_last ys)
+
+    next : w ∷ Ws ≡ map window_in (yielded_last (ys ++ (y ∷ [])))
+    next = ap (λ x. x ∷ Ws) is ∙ sym (ap (map window_in) (yielded_next ys y))
+
+    pub one_set : {now new : List ℕ} {b : Bool} → b ≡ such w → b ≡ true → SetBy (yielded_last ys) now → new ≡ set now w.fact value → SetBy (yielded_last (ys ++ (y ∷ []))) new
     one_set told so so_far turn =
-        let ws = map window_in (drop (suc i) ps) in
         turn
-        ∙ ap (λ l. set l w.fact value) (so_far ∙ ap (λ k. fields_by (set_where such value (map window_in (drop k ps))) 0 fields) e)
-        ∙ set_by (set_where such value ws) w.fact value fields
-        ∙ by_same (then_set (set_where such value ws) w.fact value) (set_where such value (w ∷ ws)) (set_one such value w ws (sym told ∙ so)) 0 fields
+        ∙ ap (λ l. set l w.fact value) so_far
+        ∙ set_by (set_where such value Ws) w.fact value fields
+        ∙ by_same (then_set (set_where such value Ws) w.fact value) (set_where such value (w ∷ Ws)) (set_one such value w Ws (sym told ∙ so)) 0 fields
         ∙ ap (λ l. fields_by (set_where such value l) 0 fields) next
 
-    pub none_more : {now : List ℕ} {b : Bool} → b ≡ such w → b ≡ false → SetFrom j now → SetFrom i now
+    pub none_more : {now : List ℕ} {b : Bool} → b ≡ such w → b ≡ false → SetBy (yielded_last ys) now → SetBy (yielded_last (ys ++ (y ∷ []))) now
     none_more told not_so so_far =
-        let ws = map window_in (drop (suc i) ps) in
         so_far
-        ∙ ap (λ k. fields_by (set_where such value (map window_in (drop k ps))) 0 fields) e
-        ∙ by_same (set_where such value ws) (set_where such value (w ∷ ws)) (set_none such value w ws (sym told ∙ not_so)) 0 fields
+        ∙ by_same (set_where such value Ws) (set_where such value (w ∷ Ws)) (set_none such value w Ws (sym told ∙ not_so)) 0 fields
         ∙ ap (λ l. fields_by (set_where such value l) 0 fields) next
 
 -- ---- the table that is written
 -- A date that was judged and isn't unknown exists.
 pub known_exists : (d : Date) → bad_date d ≡ false → unknown_date d ≡ false → exists d ≡ true
 known_exists d h k = not-false (exists d) (ap (λ b. not (b || exists d)) (sym k) ∙ h)
-
-fields_append : (xs ys : List ℕ) → table_fields (xs ++ ys) ≡ table_fields xs ++ table_fields ys
-fields_append [] ys = refl
-fields_append (x ∷ xs) ys = ap (λ l. split 2 4 x ++ l) (fields_append xs ys) ∙ sym (append_assoc (split 2 4 x) (table_fields xs) (table_fields ys))
-
-fact_few : (lead : ℕ) → bits 0 fact_bits lead < 1024
-fact_few lead = omega arith
-
-named_few : (list : List ℕ) (f : ℕ) → 1024 ≤ f → named (windows_of list) f ≡ false
-named_few [] f h = refl
-named_few (w ∷ []) f h = refl
-named_few (w ∷ v ∷ rest) f h = ap₂ (λ a b. (a && true) || b) (ne_eqb f (bits 0 fact_bits w) (λ e. omega (arith, fact_few w))) (named_few rest f h)
 
 same_table : (xs ys : List ℕ) → length xs ≡ length ys → table_fields xs ≡ table_fields ys → xs ≡ ys
 same_table xs ys l e = sym (packed_fields xs) ∙ ap₂ (λ n fs. packed 2 4 n fs) l e ∙ packed_fields ys
@@ -170,46 +174,29 @@ module _ (list : List ℕ) (reading today : Date) (table : List ℕ) (j : Judged
   abbrev new : List ℕ
   new = set_fields (named ws) says 0 (table_fields table)
 
-  -- Every field of the output by its fact: those of the table are set, what stands after them keeps its fields.
-  pub finished : {out after : List ℕ} (g : ℕ → ℕ → ℕ) → table_bytes ≤ length out → length after ≡ length out → table_fields after ≡ fields_by g 0 (table_fields (table ++ drop (length table) out)) →
-      ((f q : ℕ) → g f q ≡ cond (named ws f) (presence_field (says f)) q) → Windowed list reading today table out after
-  finished {out} {after} g room same told each =
-      record {
-        is = same_table after (windowed_table list reading today table ++ drop table_bytes out) (same ∙ sym lengths)
-            (told ∙ ap (λ l. fields_by g 0 (table_fields l)) copied ∙ ap (fields_by g 0) (fields_append table (drop table_bytes out)) ∙ split_there ∙ ap₂ (λ a b. a ++ b) front back ∙ sym (fields_append (windowed_table list reading today table) (drop table_bytes out)));
-      }
+  -- Each field of the table is set by its fact.
+  pub finished : {after : List ℕ} (g : ℕ → ℕ → ℕ) → length after ≡ table_bytes → table_fields after ≡ fields_by g 0 (table_fields table) →
+      ((f q : ℕ) → g f q ≡ cond (named ws f) (presence_field (says f)) q) → after ≡ windowed_table list reading today table
+  finished {after} g long told each =
+      same_table after (windowed_table list reading today table) (long ∙ sym (length_packed 2 4 table_bytes new))
+      (told
+      ∙ by_same g (λ f q. cond (named ws f) (presence_field (says f)) q) each 0 (table_fields table)
+      ∙ sym (set_fields_by (named ws) says 0 (table_fields table))
+      ∙ sym (fields_packed table_bytes new (narrow_set_fields (named ws) says 0 (table_fields table) j.faultless) (omega (arith, length_set_fields (named ws) says 0 (table_fields table), count))))
     where
-      copied : table ++ drop (length table) out ≡ table ++ drop table_bytes out
-      copied = ap (λ n. table ++ drop n out) j.long
-
       count : length (table_fields table) ≡ 1024
       count = omega (arith, length_fields table, j.long)
-
-      lengths : length (windowed_table list reading today table ++ drop table_bytes out) ≡ length out
-      lengths = omega (arith, length-append (windowed_table list reading today table) (drop table_bytes out), length_packed 2 4 table_bytes new, length-drop table_bytes out)
-
-      split_there : fields_by g 0 (table_fields table ++ table_fields (drop table_bytes out)) ≡ fields_by g 0 (table_fields table) ++ fields_by g 1024 (table_fields (drop table_bytes out))
-      split_there = by_append g 0 1024 (table_fields table) (table_fields (drop table_bytes out)) (omega (arith, count))
-
-      front : fields_by g 0 (table_fields table) ≡ table_fields (windowed_table list reading today table)
-      front =
-          by_same g (λ f q. cond (named ws f) (presence_field (says f)) q) each 0 (table_fields table)
-          ∙ sym (set_fields_by (named ws) says 0 (table_fields table))
-          ∙ sym (fields_packed table_bytes new (narrow_set_fields (named ws) says 0 (table_fields table) j.faultless) (omega (arith, length_set_fields (named ws) says 0 (table_fields table), count)))
-
-      back : fields_by g 1024 (table_fields (drop table_bytes out)) ≡ table_fields (drop table_bytes out)
-      back = by_none g 1024 (λ f q k. each f q ∙ ap (λ b. cond b (presence_field (says f)) q) (named_few list f k)) (table_fields (drop table_bytes out))
 
   -- With an unknown date the value is Unknown; with two known ones Absent first, and then what the windows say.
   pub unknown_marked : (unknown_date reading || unknown_date today) ≡ true → (f q : ℕ) → marked 2 ws f q ≡ cond (named ws f) (presence_field (says f)) q
   unknown_marked h f q = ap (λ b. cond (named ws f) (presence_field (cond b unknown (decided reading today ws f))) q) (sym h)
 
   -- What the loops leave, one after the other.
-  pub all_loops : (days years : ℕ) → days ≡ number_of (shown (age_in_days reading today)) → years ≡ number_of (shown (age_in_years reading today)) → (unknown_date reading || unknown_date today) ≡ false →
-      (f q : ℕ) → set_where (held_as 0 days years) 0 ws f (set_where (held_as 1 days years) 1 ws f (marked 0 ws f q)) ≡ cond (named ws f) (presence_field (says f)) q
-  all_loops days years d y h f q =
-      ap₂ (λ a b. set_where (held_as 0 a b) 0 ws f (set_where (held_as 1 a b) 1 ws f (marked 0 ws f q))) d y
-      ∙ decided_fields reading today list f q
+  pub all_loops : (ages : Ages) → ages ≡ ages_of reading today → (unknown_date reading || unknown_date today) ≡ false →
+      (f q : ℕ) → set_where (held_as Closed ages) 0 ws f (set_where (held_as Open ages) 1 ws f (marked 0 ws f q)) ≡ cond (named ws f) (presence_field (says f)) q
+  all_loops ages e h f q =
+      ap (λ a. set_where (held_as Closed a) 0 ws f (set_where (held_as Open a) 1 ws f (marked 0 ws f q))) e
+      ∙ decided_fields reading today ws f q
       ∙ ap (λ b. cond (named ws f) (presence_field (cond b unknown (decided reading today ws f))) q) (sym h)
 
 -- ---- the answer
@@ -218,8 +205,8 @@ module _ (list : List ℕ) (reading today : Date) (table out : List ℕ) where
     accepted : (b : Bool) → leb table_bytes (length out) ≡ b → apply_windows list reading today table (length out) ≡ cond b (wrote (windowed_table list reading today table)) (refusal 11)
     accepted b h = ap₂ (λ o c. unless_fault o (cond c (wrote (windowed_table list reading today table)) (refusal 11))) e h
 
-    pub room_enough : {after : List ℕ} → table_bytes ≤ length out → Windowed list reading today table out after → Answered (apply_windows list reading today table (length out)) out after (Ok table_bytes)
-    room_enough {after} h w =
+    pub room_enough : {written : List ℕ} → table_bytes ≤ length out → written ≡ windowed_table list reading today table → Answered (apply_windows list reading today table (length out)) out (written ++ drop table_bytes out) (Ok table_bytes)
+    room_enough {written} h w =
         let long : length (windowed_table list reading today table) ≡ table_bytes = length_packed 2 4 table_bytes (set_fields (named (windows_of list)) (becomes reading today (windows_of list)) 0 (table_fields table)) in
-        subst (λ a. Answered a out after (Ok table_bytes)) (sym (accepted true (le-leb table_bytes (length out) h)))
-        (record { answer_is = ap Ok (sym long); output_is = w.is ∙ ap (λ n. windowed_table list reading today table ++ drop n out) (sym long) })
+        subst (λ a. Answered a out (written ++ drop table_bytes out) (Ok table_bytes)) (sym (accepted true (le-leb table_bytes (length out) h)))
+        (record { answer_is = ap Ok (sym long); output_is = ap₂ (λ l n. l ++ drop n out) w (sym long) })

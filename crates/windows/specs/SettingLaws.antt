@@ -1,15 +1,16 @@
 -- Fields set one by one, and all of them at once.
-use Rattle.std.specs.Prelude.{◌≡◌, refl, Bool, true, false, cond, not, ◌&&◌, ◌||◌, List, [], ◌∷◌, ◌++◌, ℕ, zero, suc, ◌+◌, ◌/◌, ◌%◌, ◌^◌, ◌≤◌, ◌<◌, eqb, leb, ℤ, pos, negsuc, length, get_or, set}
+use Rattle.std.specs.Prelude.{◌≡◌, refl, Bool, true, false, cond, not, ◌&&◌, ◌||◌, List, [], ◌∷◌, ◌++◌, ℕ, zero, suc, ◌+◌, ◌/◌, ◌%◌, ◌<◌, eqb, ℤ, pos, negsuc, length, get_or, set}
 use Rattle.std.proofs.Common.{sym, ◌∙◌, ap, ap₂, arith, eq-eqb, ne_eqb}
 use Rattle.std.proofs.Math.Bool.{and-true, and-false}
-use Rattle.std.proofs.lemmas.Bool.{lt-leb}
-use Rattle.model.specs.Fields.{bits, split}
+use Rattle.model.specs.Fields.{split}
 use Rattle.model.specs.Facts.{Presence, table_fields}
 use Rattle.model.specs.Writing.{presence_field}
 use Rattle.model.specs.Calendar.{Date, age_in_days, age_in_years}
-use Rattle.model.specs.Windows.{Window, age_bits, window_of, windows_of, within, holds_age, open_holds, closed_holds, verdict, decided, some_of, named, set_fields}
+use Rattle.model.specs.Windows.{Window, within, holds_age, open_holds, closed_holds, verdict, decided, some_of, named, set_fields}
 use Rattle.calendar.specs.Answers.{shown}
-use Rattle.windows.specs.Setting.{number_of, between, held_by, held_as, fields_by, set_where, marked}
+use Rattle.windows.specs.declared.Ages.{Ages}
+use Rattle.windows.specs.declared.Verdict.TheVariants.{Closed, Open}
+use Rattle.windows.specs.Setting.{between, held_by, held_as, fields_by, set_where, marked}
 
 -- ---- every field by its fact
 module _ (g h : ℕ → ℕ → ℕ) where
@@ -22,13 +23,9 @@ module _ (g h : ℕ → ℕ → ℕ) where
   by_both a (q ∷ qs) = ap (λ l. g a (h a q) ∷ l) (by_both (suc a) qs)
 
 module _ (g : ℕ → ℕ → ℕ) where
-  pub by_none : (a : ℕ) → ((f q : ℕ) → a ≤ f → g f q ≡ q) → (qs : List ℕ) → fields_by g a qs ≡ qs
-  by_none a e [] = refl
-  by_none a e (q ∷ qs) = ap₂ (λ x l. x ∷ l) (e a q (omega arith)) (by_none (suc a) (λ f p k. e f p (omega arith)) qs)
-
-  pub by_append : (a b : ℕ) (xs ys : List ℕ) → a + length xs ≡ b → fields_by g a (xs ++ ys) ≡ fields_by g a xs ++ fields_by g b ys
-  by_append a b [] ys e = ap (λ n. fields_by g n ys) (let z : a ≡ b = omega arith in z)
-  by_append a b (x ∷ xs) ys e = ap (λ l. g a x ∷ l) (by_append (suc a) b xs ys (omega arith))
+  pub by_none : ((f q : ℕ) → g f q ≡ q) → (a : ℕ) (qs : List ℕ) → fields_by g a qs ≡ qs
+  by_none e a [] = refl
+  by_none e a (q ∷ qs) = ap₂ (λ x l. x ∷ l) (e a q) (by_none e (suc a) qs)
 
   -- One field set after the others.
   abbrev pub then_set : ℕ → ℕ → ℕ → ℕ → ℕ
@@ -65,21 +62,17 @@ module _ (such : Window → Bool) (value : ℕ) (w : Window) (ws : List Window) 
   set_none h f q = ap (λ b. cond (b || some_of such ws f) value q) (sym (and-false (eqb f w.fact)) ∙ ap (λ b. eqb f w.fact && b) (sym h))
 
 -- ---- the rule of the model
-between_is : (first last : ℕ) → last < 2 ^ age_bits → (z : ℤ) → between first last (number_of (shown z)) ≡ within first last z
-between_is first last h (pos n) = refl
-between_is first last h (negsuc n) = ap (λ b. leb first (2 ^ age_bits) && b) (lt-leb (2 ^ age_bits) last h) ∙ and-false (leb first (2 ^ age_bits))
+between_is : (first last : ℕ) (z : ℤ) → between first last (shown z) ≡ within first last z
+between_is first last (pos n) = refl
+between_is first last (negsuc n) = refl
 
-number_of_lem : (b : Bool) (x y : ℤ) → cond b (number_of (shown x)) (number_of (shown y)) ≡ number_of (shown (cond b x y))
-number_of_lem true x y = refl
-number_of_lem false x y = refl
+shown_either : (b : Bool) (x y : ℤ) → cond b (shown x) (shown y) ≡ shown (cond b x y)
+shown_either true x y = refl
+shown_either false x y = refl
 
-last_few : (ages : ℕ) → bits 0 age_bits ages < 2 ^ age_bits
-last_few ages = omega arith
-
-some_same : (such also : Window → Bool) → ((lead ages : ℕ) → such (window_of lead ages) ≡ also (window_of lead ages)) → (list : List ℕ) (f : ℕ) → some_of such (windows_of list) f ≡ some_of also (windows_of list) f
+some_same : (such also : Window → Bool) → ((w : Window) → such w ≡ also w) → (ws : List Window) (f : ℕ) → some_of such ws f ≡ some_of also ws f
 some_same such also h [] f = refl
-some_same such also h (w ∷ []) f = refl
-some_same such also h (w ∷ v ∷ rest) f = ap₂ (λ a b. (eqb f (window_of w v).fact && a) || b) (h w v) (some_same such also h rest f)
+some_same such also h (w ∷ ws) f = ap₂ (λ a b. (eqb f w.fact && a) || b) (h w) (some_same such also h ws f)
 
 -- Of a fact that isn't named no window says anything.
 none_named : (such : Window → Bool) (ws : List Window) (f : ℕ) → named ws f ≡ false → some_of such ws f ≡ false
@@ -89,14 +82,6 @@ none_named such (w ∷ ws) f h = by (eqb f w.fact) h (none_named such ws f)
     by : (its : Bool) → ((its && true) || named ws f) ≡ false → (named ws f ≡ false → some_of such ws f ≡ false) → ((its && such w) || some_of such ws f) ≡ false
     by true k rest = cc
     by false k rest = rest k
-
-opens_is : (o : Bool) → eqb (presence_field (verdict o)) 1 ≡ o
-opens_is true = refl
-opens_is false = refl
-
-closes_is : (o : Bool) → eqb (presence_field (verdict o)) 0 ≡ not o
-closes_is true = refl
-closes_is false = refl
 
 -- Absent for a named fact, then Present where an open window says it, then Absent where a closed one does.
 in_turn : (is_named opened closed : Bool) (q : ℕ) → (is_named ≡ false → opened ≡ false) → (is_named ≡ false → closed ≡ false) → cond closed 0 (cond opened 1 (cond is_named 0 q)) ≡ cond is_named (presence_field (verdict (opened && not closed))) q
@@ -109,25 +94,20 @@ in_turn false false true q o c = let z : true ≡ false = c refl in cc
 in_turn false false false q o c = refl
 
 module _ (reading today : Date) where
-  abbrev days : ℕ
-  days = number_of (shown (age_in_days reading today))
+  abbrev pub ages_of : Ages
+  ages_of = record { days = shown (age_in_days reading today); years = shown (age_in_years reading today) }
 
-  abbrev years : ℕ
-  years = number_of (shown (age_in_years reading today))
+  held_is : (w : Window) → held_by ages_of w ≡ holds_age reading today w
+  held_is w =
+      ap (between w.first w.last) (shown_either w.in_years (age_in_years reading today) (age_in_days reading today))
+      ∙ between_is w.first w.last (cond w.in_years (age_in_years reading today) (age_in_days reading today))
 
-  held_is : (lead ages : ℕ) → held_by days years (window_of lead ages) ≡ holds_age reading today (window_of lead ages)
-  held_is lead ages =
-      let w = window_of lead ages in
-      ap (between w.first w.last) (number_of_lem w.in_years (age_in_years reading today) (age_in_days reading today))
-      ∙ between_is w.first w.last (last_few ages) (cond w.in_years (age_in_years reading today) (age_in_days reading today))
-
-  pub decided_fields : (list : List ℕ) (f q : ℕ) →
-      set_where (held_as 0 days years) 0 (windows_of list) f (set_where (held_as 1 days years) 1 (windows_of list) f (marked 0 (windows_of list) f q)) ≡ cond (named (windows_of list) f) (presence_field (decided reading today (windows_of list) f)) q
-  decided_fields list f q =
-      let ws = windows_of list in
+  pub decided_fields : (ws : List Window) (f q : ℕ) →
+      set_where (held_as Closed ages_of) 0 ws f (set_where (held_as Open ages_of) 1 ws f (marked 0 ws f q)) ≡ cond (named ws f) (presence_field (decided reading today ws f)) q
+  decided_fields ws f q =
       ap₂ (λ c o. cond c 0 (cond o 1 (marked 0 ws f q)))
-      (some_same (held_as 0 days years) (closed_holds reading today) (λ lead ages. ap₂ (λ a b. a && b) (closes_is (window_of lead ages).opens) (held_is lead ages)) list f)
-      (some_same (held_as 1 days years) (open_holds reading today) (λ lead ages. ap₂ (λ a b. a && b) (opens_is (window_of lead ages).opens) (held_is lead ages)) list f)
+      (some_same (held_as Closed ages_of) (closed_holds reading today) (λ w. ap (λ b. not w.opens && b) (held_is w)) ws f)
+      (some_same (held_as Open ages_of) (open_holds reading today) (λ w. ap (λ b. w.opens && b) (held_is w)) ws f)
       ∙ in_turn (named ws f) (some_of (open_holds reading today) ws f) (some_of (closed_holds reading today) ws f) q (none_named (open_holds reading today) ws f) (none_named (closed_holds reading today) ws f)
 
 -- ---- one field of a table

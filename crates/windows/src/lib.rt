@@ -1,27 +1,27 @@
 // Retention windows: the facts that a list names, set in a table by the age of a reading.
 #![tactic(auto)]
 
-ghost use Rattle.std.specs.Prelude.{◌≡◌, Bool, ◌/◌, ◌≤◌, ◌<◌, length, map, set};
+ghost use Rattle.std.specs.Prelude.{◌≡◌, Bool, ◌<◌, length, map, set};
 ghost use Rattle.std.proofs.Math.Option.{none};
 ghost use Rattle.model.specs.Fields.{split};
-ghost use Rattle.model.specs.Facts.{table_bytes, table_fields};
-ghost use Rattle.model.specs.Windows.{Window as Meant, verdict, bad_list, windows_fault, apply_windows};
-ghost use Rattle.facts.specs.Answers.{presence_of, presence_number};
+ghost use Rattle.model.specs.Facts.{fact_count, table_fields};
+ghost use Rattle.model.specs.Windows.{Window as Meant, bad_list, windows_fault, windowed_table, apply_windows};
+ghost use Rattle.facts.specs.Answers.{presence_number};
 ghost use Rattle.answer.specs.Answers.{Answered};
 ghost use Rattle.refusal.specs.Numbers.{refused};
 ghost use Rattle.calendar.specs.Answers.{date_of};
 ghost use Rattle.windows.specs.declared.Window.{Window as Listed};
-ghost use Rattle.windows.specs.Setting.{number_of, Reads, window_in, window_meant, right_in, all_right, held_by, held_as, fields_by, set_where, marked, Windowed};
+ghost use Rattle.windows.specs.Setting.{Reads, window_in, window_meant, right_in, all_right, counted_in, field_of, held_by, held_as, fields_by, set_where, marked};
 
 use answer::Answer;
 use calendar::Date;
 use facts::{Presence, TableKind};
 use refusal::Refusal;
 
-// A window's first word: its verdict above its unit, and a fact below twenty zero bits.
-const VERDICT: u32 = 2147483648;
+// A window's first word: its verdict above its unit, and a fact below twenty zero bits, a field of ABOVE_ZERO values.
+const VERDICT_BIT: u32 = 2147483648;
 
-const UNIT: u32 = 1073741824;
+const UNIT_BIT: u32 = 1073741824;
 
 const ABOVE_ZERO: u32 = 1048576;
 
@@ -31,34 +31,78 @@ const FIRST_AGE: u32 = 65536;
 // At most 32 windows.
 const LIST_WORDS: usize = 64;
 
-// A window of the list: while an age of its unit lies between two ages, both included, its fact is Present if it is open, Absent if it is closed.
-// Verdict and unit are one bit of the word each, and flags as in the model's `Window`.
+// What a window makes its fact: Present if it is open, Absent if it is closed. No window makes it Unknown, so this is no `Presence`.
+#[derive(Clone, Copy, PartialEq, Eq)]
+enum Verdict {
+    Closed,
+    Open,
+}
+
+impl Verdict {
+    fn presence(self) -> Presence
+        ensures { presence_number result ≡ field_of self }
+    {
+        match self {
+            Verdict::Closed => Presence::Absent,
+            Verdict::Open => Presence::Present,
+        }
+    }
+}
+
+// What a window's ages are counted in: days, or completed years.
+#[derive(Clone, Copy)]
+enum Unit {
+    Days,
+    Years,
+}
+
+// A window of the list: while an age of its unit lies between two ages, both included, its fact is as its verdict says.
 #[derive(Clone, Copy)]
 struct Window {
-    opens: bool,
-    in_years: bool,
+    verdict: Verdict,
+    unit: Unit,
     zero: u32,
     fact: u32,
     first: u32,
     last: u32,
 }
 
-// The age of a reading in either unit, as the windows take it.
+// The age of a reading in either unit: none where it is below 0, which lies in no window.
 #[derive(Clone, Copy)]
 struct Ages {
-    days: u32,
-    years: u32,
+    days: Option<u32>,
+    years: Option<u32>,
+}
+
+impl Ages {
+    // The one that is counted in the unit.
+    fn counted_in(self, unit: Unit) -> Option<u32>
+        ensures { result ≡ counted_in unit self }
+    {
+        match unit {
+            Unit::Days => self.days,
+            Unit::Years => self.years,
+        }
+    }
 }
 
 impl Window {
-    // Of its two words: verdict (1), unit (1), zero (20), fact (10); first and last age (16 each).
+    // Of its two words: verdict (1), unit (1), zero (20), fact (10); first and last age (16 each). No `From`: two words may be no window.
     fn of(words: [u32; 2]) -> Window
         ensures { Reads words result }
     {
         let [lead, ages] = words;
+        let verdict = match lead / VERDICT_BIT {
+            0 => Verdict::Closed,
+            _ => Verdict::Open,
+        };
+        let unit = match lead / UNIT_BIT % 2 {
+            0 => Unit::Days,
+            _ => Unit::Years,
+        };
         Window {
-            opens: lead / VERDICT == 1,
-            in_years: lead / UNIT % 2 == 1,
+            verdict,
+            unit,
             zero: lead / policy_model::FACTS % ABOVE_ZERO,
             fact: lead % policy_model::FACTS,
             first: ages / FIRST_AGE,
@@ -66,30 +110,21 @@ impl Window {
         }
     }
 
-    // What it makes its fact.
-    fn verdict(self) -> Presence
-        ensures { presence_of result ≡ verdict self.opens }
+    // Whether it holds the age, counted in its own unit.
+    fn holds(self, ages: Ages) -> bool
+        ensures { result ≡ held_by ages (window_meant self) }
     {
-        if self.opens {
-            Presence::Present
-        } else {
-            Presence::Absent
+        match ages.counted_in(self.unit) {
+            Some(age) => self.first <= age && age <= self.last,
+            None => false,
         }
     }
 
-    // Whether it holds the age, taken in its own unit.
-    fn holds(self, age: Ages) -> bool
-        ensures { result ≡ held_by age.days age.years (window_meant self) }
+    // Whether it says the verdict: only while it holds the age.
+    fn says(self, verdict: Verdict, ages: Ages) -> bool
+        ensures { result ≡ held_as verdict ages (window_meant self) }
     {
-        let age = if self.in_years { age.years } else { age.days };
-        self.first <= age && age <= self.last
-    }
-
-    // Whether it makes its fact the value: only while it holds the age.
-    fn says(self, value: Presence, age: Ages) -> bool
-        ensures { result ≡ held_as (presence_number value) age.days age.years (window_meant self) }
-    {
-        self.verdict() == value && self.holds(age)
+        self.verdict == verdict && self.holds(ages)
     }
 }
 
@@ -119,13 +154,6 @@ fn is_bad_list(list: &[u32]) -> bool
     !all_right(windows)
 }
 
-// An age as the loops take it. That of a reading after today becomes one above every last age, so it lies in no window.
-fn number(age: Option<u32>) -> u32
-    ensures { result ≡ number_of age }
-{
-    age.unwrap_or(FIRST_AGE)
-}
-
 // A byte of a table with a value in one of its four fields: 85 times the value has it in all four. The place is a shift, so nothing branches on it.
 fn with_field(byte: u8, place: u32, value: u8) -> u8
     requires { (place < 4) × (value < 4) }
@@ -136,8 +164,9 @@ fn with_field(byte: u8, place: u32, value: u8) -> u8
 }
 
 // Sets the field of a fact.
-fn set_field(out: &mut [u8], fact: u32, value: Presence)
-    requires { fact / 4 < length out.old }
+#[tactic(auto, using(crate::specs::SettingLaws::fields_set))]
+fn set_field(out: &mut [u8; facts::TABLE_BYTES], fact: u32, value: Presence)
+    requires { fact < fact_count }
     ensures { table_fields out.new ≡ set (table_fields out.old) fact (presence_number value) }
 {
     let at = (fact / 4) as usize;
@@ -145,12 +174,17 @@ fn set_field(out: &mut [u8], fact: u32, value: Presence)
 }
 
 // Sets every fact of which some window is such a one to a value.
-fn set_each<F: Fn(Window) -> bool>(windows: &[[u32; 2]], value: Presence, such: F, out: &mut [u8])
-    requires { ((w : Listed) → F.pre such w) × (table_bytes ≤ length out.old) }
+fn set_each<F: Fn(Window) -> bool>(
+    windows: &[[u32; 2]],
+    value: Presence,
+    such: F,
+    out: &mut [u8; facts::TABLE_BYTES],
+)
+    requires { (w : Listed) → F.pre such w }
     ensures { (f : Meant → Bool) → ((w : Listed) (r : Bool) → F.post such w r → r ≡ f (window_meant w)) → table_fields out.new ≡ fields_by (set_where f (presence_number value) (map window_in windows.now)) 0 (table_fields out.old) }
 {
-    for i in (0..windows.len()).rev() {
-        let window = Window::of(windows[i]);
+    for words in windows.iter().rev() {
+        let window = Window::of(*words);
         if such(window) {
             set_field(out, window.fact, value);
         }
@@ -158,19 +192,22 @@ fn set_each<F: Fn(Window) -> bool>(windows: &[[u32; 2]], value: Presence, such: 
 }
 
 // Sets every fact that a window names to one value.
-fn mark(windows: &[[u32; 2]], value: Presence, out: &mut [u8])
-    requires { table_bytes ≤ length out.old }
+fn mark(windows: &[[u32; 2]], value: Presence, out: &mut [u8; facts::TABLE_BYTES])
     ensures { table_fields out.new ≡ fields_by (marked (presence_number value) (map window_in windows.now)) 0 (table_fields out.old) }
 {
     set_each(windows, value, |_| true, out);
 }
 
-// Sets every fact of which some window says a value to this value.
-fn decide(windows: &[[u32; 2]], value: Presence, age: Ages, out: &mut [u8])
-    requires { table_bytes ≤ length out.old }
-    ensures { table_fields out.new ≡ fields_by (set_where (held_as (presence_number value) age.days age.years) (presence_number value) (map window_in windows.now)) 0 (table_fields out.old) }
+// Sets every fact of which some window says the verdict to what that makes it.
+fn decide(windows: &[[u32; 2]], verdict: Verdict, ages: Ages, out: &mut [u8; facts::TABLE_BYTES])
+    ensures { table_fields out.new ≡ fields_by (set_where (held_as verdict ages) (field_of verdict) (map window_in windows.now)) 0 (table_fields out.old) }
 {
-    set_each(windows, value, |window| window.says(value, age), out);
+    set_each(
+        windows,
+        verdict.presence(),
+        |window| window.says(verdict, ages),
+        out,
+    );
 }
 
 // Why a call is turned back: for a date, the list or the table. This and `write` take one by one what `apply_windows` is given: a struct would be made for
@@ -189,23 +226,23 @@ fn check(list: &[u32], reading: Date, today: Date, facts: &[u8]) -> Result<(), R
 
 // Copies the table, and sets the facts that the list names: to Unknown if either date is. Else all of them are Absent first, then those Present of which an
 // open window holds the age, and last those Absent of which a closed one does, which goes before open ones.
-fn write(list: &[u32], reading: Date, today: Date, facts: &[u8], out: &mut [u8])
-    requires { (windows_fault list.now (date_of reading) (date_of today) facts.now ≡ none) × (table_bytes ≤ length out.old) }
-    ensures { Windowed list.now (date_of reading) (date_of today) facts.now out.old out.new }
+fn write(list: &[u32], reading: Date, today: Date, facts: &[u8], out: &mut [u8; facts::TABLE_BYTES])
+    requires { windows_fault list.now (date_of reading) (date_of today) facts.now ≡ none }
+    ensures { out.new ≡ windowed_table list.now (date_of reading) (date_of today) facts.now }
 {
-    out[..facts.len()].copy_from_slice(facts);
+    out.copy_from_slice(facts);
     let windows = list.as_chunks::<2>().0;
     if reading.is_unknown() || today.is_unknown() {
         mark(windows, Presence::Unknown, out);
         return;
     }
-    let age = Ages {
-        days: number(reading.age_in_days(today)),
-        years: number(reading.age_in_years(today)),
+    let ages = Ages {
+        days: reading.age_in_days(today),
+        years: reading.age_in_years(today),
     };
     mark(windows, Presence::Absent, out);
-    decide(windows, Presence::Present, age, out);
-    decide(windows, Presence::Absent, age, out);
+    decide(windows, Verdict::Open, ages, out);
+    decide(windows, Verdict::Closed, ages, out);
 }
 
 // Everything is judged before a byte changes.
@@ -219,9 +256,9 @@ pub fn apply_windows(
     ensures { Answered (apply_windows list.now (date_of reading) (date_of today) facts.now (length out.old)) out.old out.new result }
 {
     check(list, reading, today, facts)?;
-    if out.len() < facts::TABLE_BYTES {
+    let Some(table) = out.first_chunk_mut() else {
         return Err(Refusal::Room);
-    }
-    write(list, reading, today, facts, out);
+    };
+    write(list, reading, today, facts, table);
     Ok(facts::TABLE_BYTES)
 }

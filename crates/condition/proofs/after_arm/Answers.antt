@@ -1,15 +1,19 @@
--- `condition::after_arm` meets its contract: a Not, an arm that decides, the last arm, or one with arms after it. Assumes nothing.
+-- `condition::after_arm` meets its contract: a Not, one with arms after it, an arm that decides, or the last arm. Assumes nothing.
+use borrow.Author.Tests.{not-true, not-false}
 use Rattle.condition.proofs.Walking.{settles_not, settles_decided, settles_ended, settles_more}
 use Rattle.condition.proofs.after_arm.Goals as goal
+use Rattle.condition.proofs.after_arm.Goals.{else-value-stop-via-then-value-stop+else-left-ne0, else-value-stop-via-else-value-stop}
 
 pub returns-in-Not : goal.returns-in-Not
-returns-in-Not c = rw c.in-Not.is (settles_not _ _ _)
+returns-in-Not c = rw c.in-Not.is (settles_not _ _ _ _)
 
-pub returns-then-value-stop : goal.returns-then-value-stop
-returns-then-value-stop c = rw c.in-Arms.is (settles_decided _ _ _ _ _ _ c.if-value-stop.true c.skip_conditions.ensures)
+pub returns-then-left-ne0 : goal.returns-then-left-ne0
+returns-then-left-ne0 c = rw c.in-Arms.is (settles_more _ _ _ _ _ (not-true _ c.if-value-stop.true) c.if-left-ne0.true)
 
-pub returns-then-left-eq0 : goal.returns-then-left-eq0
-returns-then-left-eq0 c = rw c.in-Arms.is (settles_ended _ _ _ _ _ c.if-left-eq0.true)
-
-pub returns-else-left-eq0 : goal.returns-else-left-eq0
-returns-else-left-eq0 c = rw c.in-Arms.is (settles_more _ _ _ _ _ c.if-value-stop.false c.if-left-eq0.false)
+pub returns-else-value-stop : goal.returns-else-value-stop
+returns-else-value-stop c =
+    rw c.in-Arms.is
+    (elim c.else-value-stop.branch [
+      | else-value-stop-via-then-value-stop+else-left-ne0 w ↦ settles_ended _ _ _ _ _ _ _ c.skip_conditions.ensures w.if-left-ne0.false
+      | else-value-stop-via-else-value-stop w ↦ settles_decided _ _ _ _ _ _ _ c.skip_conditions.ensures (not-false _ w.if-value-stop.false)
+    ])

@@ -12,6 +12,6 @@ loop-j-preserved c =
     let j = c.loop-j.j in
     let long = packed_number obligation_bits values in
     let word =
-    obligations_word values j (omega arith) c.obligation_or_zero.ensures c.obligation_or_zero-in-loop-j.ensures c.obligation_or_zero-in-loop-j-2.ensures
-    c.obligation_or_zero-in-loop-j-3.ensures c.obligations_word.ensures in
+    obligations_word values j (omega arith) c.value_at.ensures c.value_at-in-loop-j.ensures c.value_at-in-loop-j-2.ensures
+    c.value_at-in-loop-j-3.ensures c.obligations_word.ensures in
     sofar_more _ _ _ j _ c.loop-j.invariant (omega arith) (omega arith) word

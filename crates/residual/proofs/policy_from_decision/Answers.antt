@@ -8,9 +8,9 @@ use Rattle.residual.proofs.Laying.{node_long, node_no_room, node_written}
 use Rattle.residual.proofs.Short.{node_bare, node_on_fact}
 use Rattle.residual.proofs.policy_from_decision.Goals as goal
 
-pub returns-then-words-at : goal.returns-then-words-at
-returns-then-words-at c =
-    node_bare (c.from_one_node.ensures c.if-from_one_node.true) c.if-words-at.true c.lay_bare.ensures
+pub returns-in_default : goal.returns-in_default
+returns-in_default c =
+    node_bare (c.from_one_node.ensures c.if-from_one_node.true) c.in_default.ensures c.lay_bare.ensures
 
 pub bounds-words-at : goal.bounds-words-at
 bounds-words-at c =
@@ -18,7 +18,7 @@ bounds-words-at c =
 
 pub returns-then-plain_grant : goal.returns-then-plain_grant
 returns-then-plain_grant c =
-    node_on_fact (c.from_one_node.ensures c.if-from_one_node.true) (sym c.plain_grant.ensures ∙ c.if-plain_grant.true) c.lay_on_fact.ensures
+    node_on_fact (c.from_one_node.ensures c.if-from_one_node.true) c.in-Some.ensures (sym c.plain_grant.ensures ∙ c.if-plain_grant.true) c.lay_on_fact.ensures
 
 pub returns-then-not-countable : goal.returns-then-not-countable
 returns-then-not-countable c =

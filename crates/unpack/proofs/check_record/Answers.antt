@@ -4,33 +4,11 @@ use Rattle.refusal.specs.Numbers.{by_number}
 use Rattle.model.specs.Bits.{run_of}
 use Rattle.model.specs.Reading.{refuse}
 use Rattle.unpack.specs.StepLaws.{kind_first}
-use Rattle.unpack.specs.RecordLaws.{record_ended, record_bad, record_short}
+use Rattle.unpack.specs.RecordLaws.{record_short}
 use Rattle.unpack.proofs.Fields.{bits_known}
 use Rattle.unpack.proofs.Records.{says_resolved, says_pending}
 use Rattle.unpack.proofs.Steps.{run_ended, run_there}
 use Rattle.unpack.proofs.check_record.Goals as goal
-
-pub returns-in_err-inside : goal.returns-in_err-inside
-returns-in_err-inside c =
-    let run = run_of c.args.bytes.now in
-    let bits = bits_known c.args.bytes.now (λ i. omega (arith, c.type_inv.bytes i)) in
-    let x = run_ended run 4 _ c.in_err-inside.ensures in
-    let e : c.from_residual.result ≡ Err c.in_err-inside.field-0.0 = search rules in
-    rw e (record_ended run bits x.1 ∙ ap refuse (sym x.0))
-
-pub returns-then-kind-lt-KIND_RESOLVED : goal.returns-then-kind-lt-KIND_RESOLVED
-returns-then-kind-lt-KIND_RESOLVED c =
-    let run = run_of c.args.bytes.now in
-    let bits = bits_known c.args.bytes.now (λ i. omega (arith, c.type_inv.bytes i)) in
-    record_bad run bits (run_there run 4 c.in_ok-inside.ensures) (omega (arith, c.bits_at-kind.ensures.is, kind_first run bits, c.if-kind-lt-KIND_RESOLVED.true))
-
-pub returns-in_err-inside-2 : goal.returns-in_err-inside-2
-returns-in_err-inside-2 c =
-    let run = run_of c.args.bytes.now in
-    let bits = bits_known c.args.bytes.now (λ i. omega (arith, c.type_inv.bytes i)) in
-    let x = run_ended run 32 _ c.in_err-inside-2.ensures in
-    let e : c.from_residual-in_err-inside-2.result ≡ Err c.in_err-inside-2.field-0.0 = search rules in
-    rw e (record_short run bits (omega (arith, c.bits_at-kind.ensures.is, kind_first run bits, c.if-kind-lt-KIND_RESOLVED.false)) (omega (arith, x.1)) ∙ ap refuse (sym x.0))
 
 pub returns-in_err-inside-3 : goal.returns-in_err-inside-3
 returns-in_err-inside-3 c =
@@ -38,25 +16,21 @@ returns-in_err-inside-3 c =
     let bits = bits_known c.args.bytes.now (λ i. omega (arith, c.type_inv.bytes i)) in
     let x = run_ended run _ _ c.in_err-inside-3.ensures in
     let e : c.from_residual-in_err-inside-3.result ≡ Err c.in_err-inside-3.field-0.0 = search rules in
-    rw e (record_short run bits (omega (arith, c.bits_at-kind.ensures.is, kind_first run bits, c.if-kind-lt-KIND_RESOLVED.false)) (omega (arith, x.1, c.bits_at-count.ensures.is)) ∙ ap refuse (sym x.0))
-
-pub invariant_of-place : goal.invariant_of-place
-invariant_of-place c =
-    record { octets = λ i. omega (arith, c.type_inv.bytes i); short = c.requires; inside = run_there (run_of c.args.bytes.now) _ c.in_ok-inside-3.ensures; fewer = omega (arith, c.entry_words.ensures) }
+    rw e (record_short run bits (omega (arith, c.bits-kind.ensures.is, kind_first run bits, c.if-kind-lt-KIND_RESOLVED.false)) (omega (arith, x.1, c.bits-count.ensures.is)) ∙ ap refuse (sym x.0))
 
 pub returns-then-kind-eq-KIND_RESOLVED : goal.returns-then-kind-eq-KIND_RESOLVED
 returns-then-kind-eq-KIND_RESOLVED c =
     let run = run_of c.args.bytes.now in
     let bits = bits_known c.args.bytes.now (λ i. omega (arith, c.type_inv.bytes i)) in
-    let count = c.bits_at-count.ensures.is in
-    says_resolved run bits (32 + 12 * c.bits_at-count.result) (1 + c.entry_words.result) (omega (arith, count)) (omega (arith, count, c.entry_words.ensures)) (omega (arith, run_there run _ c.in_ok-inside-3.ensures, count)) (by_number c.check_resolved.result)
-    (omega (arith, c.bits_at-kind.ensures.is, kind_first run bits, c.if-kind-eq-KIND_RESOLVED.true)) c.check_resolved.ensures
+    let count = c.bits-count.ensures.is in
+    says_resolved run bits (32 + 12 * c.bits-count.result) (1 + c.entry_words.result) (omega (arith, count)) (omega (arith, count, c.entry_words.ensures)) (omega (arith, run_there run _ c.in_ok-inside-3.ensures, count)) (by_number c.check_resolved.result)
+    (omega (arith, c.bits-kind.ensures.is, kind_first run bits, c.if-kind-eq-KIND_RESOLVED.true)) c.check_resolved.ensures
 
 pub returns : goal.returns
 returns c =
     let run = run_of c.args.bytes.now in
     let bits = bits_known c.args.bytes.now (λ i. omega (arith, c.type_inv.bytes i)) in
-    let kind = c.bits_at-kind.ensures.is ∙ sym (kind_first run bits) in
-    let count = c.bits_at-count.ensures.is in
-    says_pending run bits (32 + 12 * c.bits_at-count.result) (1 + c.entry_words.result) (omega (arith, count)) (omega (arith, count, c.entry_words.ensures)) (omega (arith, run_there run _ c.in_ok-inside-3.ensures, count)) (by_number c.check.result)
+    let kind = c.bits-kind.ensures.is ∙ sym (kind_first run bits) in
+    let count = c.bits-count.ensures.is in
+    says_pending run bits (32 + 12 * c.bits-count.result) (1 + c.entry_words.result) (omega (arith, count)) (omega (arith, count, c.entry_words.ensures)) (omega (arith, run_there run _ c.in_ok-inside-3.ensures, count)) (by_number c.check.result)
     (omega (arith, kind, c.if-kind-lt-KIND_RESOLVED.false)) (λ k. c.if-kind-eq-KIND_RESOLVED.false (kind ∙ k)) c.check.ensures

@@ -13,40 +13,40 @@ front out v h t = written_lent (written_next (written_none out) v (omega arith))
 
 pub slice_bounds-restore_entries-count : goal.slice_bounds-restore_entries-count
 slice_bounds-restore_entries-count c =
-    omega (arith, length_restored (run_of c.args.bytes.now) c.args.end, c.requires.3, length-set c.args.out.now 0 (c.bits_at.result * 65536 + c.bits_at-2.result))
+    omega (arith, length_restored (run_of c.args.bytes.now) c.args.end, c.requires.3, length-set c.args.out.now 0 (c.bits.result * 65536 + c.bits-2.result))
 
 pub slice_bounds-restore_entries-start : goal.slice_bounds-restore_entries-start
 slice_bounds-restore_entries-start c =
-    omega (arith, length_restored (run_of c.args.bytes.now) c.args.end, c.requires.3, length-set c.args.out.now 0 (c.bits_at.result * 65536 + c.bits_at-2.result))
+    omega (arith, length_restored (run_of c.args.bytes.now) c.args.end, c.requires.3, length-set c.args.out.now 0 (c.bits.result * 65536 + c.bits-2.result))
 
 pub restore_entries-front-requires : goal.restore_entries-front-requires
 restore_entries-front-requires c =
-    omega (arith, length_restored (run_of c.args.bytes.now) c.args.end, c.bits_at-count.ensures.is, c.requires.3, length-set c.args.out.now 0 (c.bits_at.result * 65536 + c.bits_at-2.result))
+    omega (arith, length_restored (run_of c.args.bytes.now) c.args.end, c.bits-count.ensures.is, c.requires.3, length-set c.args.out.now 0 (c.bits.result * 65536 + c.bits-2.result))
 
-pub slice_bounds-restore_nodes-count : goal.slice_bounds-restore_nodes-count
-slice_bounds-restore_nodes-count c =
+pub slice_bounds-restore-count : goal.slice_bounds-restore-count
+slice_bounds-restore-count c =
     let long = length_restored (run_of c.args.bytes.now) c.args.end in
     let entries = c.restore_entries-front.ensures in
-    let few : 1 + c.restore_entries-front.result ≤ length c.args.out.now = omega (arith, long, entries.0, c.bits_at-count.ensures.is, c.requires.3) in
+    let few : 1 + c.restore_entries-front.result ≤ length c.args.out.now = omega (arith, long, entries.0, c.bits-count.ensures.is, c.requires.3) in
     omega (arith, few, written_long (front c.args.out.now _ few entries.1) few)
 
-pub slice_bounds-restore_nodes-start : goal.slice_bounds-restore_nodes-start
-slice_bounds-restore_nodes-start c =
+pub slice_bounds-restore-start : goal.slice_bounds-restore-start
+slice_bounds-restore-start c =
     let long = length_restored (run_of c.args.bytes.now) c.args.end in
     let entries = c.restore_entries-front.ensures in
-    let few : 1 + c.restore_entries-front.result ≤ length c.args.out.now = omega (arith, long, entries.0, c.bits_at-count.ensures.is, c.requires.3) in
+    let few : 1 + c.restore_entries-front.result ≤ length c.args.out.now = omega (arith, long, entries.0, c.bits-count.ensures.is, c.requires.3) in
     omega (arith, few, written_long (front c.args.out.now _ few entries.1) few)
 
-pub restore_nodes-requires : goal.restore_nodes-requires
-restore_nodes-requires c =
+pub restore-requires : goal.restore-requires
+restore-requires c =
     let long = length_restored (run_of c.args.bytes.now) c.args.end in
     let entries = c.restore_entries-front.ensures in
-    let few : 1 + c.restore_entries-front.result ≤ length c.args.out.now = omega (arith, long, entries.0, c.bits_at-count.ensures.is, c.requires.3) in
-    (c.requires.0, omega (arith, c.bits_at-count.ensures.is, c.requires.1), c.requires.2, omega (arith, long, entries.0, c.bits_at-count.ensures.is, ap (λ n. length (tree_words (run_of c.args.bytes.now) c.args.end (32 + 12 * n))) c.bits_at-count.ensures.is, c.requires.3, written_long (front c.args.out.now _ few entries.1) few))
+    let few : 1 + c.restore_entries-front.result ≤ length c.args.out.now = omega (arith, long, entries.0, c.bits-count.ensures.is, c.requires.3) in
+    (c.requires.0, omega (arith, c.bits-count.ensures.is, c.requires.1), c.requires.2, omega (arith, long, entries.0, c.bits-count.ensures.is, ap (λ n. length (tree_words (run_of c.args.bytes.now) c.args.end (32 + 12 * n))) c.bits-count.ensures.is, c.requires.3, written_long (front c.args.out.now _ few entries.1) few))
 
 pub returns : goal.returns
 returns c =
     let long = length_restored (run_of c.args.bytes.now) c.args.end in
     let entries = c.restore_entries-front.ensures in
-    let few : 1 + c.restore_entries-front.result ≤ length c.args.out.now = omega (arith, long, entries.0, c.bits_at-count.ensures.is, c.requires.3) in
-    written_same (written_lent (front c.args.out.now _ few entries.1) c.restore_nodes.ensures) (record_parts (run_of c.args.bytes.now) c.args.end _ _ c.bits_at-count.ensures.is (ap₂ (λ x y. x * 65536 + y) c.bits_at.ensures.is c.bits_at-2.ensures.is))
+    let few : 1 + c.restore_entries-front.result ≤ length c.args.out.now = omega (arith, long, entries.0, c.bits-count.ensures.is, c.requires.3) in
+    written_same (written_lent (front c.args.out.now _ few entries.1) c.restore.ensures) (record_parts (run_of c.args.bytes.now) c.args.end _ _ c.bits-count.ensures.is (ap₂ (λ x y. x * 65536 + y) c.bits.ensures.is c.bits-2.ensures.is))

@@ -4,16 +4,8 @@ use Rattle.model.specs.Bits.{run_of}
 use Rattle.unpack.specs.Nodes.{restored_record}
 use Rattle.unpack.specs.RecordLaws.{record_words_lem}
 use Rattle.unpack.proofs.Fields.{bits_known}
-use Rattle.unpack.proofs.Whole.{records, too_long, turned_back, misjudged, room_for, done}
+use Rattle.unpack.proofs.Whole.{records, misjudged, room_for, done}
 use Rattle.unpack.proofs.unpack_record.Goals as goal
-
-pub returns-then-bytes-gt-TIGHT_BYTES : goal.returns-then-bytes-gt-TIGHT_BYTES
-returns-then-bytes-gt-TIGHT_BYTES c = too_long records c.args.bytes.now c.args.out.now (omega (arith, c.if-bytes-gt-TIGHT_BYTES.true))
-
-pub returns-in_err-found : goal.returns-in_err-found
-returns-in_err-found c =
-    let e : c.from_residual.result ≡ Err c.in_err-found.field-0.0 = search rules in
-    rw e (turned_back records c.args.bytes.now c.args.out.now (omega (arith, c.if-bytes-gt-TIGHT_BYTES.false)) c.in_err-found.field-0.0 c.in_err-found.ensures)
 
 pub returns-in_err-judge : goal.returns-in_err-judge
 returns-in_err-judge c =

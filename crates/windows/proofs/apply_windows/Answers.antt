@@ -7,4 +7,4 @@ use Rattle.windows.proofs.apply_windows.Goals as goal
 pub returns : goal.returns
 returns c =
     let args = c.args in
-    room_enough args.list.now (date_of args.reading) (date_of args.today) args.facts.now args.out.now (sym c.in_ok-check.ensures) c.if-out-lt-TABLE_BYTES.false c.write.ensures
+    room_enough args.list.now (date_of args.reading) (date_of args.today) args.facts.now args.out.now (sym c.in_ok-check.ensures) c.in-Some.ensures.cases.enough c.write.ensures

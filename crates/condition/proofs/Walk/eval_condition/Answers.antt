@@ -19,22 +19,22 @@ returns-then-level-eq0 c =
     let loop = c.loop-value in
     loop.invariant.0 _ _ (rw c.in-Some.is (walk_ends _ _ _ _ _ _ _ c.if-level-eq0.true))
 
-pub loop-value-preserved-in-Closed : goal.loop-value-preserved-in-Closed
-loop-value-preserved-in-Closed c =
+pub loop-value-preserved-in-Some-after_arm : goal.loop-value-preserved-in-Some-after_arm
+loop-value-preserved-in-Some-after_arm c =
     let loop = c.loop-value in (
       λ r t k.
           loop.invariant.0 r t (rw c.in-Some.is
-          (node_closed _ _ _ _ _ _ _ r t _ (omega (arith, c.if-level-eq0.false)) _ _ _ loop.invariant.1 (rw c.in-Closed.is at c.after_arm.ensures) k)),
+          (node_closed _ _ _ _ _ _ _ r t _ (omega (arith, c.if-level-eq0.false)) _ _ _ _ loop.invariant.1 (rw c.in-Some-after_arm.is at c.after_arm.ensures) k)),
       omega arith,
-      loop.invariant.2,
+      simp length-set loop.invariant.2,
     )
 
-pub loop-value-preserved-in-More : goal.loop-value-preserved-in-More
-loop-value-preserved-in-More c =
+pub loop-value-preserved-in-None-after_arm : goal.loop-value-preserved-in-None-after_arm
+loop-value-preserved-in-None-after_arm c =
     let loop = c.loop-value in (
       λ r t k.
           loop.invariant.0 r t (rw c.in-Some.is
-          (node_more _ _ _ _ _ _ _ r t _ (omega (arith, c.if-level-eq0.false)) _ _ (omega arith) (rw c.in-More.is at c.after_arm.ensures) k)),
+          (node_more _ _ _ _ _ _ _ r t _ (omega (arith, c.if-level-eq0.false)) _ _ (omega arith) (rw c.in-None-after_arm.is at c.after_arm.ensures) k)),
       loop.invariant.1,
       simp length-set loop.invariant.2,
     )

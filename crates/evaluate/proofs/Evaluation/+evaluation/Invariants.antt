@@ -7,8 +7,7 @@ use Rattle.model.specs.Products.{read_all, read_any}
 use Rattle.outcome.specs.Carried.{carried}
 use Rattle.policy_model.specs.declared.PolicyHead.TheVariants.{All, Any}
 use Rattle.consulted.specs.Listing.{held}
-use Rattle.decision.specs.Room.{Few}
-use Rattle.evaluate.specs.Evaluating.{EvaluatesBy, Permits}
+use Rattle.evaluate.specs.Evaluating.{EvaluatesBy}
 use Rattle.evaluate.proofs.Arms.{ArmsLeft, all_left, any_left, Going}
 use Rattle.evaluate.proofs.Evaluation.+evaluation.Given as goal
 
@@ -32,7 +31,6 @@ invariant-eval_all-loop-left l =
     Going
     (ArmsLeft (all_left (carried l.self.outcomes) (table_of l.self.walk.facts.now) l.self.walk.words.now l.sofar l.buf) (read_all (carried l.self.outcomes) (table_of l.self.walk.facts.now)) (table_of l.self.walk.facts.now) l.self.walk.words.now l.sofar l.buf l.next l.depth l.left (held l.consulted))
     (EvaluatesBy (carried l.self.outcomes) (All l.arms) (table_of l.self.walk.facts.now) l.self.walk.words.now l.at l.depth (held l.initial.consulted))
-    Permits
     l.sofar
     l.initial.buf
     l.buf
@@ -42,7 +40,6 @@ invariant-eval_any-loop l =
     Going
     (ArmsLeft (any_left (carried l.self.outcomes) (table_of l.self.walk.facts.now) l.self.walk.words.now l.sofar l.buf) (read_any (carried l.self.outcomes) (table_of l.self.walk.facts.now)) (table_of l.self.walk.facts.now) l.self.walk.words.now l.sofar l.buf l.next l.depth (l.arms - l.counter) (held l.consulted))
     (EvaluatesBy (carried l.self.outcomes) (Any l.arms) (table_of l.self.walk.facts.now) l.self.walk.words.now l.at l.depth (held l.initial.consulted))
-    Few
     l.sofar
     l.initial.buf
     l.buf

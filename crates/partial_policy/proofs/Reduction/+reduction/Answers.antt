@@ -1,6 +1,5 @@
 -- The cycle of calls of `partial_policy::Reduction::reduce_policy` meets its contracts: a policy by its head, the arms of a list one by one. Assumes nothing.
 use borrow.Author.Rules.{rules}
-use borrow.Author.Tests.{not-true, not-false}
 use borrow.Enum.Refused.{opened}
 use mathlib.Core.Path.{refl, sym, ◌∙◌}
 use mathlib.Core.Logic.{⊎_elim}
@@ -8,7 +7,7 @@ use native.Mathlib.Omega.{arith}
 use Rattle.policy_model.specs.declared.PolicyHead.TheVariants.{Grant, All, Any, OrElse}
 use Rattle.partial_policy.proofs.Nodes.{by_head, reduce_end, reduce_limit, reduce_constant, reduce_permit, all_below, any_below}
 use Rattle.partial_policy.proofs.Arms.{sofar_open, sofar_known, arms_with_most, going_first, going_open, going_known, arm_goes, arm_stops, arms_end, list_node_lem, or_permits, or_denies, or_open}
-use Rattle.partial_policy.proofs.InOrder.{order_open, order_known, held_goes, held_answers, held_last, held_end, order_node}
+use Rattle.partial_policy.proofs.InOrder.{order_open, order_known, held_goes, held_ends, held_end, order_node}
 use Rattle.partial_policy.proofs.Reduction.+reduction.Goals as goal
 
 pub reduce_arm-returns-then-word-eq-PERMIT : goal.reduce_arm-returns-then-word-eq-PERMIT
@@ -32,21 +31,13 @@ reduce_in_order-loop-left-preserved-in-Pending t c =
     (λ k x s h _. order_open _ _ _ _ _ c.loop-left.buf c.reduce_policy-arm.new.buf c.loop-left.out c.reduce_policy-arm.new.out _ _ c.tail_from-from.ensures inv.bounds (search rules) (search rules) _ k x s (rw c.in-Pending.is at h))
     (rw c.in-Pending.is refl) e))
 
-pub reduce_in_order-returns-then-not-sofar : goal.reduce_in_order-returns-then-not-sofar
-reduce_in_order-returns-then-not-sofar t c =
-    rw c.resolved.ensures
-    (c.loop-left.invariant.goes _ _ _ _
-    (held_answers _ _ _ _ _ _ _ _ _ _ _ _ _ _ _ _ _ _ _ _ (omega (arith, c.loop-left-test.true)) _ (rw c.requires.5 at c.reduce_policy-arm.ensures) (search rules) c.in-Resolved.is (sym c.stops.ensures ∙ c.if-stops.true) c.skip_policies-end.ensures (not-true _ c.if-not-sofar.true)))
-
 pub reduce_in_order-returns-then-stops : goal.reduce_in_order-returns-then-stops
 reduce_in_order-returns-then-stops t c =
     let inv = c.loop-left.invariant in
     let few = rw c.in-Resolved.is at c.reduce_policy-arm.ensures.fit in
     inv.goes _ _ _ _
-    (held_last _ _ _ _ _ _ _ _ _ _ _ _ _ _ _ _ _ _ _ _ (omega (arith, c.loop-left-test.true)) _ (rw c.requires.5 at c.reduce_policy-arm.ensures) (search rules) c.in-Resolved.is (sym c.stops.ensures ∙ c.if-stops.true) c.skip_policies-end.ensures _ _ _ (not-false _ c.if-not-sofar.false)
-    (order_known _ _ _ _ _ c.loop-left.buf c.reduce_policy-arm.new.buf c.loop-left.out c.reduce_policy-arm.new.out _ _ c.tail_from-from.ensures inv.bounds (search rules) (search rules)
-    _ _ _ _ c.with_decision_in_order-whole.ensures (search rules))
-    (c.end_in_order.ensures _ _ _))
+    (held_ends _ _ _ _ _ _ _ _ _ _ _ _ _ _ _ _ _ _ _ _ (omega (arith, c.loop-left-test.true)) _ (rw c.requires.5 at c.reduce_policy-arm.ensures) (search rules) c.in-Resolved.is (sym c.stops.ensures ∙ c.if-stops.true) c.skip_policies.ensures
+    _ c.tail_from-from.ensures inv.bounds (search rules) (search rules) (search rules) _ c.end_at_deny.ensures)
 
 pub reduce_in_order-loop-left-preserved : goal.reduce_in_order-loop-left-preserved
 reduce_in_order-loop-left-preserved t c =
@@ -55,12 +46,12 @@ reduce_in_order-loop-left-preserved t c =
     going_known inv (omega (arith, c.loop-left-test.true)) c.with_decision_in_order-sofar.ensures.bounds (omega (arith, c.with_decision_in_order-sofar.ensures.arms_are)) (λ r t buf out e.
     held_goes _ _ _ _ _ _ _ t _ r _ _ _ _ _ _ buf out _ _ (omega (arith, c.loop-left-test.true)) _ (rw c.requires.5 at c.reduce_policy-arm.ensures) (search rules) _ _ _
     (λ k x s h n. order_known _ _ _ _ _ c.loop-left.buf c.reduce_policy-arm.new.buf c.loop-left.out c.reduce_policy-arm.new.out _ _ c.tail_from-from.ensures inv.bounds (search rules) (search rules)
-    _ _ _ _ c.with_decision_in_order-sofar.ensures (search rules) k x s (rw c.in-Resolved.is at h) n)
+    _ (search rules) _ _ _ c.with_decision_in_order-sofar.ensures k x s (rw c.in-Resolved.is at h) n)
     (rw c.in-Resolved.is (sym c.stops.ensures ∙ c.if-stops.false)) e)
 
 pub reduce_in_order-returns : goal.reduce_in_order-returns
 reduce_in_order-returns t c =
-    c.loop-left.invariant.goes _ _ _ _ (held_end _ _ _ _ _ _ _ _ _ _ _ _ _ _ (omega (arith, c.loop-left-test.false)) (c.end_in_order-2.ensures _ _ _))
+    c.loop-left.invariant.goes _ _ _ _ (held_end _ _ _ _ _ _ _ _ _ _ _ _ _ _ (omega (arith, c.loop-left-test.false)) (c.end_in_order.ensures _ _ _))
 
 pub reduce_or_else-returns-then-decision : goal.reduce_or_else-returns-then-decision
 reduce_or_else-returns-then-decision t c =
@@ -110,10 +101,10 @@ pub reduce_permits_first-returns : goal.reduce_permits_first-returns
 reduce_permits_first-returns t c =
     c.loop-left.invariant.goes _ _ _ _ (arms_end _ _ _ _ _ _ _ _ _ _ _ _ _ _ _ (omega (arith, c.loop-left-test.false)) c.end_list.ensures)
 
-pub reduce_policy-returns-then-none-at : goal.reduce_policy-returns-then-none-at
-reduce_policy-returns-then-none-at t c =
+pub reduce_policy-returns-then-words-at : goal.reduce_policy-returns-then-words-at
+reduce_policy-returns-then-words-at t c =
     rw (c.resolved.ensures, c.denied.ensures)
-    (⊎_elim (λ w. reduce_end _ _ _ _ _ _ _ _ _ _ refl (omega arith) w) (λ w. reduce_limit _ _ _ _ _ _ _ _ _ _ refl (omega arith) w.1) c.then-none-at.either)
+    (⊎_elim (λ w. reduce_end _ _ _ _ _ _ _ _ _ _ refl (omega arith) w) (λ w. reduce_limit _ _ _ _ _ _ _ _ _ _ refl (omega arith) w.1) c.then-words-at.either)
 
 pub reduce_policy-reduce_list-requires : goal.reduce_policy-reduce_list-requires
 reduce_policy-reduce_list-requires t c = let few = all_below _ _ (sym c.in-All.is ∙ c.policy_head.ensures) in search rules
@@ -135,4 +126,4 @@ pub reduce_policy-returns-in-OrElse : goal.reduce_policy-returns-in-OrElse
 reduce_policy-returns-in-OrElse t c = by_head _ _ _ _ _ _ _ _ _ _ OrElse c.if-depth-eq0.false (sym c.in-OrElse.is ∙ c.policy_head.ensures) c.reduce_or_else.ensures
 
 pub reduce_policy-returns-in_default : goal.reduce_policy-returns-in_default
-reduce_policy-returns-in_default t c = reduce_constant _ _ _ _ _ _ _ _ _ _ _ (omega (arith, c.if-none-at.false)) c.if-depth-eq0.false c.policy_head.ensures (opened c.in_default.in_default-own.keys5) c.reduce_constant.ensures
+reduce_policy-returns-in_default t c = reduce_constant _ _ _ _ _ _ _ _ _ _ _ (omega (arith, c.if-words-at.false)) c.if-depth-eq0.false c.policy_head.ensures (opened c.in_default.in_default-own.keys5) c.reduce_constant.ensures

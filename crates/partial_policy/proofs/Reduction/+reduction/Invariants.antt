@@ -31,8 +31,8 @@ decreases-reduce_policy l = l.depth * 4
 abbrev pub invariant-reduce_permits_first-loop-left : goal.invariant-reduce_permits_first-loop-left
 invariant-reduce_permits_first-loop-left l =
     Going
-    (ArmsLeft l.every (carried l.self.evaluation.outcomes) (table_of l.self.evaluation.walk.facts.now) l.self.evaluation.walk.words.now l.sofar l.buf l.front l.out l.next l.depth l.left (held l.consulted))
-    (λ r t buf' out'. ReducesBy (carried l.self.evaluation.outcomes) (order_of l.self.order) (list_head l.every l.arms) (table_of l.self.evaluation.walk.facts.now) l.self.evaluation.walk.words.now l.at l.depth (held l.initial.consulted) r t buf' (length l.initial.front) out')
+    (ArmsLeft l.kind (carried l.self.evaluation.outcomes) (table_of l.self.evaluation.walk.facts.now) l.self.evaluation.walk.words.now l.sofar l.buf l.front l.out l.next l.depth l.left (held l.consulted))
+    (λ r t buf' out'. ReducesBy (carried l.self.evaluation.outcomes) (order_of l.self.order) (list_head l.kind l.arms) (table_of l.self.evaluation.walk.facts.now) l.self.evaluation.walk.words.now l.at l.depth (held l.initial.consulted) r t buf' (length l.initial.front) out')
     l.sofar
     l.arms
     l.left
@@ -40,8 +40,8 @@ invariant-reduce_permits_first-loop-left l =
 abbrev pub invariant-reduce_in_order-loop-left : goal.invariant-reduce_in_order-loop-left
 invariant-reduce_in_order-loop-left l =
     Going
-    (HeldLeft l.every (carried l.self.evaluation.outcomes) (table_of l.self.evaluation.walk.facts.now) l.self.evaluation.walk.words.now l.sofar l.buf (length l.initial.front) l.out l.next l.depth l.left (held l.consulted))
-    (λ r t buf' out'. ReducesBy (carried l.self.evaluation.outcomes) (order_of l.self.order) (list_head l.every l.arms) (table_of l.self.evaluation.walk.facts.now) l.self.evaluation.walk.words.now l.at l.depth (held l.initial.consulted) r t buf' (length l.initial.front) out')
+    (HeldLeft l.kind (carried l.self.evaluation.outcomes) (table_of l.self.evaluation.walk.facts.now) l.self.evaluation.walk.words.now l.sofar l.buf (length l.initial.front) l.out l.next l.depth l.left (held l.consulted))
+    (λ r t buf' out'. ReducesBy (carried l.self.evaluation.outcomes) (order_of l.self.order) (list_head l.kind l.arms) (table_of l.self.evaluation.walk.facts.now) l.self.evaluation.walk.words.now l.at l.depth (held l.initial.consulted) r t buf' (length l.initial.front) out')
     l.sofar
     l.arms
     l.left

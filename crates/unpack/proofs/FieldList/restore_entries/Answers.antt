@@ -1,0 +1,36 @@
+-- `restore_entries` of FieldList meets its contract: one word more in each turn. Assumes nothing.
+use mathlib.Core.Path.{◌∙◌, ap}
+use native.Mathlib.Omega.{arith}
+use mathlib.Core.List.{map}
+use lib.ListN.{length-map}
+use Rattle.model.specs.Fields.{words_for}
+use Rattle.laws.proofs.Lengths.{length_pack}
+use Rattle.packing.specs.WrittenLaws.{sofar_more, sofar_all}
+use Rattle.unpack.specs.Places.{rest}
+use Rattle.unpack.specs.Nodes.{fields_in, loose_entry}
+use Rattle.unpack.specs.FieldLaws.{length_fields}
+use Rattle.unpack.proofs.Fields.{pair_word}
+use Rattle.unpack.proofs.FieldList.restore_entries.Goals as goal
+
+pub loop-j-preserved : goal.loop-j-preserved
+loop-j-preserved c =
+    let l = c.loop-j in
+    let bs = rest c.args.self.now.here in
+    let fs = fields_in c.args.self.now.width c.args.self.now.count bs in
+    let vs = map loose_entry fs in
+    let n = length-map fs loose_entry ∙ length_fields c.args.self.now.width c.args.self.now.count bs in
+    let long = length_pack 16 vs ∙ ap (words_for 2) n in
+    let inside = c.loop-j-test.true in (
+      l.invariant.0,
+      sofar_more _ _ _ l.j _ l.invariant.1 (omega (arith, long, l.invariant.0)) (omega (arith, long, c.requires))
+          (pair_word vs l.j _ _ (omega (arith, n, l.invariant.0)) c.entry.ensures.is c.entry-in-loop-j.ensures.is),
+    )
+
+pub returns : goal.returns
+returns c =
+    let l = c.loop-j in
+    let bs = rest c.args.self.now.here in
+    let fs = fields_in c.args.self.now.width c.args.self.now.count bs in
+    let vs = map loose_entry fs in
+    let long = length_pack 16 vs ∙ ap (words_for 2) (length-map fs loose_entry ∙ length_fields c.args.self.now.width c.args.self.now.count bs) in
+    (omega (arith, l.invariant.0, l.auto.j-end, c.loop-j-test.false), sofar_all l.invariant.1 (omega (arith, long, l.invariant.0, l.auto.j-end, c.loop-j-test.false)) (omega arith))

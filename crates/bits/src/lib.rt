@@ -1,14 +1,16 @@
 // The tight form's bits, most significant first: fields in a run of bits that stands in bytes, and the widths of a node's fields.
 #![tactic(auto)]
 
-ghost use Rattle.std.specs.Prelude.{◌≡◌, ◌+◌, ◌*◌, ◌^◌, ◌≤◌, ◌<◌, length, drop, get_or};
+ghost use Rattle.std.specs.Prelude.{◌≡◌, ℕ, ◌+◌, ◌*◌, ◌^◌, ◌≤◌, ◌<◌, length, drop};
 ghost use Rattle.model.specs.Fields.{joined};
 ghost use Rattle.model.specs.Bits.{run_of};
-ghost use Rattle.bits.specs.Widths.{has_lists, plain_width, mark_width, denied_width};
+ghost use Rattle.bits.specs.Widths.{plain_width, plain_node_width, mark_width, denied_width};
 ghost use Rattle.bits.specs.WindowLaws.{window, Bytes4};
-ghost use Rattle.bits.specs.Splice.{low, Stored, Spliced};
+ghost use Rattle.bits.specs.Splice.{low, Stored};
+ghost use Rattle.bits.specs.Cursors.{leading, FieldRoom, Put};
 
-// ---- widths: a kind; an obligation count, an obligation, a fact, a consulted entry, a count, an outcome; a label or reason with its present bit
+// ---- widths: a kind; an obligation count, an obligation, a fact, a consulted entry, a count, an outcome; a label or reason with its present bit; a shape; a
+// present bit alone; a sheet number
 pub const KIND_BITS: u32 = 4;
 
 pub const OBLIGATION_COUNT_BITS: u32 = 7;
@@ -25,28 +27,65 @@ pub const OUTCOME_BITS: u32 = 16;
 
 pub const MARK_BITS: u32 = 16;
 
-// Whether a kind's nodes have lists.
-#[tactic(auto, unfolding(crate::specs::Widths::has_lists))]
-pub fn has_lists(kind: u32) -> bool
-    ensures { result ≡ has_lists kind }
+pub const SHAPE_BITS: u32 = 1;
+
+pub const PRESENT_BITS: u32 = 1;
+
+pub const SHEET_NUMBER_BITS: u32 = 16;
+
+// ---- leads: what stands before the outcome of a node with lists, and before the consulted entries of a record
+pub const GRANT_LEAD_BITS: u32 = KIND_BITS + SHAPE_BITS + OBLIGATION_COUNT_BITS;
+
+pub const PERMIT_WITH_TRACE_LEAD_BITS: u32 = KIND_BITS + OBLIGATION_COUNT_BITS;
+
+pub const DENY_WITH_TRACE_LEAD_BITS: u32 = KIND_BITS + SHAPE_BITS + PRESENT_BITS;
+
+pub const RECORD_LEAD_BITS: u32 = KIND_BITS + SHEET_NUMBER_BITS + COUNT_BITS;
+
+// The bits of a node without lists, and 0 for one with lists: by kinds, as `policy_model` numbers them. A table with an entry for each kind, so that
+// nothing branches on which of those without lists it is: such a branch is often mispredicted.
+const PLAIN_NODE_BITS: [u32; 16] = [
+    KIND_BITS, // Always
+    KIND_BITS, // Never
+    KIND_BITS + FACT_BITS, // Has
+    KIND_BITS, // Not
+    KIND_BITS + COUNT_BITS, // All of conditions
+    KIND_BITS + COUNT_BITS, // Any of conditions
+    KIND_BITS + OUTCOME_BITS, // Permit
+    KIND_BITS, // Deny
+    0, // Grant
+    KIND_BITS + COUNT_BITS, // All
+    KIND_BITS + COUNT_BITS, // Any
+    KIND_BITS, // OrElse
+    0, // PermitWithTrace
+    0, // DenyWithTrace
+    0, // Resolved
+    0, // Pending
+];
+
+// The bits of a node by its kind, if it has no lists. The loops ask it first, since most nodes have none.
+#[tactic(auto, unfolding(crate::specs::Widths::plain_node_width, crate::specs::Widths::has_lists, crate::specs::Widths::plain_width))]
+pub fn plain_node_bits(kind: u32) -> Option<u32>
+    ensures { result ≡ plain_node_width kind }
 {
-    kind == policy_model::KIND_GRANT || kind >= policy_model::KIND_PERMIT_WITH_TRACE
+    if kind >= 16 {
+        return None;
+    }
+    match PLAIN_NODE_BITS[kind as usize] {
+        0 => None,
+        bits => Some(bits),
+    }
 }
 
 // The bits of a node without lists after its kind: a fact, a count, an outcome, or none. A kind is a number: it is a field of document 01's form.
-#[tactic(auto, unfolding(crate::specs::Widths::plain_width))]
+#[tactic(auto, unfolding(crate::specs::Widths::plain_node_width, crate::specs::Widths::has_lists, crate::specs::Widths::plain_width))]
 pub fn plain_bits(kind: u32) -> u32
     ensures is { result ≡ plain_width kind }
     ensures few { result ≤ 16 }
 {
-    match kind {
-        policy_model::KIND_HAS => FACT_BITS,
-        policy_model::KIND_CONDITION_ALL => COUNT_BITS,
-        policy_model::KIND_CONDITION_ANY => COUNT_BITS,
-        policy_model::KIND_PERMIT => OUTCOME_BITS,
-        policy_model::KIND_POLICY_ALL => COUNT_BITS,
-        policy_model::KIND_POLICY_ANY => COUNT_BITS,
-        _ => 0,
+    match plain_node_bits(kind) {
+        Some(bits) => bits - KIND_BITS,
+        None => 0,
     }
 }
 
@@ -56,7 +95,7 @@ pub fn mark_bits(half: u32) -> u32
     ensures { result ≡ mark_width half }
 {
     if half < policy_model::MARKED {
-        1
+        PRESENT_BITS
     } else {
         MARK_BITS
     }
@@ -101,31 +140,69 @@ pub fn bits_at(bytes: &[u8], at: usize, width: u32) -> u32
     ((u64::from(window_at(bytes, at / 8)) >> (32 - skipped - width)) % (1 << width)) as u32
 }
 
-// Stores the first `count` of a number's four bytes, and all four where there is room, as there nearly always is: a copy of 1 to 4 is mispredicted.
+// Stores the first `count` of a number's four bytes, where there is no room for all. Each count has its copy, so that its length is known and it is no call.
+#[cold]
+#[inline(never)]
+fn put_some_bytes(window: u32, count: usize, out: &mut [u8])
+    requires { (count ≤ 3) × (count ≤ length out.old) }
+    ensures { Stored count window out.old out.new }
+{
+    let bytes = window.to_be_bytes();
+    match count {
+        0 => (),
+        1 => out[..1].copy_from_slice(&bytes[..1]),
+        2 => out[..2].copy_from_slice(&bytes[..2]),
+        _ => out[..3].copy_from_slice(&bytes[..3]),
+    }
+}
+
+// The same, or all four where there is room, as there nearly always is: so nothing branches on a count.
 fn put_bytes(window: u32, count: usize, out: &mut [u8])
     requires { (count ≤ 4) × (count ≤ length out.old) }
     ensures { Stored count window out.old out.new }
 {
-    let bytes = window.to_be_bytes();
     if out.len() < 4 {
-        out[..count].copy_from_slice(&bytes[..count]);
+        put_some_bytes(window, count, out);
     } else {
-        out[..4].copy_from_slice(&bytes);
+        out[..4].copy_from_slice(&window.to_be_bytes());
     }
 }
 
-// Puts the low `width` bits of a number at bit `at`, and 0 bits to the end of their last byte. The bytes after it may change. Returns the bit after the field.
-// The next field waits for this one's last byte, so few steps lie between the byte that is read and the store: the value is moved into place beside them.
-pub fn put_bits(out: &mut [u8], at: usize, width: u32, value: u32) -> usize
-    requires { (width ≤ 25) × (at + width ≤ 8 * length out.old) × (at < 2 ^ 62) }
-    ensures { Spliced out.old out.new at (low width value) result }
+// Where a run of bits goes on: its next bit, and what is begun of that bit's byte, as the first of 32 bits, the others 0. It goes from field to field by value,
+// and beside the output that is lent, not in one struct with it: so it stays in registers, and no field waits for the byte that the last one stored.
+#[derive(Clone, Copy)]
+pub struct Cursor {
+    pub at: usize,
+    pub begun: u32,
+}
+
+// Where nothing is begun.
+pub const START: Cursor = Cursor { at: 0, begun: 0 };
+
+// Puts a field that is the leading bits of 32, the others 0, and 0 bits to the end of its last byte. The bytes after it may change.
+pub fn put_leading(out: &mut [u8], from: Cursor, width: u32, field: u32) -> Cursor
+    requires { (width ≤ 25) × FieldRoom width out.old from }
+    ensures { (v : ℕ) → field ≡ leading width v → Put (low width v) out.old from out.new result }
 {
-    let skipped = (at % 8) as u32;
-    let count = (skipped + width + 7) / 8;
-    let kept = (u64::from(policy_model::value_at(out, at / 8, 0)) >> (8 - skipped))
-        << (8 - skipped);
-    let field = (u64::from(value) % (1 << width)) << (32 - width);
-    let window = (kept << 24) + (field >> skipped);
-    put_bytes(window as u32, count as usize, &mut out[at / 8..]);
-    at + width as usize
+    let skipped = (from.at % 8) as u32;
+    let end = skipped + width;
+    let window = from.begun + (field >> skipped);
+    put_bytes(window, ((end + 7) / 8) as usize, &mut out[from.at / 8..]);
+    Cursor {
+        at: from.at + width as usize,
+        begun: ((u64::from(window) << (end / 8 * 8)) % (1 << 32)) as u32,
+    }
+}
+
+// Puts the low `width` bits of a number.
+pub fn put_bits(out: &mut [u8], from: Cursor, width: u32, value: u32) -> Cursor
+    requires { (width ≤ 25) × FieldRoom width out.old from }
+    ensures { Put (low width value) out.old from out.new result }
+{
+    put_leading(
+        out,
+        from,
+        width,
+        ((u64::from(value) << (32 - width)) % (1 << 32)) as u32,
+    )
 }

@@ -1,6 +1,6 @@
 -- The tight form node by node: lengths, and from one node to the next.
-use Rattle.std.specs.Prelude.{◌≡◌, refl, Bool, true, false, List, [], ◌∷◌, ◌++◌, ℕ, zero, suc, ◌+◌, ◌*◌, ◌/◌, ◌%◌, ◌^◌, ◌≤◌, ◌<◌, eqb, length}
-use Rattle.std.proofs.Common.{sym, ◌∙◌, ap₂, mul-suc, mul-le-mul_left, add-one, length-append, drop-cons}
+use Rattle.std.specs.Prelude.{◌≡◌, refl, Option, Some, None, IfSome, Bool, true, false, List, [], ◌∷◌, ◌++◌, ℕ, zero, suc, ◌+◌, ◌*◌, ◌/◌, ◌%◌, ◌^◌, ◌≤◌, ◌<◌, eqb, length}
+use Rattle.std.proofs.Common.{sym, ◌∙◌, ap₂, subst, mul-suc, add-one, length-append, drop-cons}
 use Rattle.std.proofs.Math.Path.{ap}
 use Rattle.std.proofs.Math.Bool.{cond}
 use native.Mathlib.Omega.{arith}
@@ -9,11 +9,12 @@ use Rattle.std.proofs.Math.ListN.{drop, get_or}
 use Rattle.std.proofs.Math.Seq.{drop-drop, get_or-drop}
 use Rattle.model.specs.Reading.{kind_of}
 use Rattle.policy_model.specs.Span.{own_by, own_of}
-use Rattle.bits.specs.Widths.{plain_width, mark_width, denied_width}
+use Rattle.bits.specs.Widths.{has_lists, plain_width, plain_node_width, mark_width, denied_width}
 use Rattle.bits.specs.WidthLaws.{plain_few, mark_few, denied_few}
 use Rattle.bits.specs.Splice.{low}
 use Rattle.bits.specs.SpliceLaws.{length_low}
-use Rattle.pack.specs.Room.{Room}
+use Rattle.bits.specs.declared.Cursor.{Cursor}
+use Rattle.pack.specs.Room.{RoomFor}
 use Rattle.pack.specs.Flat.{list_run, entry_in, owed_in, grant_run, permit_run, deny_run, plain_run, Plain, node_by, node_run, flat, record_run}
 
 pub length_list : (f : ℕ → ℕ) (w n : ℕ) → length (list_run f w n) ≡ w * n
@@ -24,10 +25,6 @@ length_list f w (suc n) = simp (length-append, length_list f w n, length_low, mu
 pub list_none : (f : ℕ → ℕ) (w : ℕ) → list_run f w 0 ≡ []
 unfolding list_run
 list_none f w = refl
-
-pub list_more : (f : ℕ → ℕ) (w n : ℕ) → list_run f w n ++ low w (f n) ≡ list_run f w (n + 1)
-unfolding list_run
-list_more f w n = ap (list_run f w) (sym (add-one n))
 
 -- ---- how many bits
 pub length_grant : (w v : ℕ) (os : List ℕ) → length (grant_run w v os) ≡ 28 + mark_width (v / 65536) + mark_width (v % 65536) + 6 * owed_in w
@@ -41,6 +38,22 @@ length_deny w v t fs = simp (length-append, length_low, length_list) (omega arit
 
 pub length_plain : (w : ℕ) → length (plain_run w) ≡ 4 + plain_width (kind_of w)
 length_plain w = length_low (4 + plain_width (kind_of w)) (kind_of w * 2 ^ plain_width (kind_of w) + w % 2 ^ plain_width (kind_of w))
+
+-- A width that tells that a node has no lists.
+no_lists : (k : ℕ) → has_lists k ≡ false → (k ≡ 8 → ⊥) × (k ≡ 12 → ⊥) × (k ≡ 13 → ⊥)
+unfolding has_lists
+no_lists k h = (λ e. by 8 e refl, λ e. by 12 e refl, λ e. by 13 e refl)
+  where
+    by : (n : ℕ) → k ≡ n → has_lists n ≡ true → ⊥
+    by n e t = let z : true ≡ false = sym t ∙ sym (ap has_lists e) ∙ h in absurd (cc)
+
+pub plain_bits : (w : ℕ) (r : Option ℕ) → r ≡ plain_node_width (kind_of w) → IfSome r (λ bits. Plain w × (bits ≡ length (plain_run w)) × (bits ≤ 20))
+unfolding plain_node_width
+plain_bits w r e = subst (λ x. IfSome x (λ bits. Plain w × (bits ≡ length (plain_run w)) × (bits ≤ 20))) (sym e) (by (has_lists (kind_of w)) refl)
+  where
+    by : (b : Bool) → has_lists (kind_of w) ≡ b → IfSome (cond b None (Some (4 + plain_width (kind_of w)))) (λ bits. Plain w × (bits ≡ length (plain_run w)) × (bits ≤ 20))
+    by true h = tt
+    by false h = (no_lists (kind_of w) h, sym (length_plain w), omega (arith, plain_few (kind_of w)))
 
 -- ---- by the kind
 module _ (ws : List ℕ) (at : ℕ) where
@@ -127,25 +140,15 @@ node_few ws at =
     by false false true = omega (arith, length_deny (get_or ws at 0) (get_or ws (at + 1) 0) (get_or ws (at + 2) 0) (drop (at + 3) ws), denied_few (get_or ws at 0), mark_few (get_or ws (at + 1) 0 / 65536), mark_few (get_or ws (at + 1) 0 % 65536))
     by false false false = omega (arith, length_plain (get_or ws at 0), plain_few (kind_of (get_or ws at 0)))
 
--- ---- room for one more of a list
-pub room_list : (f : ℕ → ℕ) (w count i to : ℕ) (out : List ℕ) → Room to (list_run f w count) out → i < count → (to + length (list_run f w i) + w ≤ 8 * length out) × (to + length (list_run f w i) < 2 ^ 62)
-room_list f w count i to out r h =
-    let a = length_list f w count in
-    let b = length_list f w i in
-    let m : w * suc i ≤ w * count = mul-le-mul_left w h in
-    let s : w * suc i ≡ w * i + w = mul-suc w i in
-    let x = r.fits in
-    let y = r.few in
-    (omega arith, omega arith)
-
+-- ---- room for lists
 -- Lists of so many values of a width have the same room, whatever the values.
-pub list_room : (f g : ℕ → ℕ) (w n to : ℕ) (out : List ℕ) → Room to (list_run f w n) out → Room to (list_run g w n) out
-list_room f g w n to out r =
+pub list_room : {out : List ℕ} {cursor : Cursor} (f g : ℕ → ℕ) (w n : ℕ) → RoomFor (list_run f w n) out cursor → RoomFor (list_run g w n) out cursor
+list_room f g w n r =
     let a = length_list f w n in
     let b = length_list g w n in
-    let h = r.fits in
-    let k = r.few in
-    record { fits = omega arith; few = omega arith; clear = r.clear }
+    let h = r.room.fits in
+    let k = r.room.few in
+    record { room = record { fits = omega arith; few = omega arith; clear = r.room.clear }; begun = r.begun }
 
 -- ---- a record in its parts
 pub record_parts : (ws : List ℕ) (count tree : ℕ) → record_run ws count tree ≡ low 16 (get_or ws 0 0 / 65536) ++ (low 16 (get_or ws 0 0) ++ (list_run (entry_in (drop 1 ws)) 12 count ++ flat (drop tree ws) 0))

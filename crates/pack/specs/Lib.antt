@@ -1,7 +1,8 @@
 pub mod Flat
+pub mod Groups
 pub mod Places
 pub mod Room
-pub mod Writers
 pub mod FlatLaws
+pub mod GroupLaws
 pub mod TreeLaws
 pub mod Packing

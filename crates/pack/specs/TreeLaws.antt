@@ -1,7 +1,7 @@
 -- The words of a tree, node by node, are its tight form; and those of a record.
 use Rattle.std.specs.Prelude.{◌≡◌, take, get_or}
 use Rattle.std.proofs.Math.Path.{refl, sym, ap, ap₂}
-use Rattle.std.proofs.Common.{◌∙◌, subst, mul-le-mul_right, suc-mul, pow-add, drop-drop, take-suc, take_all}
+use Rattle.std.proofs.Common.{◌∙◌, subst, drop-drop, take-suc, take_all}
 use Rattle.std.proofs.Math.Option.{Option, none, some}
 use mathlib.Core.List.{List, [], ◌∷◌, ◌++◌, append_assoc, append-nil, map}
 use Prim.Native.Nat.{ℕ, zero, suc, ◌+◌, ◌*◌, ◌/◌, ◌%◌, ◌^◌, ◌≤◌, ◌<◌}
@@ -36,6 +36,7 @@ use Rattle.bits.specs.WidthLaws.{mark_absent, mark_there, denied_there, denied_a
 use Rattle.bits.specs.RunLaws.{bits_parted}
 use Rattle.bits.specs.Splice.{low}
 use Rattle.bits.specs.SpliceLaws.{low_is, low_of}
+use Rattle.bits.specs.CursorLaws.{sum_fits}
 use Rattle.pack.specs.Flat.{list_run, entry_in, tight_entry, owed_in, mark_run, plain_run, flat, record_run}
 use Rattle.pack.specs.FlatLaws.{own_plain, node_grant, node_permit, node_deny, node_plain, flat_node}
 
@@ -85,13 +86,6 @@ marked_small none f = omega arith
 marked_small (some n) f = omega arith
 
 -- Two fields as one.
-sum_fits : (a b x y : ℕ) → x < 2 ^ a → y < 2 ^ b → x * 2 ^ b + y < 2 ^ (a + b)
-sum_fits a b x y h k =
-    let top : suc x * 2 ^ b ≤ 2 ^ a * 2 ^ b = mul-le-mul_right (2 ^ b) h in
-    let e : 2 ^ (a + b) ≡ 2 ^ a * 2 ^ b = pow-add 2 a b in
-    let s : suc x * 2 ^ b ≡ x * 2 ^ b + 2 ^ b = suc-mul x (2 ^ b) in
-    omega arith
-
 two : (a b x y v : ℕ) → x < 2 ^ a → y < 2 ^ b → v ≡ x * 2 ^ b + y → bits_of (a + b) v ≡ bits_of a x ++ bits_of b y
 two a b x y v h k e =
     let fits : v < 2 ^ (a + b) = subst (λ z. z < 2 ^ (a + b)) (sym e) (sum_fits a b x y h k) in

@@ -2,20 +2,22 @@
 // list of nodes, so measuring and writing are loops without levels.
 #![tactic(auto)]
 
-ghost use Rattle.std.specs.Prelude.{◌≡◌, true, List, ℕ, ◌+◌, ◌*◌, ◌/◌, ◌^◌, ◌≤◌, ◌<◌, length, drop, get_or};
+ghost use Rattle.std.specs.Prelude.{◌≡◌, IfSome, List, ℕ, ◌+◌, ◌*◌, ◌/◌, ◌%◌, ◌^◌, ◌≤◌, ◌<◌, length, drop};
 ghost use Rattle.model.specs.Reading.{record_words, kind_of};
 ghost use Rattle.model.specs.Writing.{obligation_bits};
 ghost use Rattle.model.specs.Tight.{obligation_tight_bits, pack_sheet, pack_record};
 ghost use Rattle.model.specs.Outcome.{product_sets};
 ghost use Rattle.laws.specs.FieldAt.{field_at};
-ghost use Rattle.bits.specs.Splice.{low, Spliced};
+ghost use Rattle.bits.specs.Splice.{Spliced};
+ghost use Rattle.bits.specs.Cursors.{Put};
 ghost use Rattle.answer.specs.Answers.{Answered};
 ghost use Rattle.pack.specs.Flat.{list_run, entry_in, owed_in, mark_run, Plain, flat, record_run};
-ghost use Rattle.pack.specs.Room.{Room};
-ghost use Rattle.pack.specs.Writers.{RoomFor, Put};
+ghost use Rattle.pack.specs.Groups.{group};
+ghost use Rattle.pack.specs.Room.{Room, RoomFor};
 ghost use Rattle.pack.specs.Packing.{Packed};
 
 use answer::Answer;
+use bits::Cursor;
 use refusal::Refusal;
 
 // A node at its place among few words.
@@ -71,24 +73,23 @@ impl Node<'_> {
         self.at + 1 + policy_model::own_of(self.words, self.at)
     }
 
-    // Whether it has no lists. The loops ask it first, so that the commonest nodes are told by one test.
-    #[tactic(auto, unfolding(bits::specs::Widths::has_lists))]
-    fn is_plain(&self) -> bool
-        ensures { result ≡ true → Plain (first self.now) }
+    // Its bits, if it has no lists. The loops ask it first, since most nodes have none.
+    #[tactic(auto, using(crate::specs::FlatLaws::plain_bits))]
+    fn bits_without_lists(&self) -> Option<u32>
+        ensures { IfSome result (λ bits. Plain (first self.now) × (bits ≡ length (plain self.now)) × (bits ≤ 20)) }
     {
-        !bits::has_lists(self.kind())
+        bits::plain_node_bits(self.kind())
     }
 
-    // The bits of such a node.
+    // The bits of a node as one without lists.
     #[tactic(auto, using(crate::specs::FlatLaws::length_plain))]
-    fn plain_bits(&self) -> usize
-        ensures is { result ≡ length (plain self.now) }
-        ensures few { result ≤ 20 }
+    fn plain_bits(&self) -> u32
+        ensures { result ≡ length (plain self.now) }
     {
-        (bits::KIND_BITS + bits::plain_bits(self.kind())) as usize
+        bits::KIND_BITS + bits::plain_bits(self.kind())
     }
 
-    // The bits of a Grant itself: kind, shape and obligation count (12), outcome (16), label, reason, obligations.
+    // The bits of a Grant itself: its lead, outcome, label, reason, obligations.
     #[tactic(auto, using(bits::specs::WidthLaws::mark_few, crate::specs::FlatLaws::length_grant))]
     fn grant_bits(&self) -> usize
         ensures { result ≡ length (grant self.now) }
@@ -96,10 +97,13 @@ impl Node<'_> {
         let second = self.second();
         let marks = bits::mark_bits(second / policy_model::HALF)
             + bits::mark_bits(second % policy_model::HALF);
-        (28 + marks + bits::OBLIGATION_BITS * self.obligations()) as usize
+        (bits::GRANT_LEAD_BITS
+            + bits::OUTCOME_BITS
+            + marks
+            + bits::OBLIGATION_BITS * self.obligations()) as usize
     }
 
-    // Of a PermitWithTrace: kind and obligation count (11), outcome (16), label, count of facts (12), obligations, facts.
+    // Of a PermitWithTrace: its lead, outcome, label, count of facts, obligations, facts.
     #[tactic(auto, using(bits::specs::WidthLaws::mark_few, crate::specs::FlatLaws::length_permit))]
     fn permit_trace_bits(&self) -> usize
         ensures { result ≡ length (permit self.now) }
@@ -107,10 +111,14 @@ impl Node<'_> {
         let second = self.second();
         let lists = bits::OBLIGATION_BITS * self.obligations()
             + bits::FACT_BITS * (second % policy_model::COUNTS);
-        (39 + bits::mark_bits(second / policy_model::HALF) + lists) as usize
+        (bits::PERMIT_WITH_TRACE_LEAD_BITS
+            + bits::OUTCOME_BITS
+            + bits::mark_bits(second / policy_model::HALF)
+            + bits::COUNT_BITS
+            + lists) as usize
     }
 
-    // Of a DenyWithTrace: kind, shape and present bit (6), outcome, label, reason, count of facts (12), facts.
+    // Of a DenyWithTrace: its lead, outcome if it has one, label, reason, count of facts, facts.
     #[tactic(auto, using(bits::specs::WidthLaws::mark_few, bits::specs::WidthLaws::denied_few, crate::specs::FlatLaws::length_deny))]
     fn deny_trace_bits(&self) -> usize
         ensures { result ≡ length (deny self.now) }
@@ -118,8 +126,10 @@ impl Node<'_> {
         let second = self.second();
         let marks = bits::mark_bits(second / policy_model::HALF)
             + bits::mark_bits(second % policy_model::HALF);
-        (18 + bits::denied_bits(self.first())
+        (bits::DENY_WITH_TRACE_LEAD_BITS
+            + bits::denied_bits(self.first())
             + marks
+            + bits::COUNT_BITS
             + bits::FACT_BITS * (self.third() % policy_model::COUNTS)) as usize
     }
 
@@ -132,7 +142,7 @@ impl Node<'_> {
             policy_model::KIND_GRANT => self.grant_bits(),
             policy_model::KIND_PERMIT_WITH_TRACE => self.permit_trace_bits(),
             policy_model::KIND_DENY_WITH_TRACE => self.deny_trace_bits(),
-            _ => self.plain_bits(),
+            _ => self.plain_bits() as usize,
         }
     }
 }
@@ -160,8 +170,8 @@ impl Tree<'_> {
         // a `while`: each node says itself where the next one begins
         while at < words.len() {
             let node = Node { words, at };
-            if node.is_plain() {
-                size += node.plain_bits();
+            if let Some(bits) = node.bits_without_lists() {
+                size += bits as usize;
                 at += 1;
             } else {
                 size += node.bits();
@@ -182,170 +192,238 @@ fn entry_at(words: &[u32], at: usize, index: usize) -> u32
     field / policy_model::PRESENCE * policy_model::FACTS + field % policy_model::FACTS
 }
 
-// Where a run of bits goes on: the output, which is lent, and the next bit of it.
-#[derive(Drop)]
-struct Writer<'a> {
-    out: &'a mut [u8],
-    to: usize,
+// Two of them as one field, each in `width` bits.
+fn entries_at(words: &[u32], at: usize, index: usize, width: u32) -> u32
+    requires { (at + index < 2 ^ 60) × (width ≤ 12) }
+    ensures { result ≡ group (entry_in (drop at words.now)) width index 2 }
+{
+    let kept = 1 << width;
+    ((entry_at(words, at, index) % kept) << width) + entry_at(words, at, index + 1) % kept
 }
 
-impl<'a> Writer<'a> {
-    ghost use Rattle.pack.specs.Places.{obligations, grant, permit, deny, plain, run, nodes};
+// Obligation number `index` of the list that begins at `at`, in the bits that it takes.
+fn obligation_at(words: &[u32], at: usize, index: usize) -> u32
+    requires { at + index / 4 < 2 ^ 64 }
+    ensures { result ≡ field_at obligation_bits (drop at words.now) index % 2 ^ obligation_tight_bits }
+{
+    u32::from(packing::unpack_obligation(words, at, index)) % policy_model::OBLIGATION_NUMBERS
+}
 
-    // Puts the low `width` bits of a number.
-    fn put(&mut self, width: u32, value: u32)
-        requires { (width ≤ 25) × (self.old.to + width ≤ 8 * length self.old.out.now) × (self.old.to < 2 ^ 62) }
-        ensures { Put (low width value) self.old self.new }
-    {
-        self.to = bits::put_bits(&mut *self.out, self.to, width, value);
+// Four of them as one field.
+fn obligations_at(words: &[u32], at: usize, index: usize) -> u32
+    requires { at + index < 2 ^ 60 }
+    ensures { result ≡ group (field_at obligation_bits (drop at words.now)) obligation_tight_bits index 4 }
+{
+    let first = obligation_at(words, at, index);
+    let second = obligation_at(words, at, index + 1);
+    let third = obligation_at(words, at, index + 2);
+    let fourth = obligation_at(words, at, index + 3);
+    let half = first * policy_model::OBLIGATION_NUMBERS + second;
+    (half * policy_model::OBLIGATION_NUMBERS + third) * policy_model::OBLIGATION_NUMBERS + fourth
+}
+
+// Puts a label or a reason.
+fn put_mark(out: &mut [u8], from: Cursor, half: u32) -> Cursor
+    requires { RoomFor (mark_run half) out.old from }
+    ensures { Put (mark_run half) out.old from out.new result }
+{
+    bits::put_bits(out, from, bits::mark_bits(half), half)
+}
+
+// Puts a list of `count` values, each in `width` bits: `per` at a time, as one field, and in the end as many as are left. `field` gives `per` of them, from an
+// index on. Inlined, so that it divides by a number that is known.
+#[inline(always)]
+fn put_list<F: Fn(usize) -> u32>(
+    out: &mut [u8],
+    from: Cursor,
+    field: F,
+    count: u32,
+    per: u32,
+    width: u32,
+) -> Cursor
+    requires { ((i : ℕ) → i ≤ count → F.pre field i) × (0 < per) × (width * per ≤ 25) × RoomFor (list_run (λ i. i) width count) out.old from }
+    ensures { (f : ℕ → ℕ) → ((i r : ℕ) → i ≤ count → F.post field i r → r ≡ group f width i per) → Put (list_run f width count) out.old from out.new result }
+{
+    let full = count / per;
+    let left = count % per;
+    let mut to = from;
+    for j in 0..full {
+        to = bits::put_bits(out, to, width * per, field((j * per) as usize));
     }
-
-    // Puts a label or a reason.
-    #[tactic(auto, using(bits::specs::WidthLaws::mark_few, crate::specs::Room::room_last))]
-    fn put_mark(&mut self, half: u32)
-        requires { RoomFor (mark_run half) self.old }
-        ensures { Put (mark_run half) self.old self.new }
-    {
-        self.put(bits::mark_bits(half), half);
+    if left == 0 {
+        return to;
     }
+    let last = field((full * per) as usize);
+    bits::put_bits(out, to, width * left, last >> (width * (per - left)))
+}
 
-    // Puts a list of `count` values, each in `width` bits.
-    fn put_list<F: Fn(usize) -> u32>(&mut self, value: F, count: u32, width: u32)
-        requires { ((i : ℕ) → i < count → F.pre value i) × (width ≤ 12) × RoomFor (list_run (λ i. i) width count) self.old }
-        ensures { (f : ℕ → ℕ) → ((i r : ℕ) → i < count → F.post value i r → r ≡ f i) → Put (list_run f width count) self.old self.new }
-    {
-        for i in 0..count {
-            self.put(width, value(i as usize));
-        }
-    }
+// Puts a list of `count` facts, or consulted entries, by their width.
+#[tactic(auto, using(crate::specs::FlatLaws::list_room))]
+fn put_entries(
+    out: &mut [u8],
+    from: Cursor,
+    words: &[u32],
+    at: usize,
+    count: u32,
+    width: u32,
+) -> Cursor
+    requires { (at < 2 ^ 32) × (width ≤ 12) × RoomFor (list_run (entry_in (drop at words.now)) width count) out.old from }
+    ensures { Put (list_run (entry_in (drop at words.now)) width count) out.old from out.new result }
+{
+    put_list(
+        out,
+        from,
+        |i| entries_at(words, at, i, width),
+        count,
+        2,
+        width,
+    )
+}
 
-    // Puts the obligations of a Grant or a PermitWithTrace.
+impl Node<'_> {
+    ghost use Rattle.pack.specs.Places.{obligations, grant, permit, deny, plain, run};
+
+    // Puts the obligations of a Grant or a PermitWithTrace. Inlined, so that no loop keeps its nodes in memory for it.
+    #[inline(always)]
     #[tactic(auto, using(crate::specs::FlatLaws::list_room))]
-    fn put_obligations(&mut self, node: &Node<'_>)
-        requires { RoomFor (obligations node.now) self.old }
-        ensures { Put (obligations node.now) self.old self.new }
+    fn put_obligations(&self, out: &mut [u8], from: Cursor) -> Cursor
+        requires { RoomFor (obligations self.now) out.old from }
+        ensures { Put (obligations self.now) out.old from out.new result }
     {
-        self.put_list(
-            |i| u32::from(packing::unpack_obligation(node.words, node.at + 2, i)),
-            node.obligations(),
+        let words = self.words;
+        let at = self.at + 2;
+        put_list(
+            out,
+            from,
+            |i| obligations_at(words, at, i),
+            self.obligations(),
+            4,
             bits::OBLIGATION_BITS,
-        );
-    }
-
-    // Puts a list of `count` facts, or consulted entries, by their width.
-    #[tactic(auto, using(crate::specs::FlatLaws::list_room))]
-    fn put_entries(&mut self, words: &[u32], at: usize, count: u32, width: u32)
-        requires { (at < 2 ^ 32) × (width ≤ 12) × RoomFor (list_run (entry_in (drop at words.now)) width count) self.old }
-        ensures { Put (list_run (entry_in (drop at words.now)) width count) self.old self.new }
-    {
-        self.put_list(|i| entry_at(words, at, i), count, width);
+        )
     }
 
     // Puts a Grant up to its condition.
-    fn put_grant(&mut self, node: &Node<'_>)
-        requires { RoomFor (grant node.now) self.old }
-        ensures { Put (grant node.now) self.old self.new }
+    fn put_grant(&self, out: &mut [u8], from: Cursor) -> Cursor
+        requires { RoomFor (grant self.now) out.old from }
+        ensures { Put (grant self.now) out.old from out.new result }
     {
-        let word = node.first();
-        let second = node.second();
-        self.put(12, word / policy_model::OBLIGATIONS);
-        self.put(bits::OUTCOME_BITS, word);
-        self.put_mark(second / policy_model::HALF);
-        self.put_mark(second % policy_model::HALF);
-        self.put_obligations(node);
+        let word = self.first();
+        let second = self.second();
+        let lead = bits::put_bits(
+            out,
+            from,
+            bits::GRANT_LEAD_BITS,
+            word / policy_model::OBLIGATIONS,
+        );
+        let outcome = bits::put_bits(out, lead, bits::OUTCOME_BITS, word);
+        let label = put_mark(out, outcome, second / policy_model::HALF);
+        let reason = put_mark(out, label, second % policy_model::HALF);
+        self.put_obligations(out, reason)
     }
 
     // Puts a PermitWithTrace. It has no shape bit.
-    fn put_permit_trace(&mut self, node: &Node<'_>)
-        requires { RoomFor (permit node.now) self.old }
-        ensures { Put (permit node.now) self.old self.new }
+    fn put_permit_trace(&self, out: &mut [u8], from: Cursor) -> Cursor
+        requires { RoomFor (permit self.now) out.old from }
+        ensures { Put (permit self.now) out.old from out.new result }
     {
-        let second = node.second();
-        let obligations = node.obligations();
-        self.put(
-            11,
-            policy_model::KIND_PERMIT_WITH_TRACE * policy_model::OBLIGATION_COUNTS + obligations,
+        let second = self.second();
+        let owed = self.obligations();
+        let lead = bits::put_bits(
+            out,
+            from,
+            bits::PERMIT_WITH_TRACE_LEAD_BITS,
+            policy_model::KIND_PERMIT_WITH_TRACE * policy_model::OBLIGATION_COUNTS + owed,
         );
-        self.put(bits::OUTCOME_BITS, node.first());
-        self.put_mark(second / policy_model::HALF);
-        self.put(bits::COUNT_BITS, second);
-        self.put_obligations(node);
-        let facts = node.at + 2 + policy_model::obligation_words(obligations);
-        self.put_entries(
-            node.words,
-            facts,
+        let outcome = bits::put_bits(out, lead, bits::OUTCOME_BITS, self.first());
+        let label = put_mark(out, outcome, second / policy_model::HALF);
+        let count = bits::put_bits(out, label, bits::COUNT_BITS, second);
+        let obligations = self.put_obligations(out, count);
+        put_entries(
+            out,
+            obligations,
+            self.words,
+            self.at + 2 + policy_model::obligation_words(owed),
             second % policy_model::COUNTS,
             bits::FACT_BITS,
-        );
+        )
     }
 
     // Puts a DenyWithTrace.
-    fn put_deny_trace(&mut self, node: &Node<'_>)
-        requires { RoomFor (deny node.now) self.old }
-        ensures { Put (deny node.now) self.old self.new }
+    fn put_deny_trace(&self, out: &mut [u8], from: Cursor) -> Cursor
+        requires { RoomFor (deny self.now) out.old from }
+        ensures { Put (deny self.now) out.old from out.new result }
     {
-        let word = node.first();
-        let second = node.second();
-        let third = node.third();
-        self.put(6, word / policy_model::DENIED);
-        self.put(bits::denied_bits(word), word);
-        self.put_mark(second / policy_model::HALF);
-        self.put_mark(second % policy_model::HALF);
-        self.put(bits::COUNT_BITS, third);
-        self.put_entries(
-            node.words,
-            node.at + 3,
+        let word = self.first();
+        let second = self.second();
+        let third = self.third();
+        let lead = bits::put_bits(
+            out,
+            from,
+            bits::DENY_WITH_TRACE_LEAD_BITS,
+            word / policy_model::DENIED,
+        );
+        let outcome = bits::put_bits(out, lead, bits::denied_bits(word), word);
+        let label = put_mark(out, outcome, second / policy_model::HALF);
+        let reason = put_mark(out, label, second % policy_model::HALF);
+        let count = bits::put_bits(out, reason, bits::COUNT_BITS, third);
+        put_entries(
+            out,
+            count,
+            self.words,
+            self.at + 3,
             third % policy_model::COUNTS,
             bits::FACT_BITS,
-        );
+        )
     }
 
-    // Puts a node without lists: its kind, and its other field if it has one.
-    #[tactic(auto, using(crate::proofs::Plain::plain_value, crate::specs::Room::room_last))]
-    fn put_plain(&mut self, node: &Node<'_>)
-        requires { RoomFor (plain node.now) self.old }
-        ensures { Put (plain node.now) self.old self.new }
+    // Puts a node without lists, by its bits: its kind stands first in its word already, and its other field, if it has one, moves there from the end.
+    fn put_plain(&self, out: &mut [u8], from: Cursor, bits: u32) -> Cursor
+        requires { (bits ≡ length (plain self.now)) × RoomFor (plain self.now) out.old from }
+        ensures { Put (plain self.now) out.old from out.new result }
     {
-        let kind = node.kind();
-        let width = bits::plain_bits(kind);
-        self.put(
-            bits::KIND_BITS + width,
-            (kind << width) + node.first() % (1 << width),
-        );
+        let word = self.first();
+        let other = ((u64::from(word) << (32 - bits)) % u64::from(policy_model::KIND)) as u32;
+        bits::put_leading(out, from, bits, self.kind() * policy_model::KIND + other)
     }
 
     // Puts a node.
     #[tactic(auto, using(crate::specs::FlatLaws::node_kinds, crate::specs::Room::same_room, crate::proofs::Putting::same_put))]
-    fn put_node(&mut self, node: &Node<'_>)
-        requires { RoomFor (run node.now) self.old }
-        ensures { Put (run node.now) self.old self.new }
+    fn put(&self, out: &mut [u8], from: Cursor) -> Cursor
+        requires { RoomFor (run self.now) out.old from }
+        ensures { Put (run self.now) out.old from out.new result }
     {
-        match node.kind() {
-            policy_model::KIND_GRANT => self.put_grant(node),
-            policy_model::KIND_PERMIT_WITH_TRACE => self.put_permit_trace(node),
-            policy_model::KIND_DENY_WITH_TRACE => self.put_deny_trace(node),
-            _ => self.put_plain(node),
+        match self.kind() {
+            policy_model::KIND_GRANT => self.put_grant(out, from),
+            policy_model::KIND_PERMIT_WITH_TRACE => self.put_permit_trace(out, from),
+            policy_model::KIND_DENY_WITH_TRACE => self.put_deny_trace(out, from),
+            _ => self.put_plain(out, from, self.plain_bits()),
         }
     }
+}
 
-    // Puts the nodes of a tree.
-    fn put_nodes(&mut self, tree: &Tree<'_>)
-        requires { RoomFor (nodes tree.now) self.old }
-        ensures { Put (nodes tree.now) self.old self.new }
+impl Tree<'_> {
+    ghost use Rattle.pack.specs.Places.{nodes};
+
+    // Puts its nodes.
+    fn put_nodes(&self, out: &mut [u8], from: Cursor) -> Cursor
+        requires { RoomFor (nodes self.now) out.old from }
+        ensures { Put (nodes self.now) out.old from out.new result }
     {
-        let words = tree.words;
-        let mut at = tree.from;
+        let words = self.words;
+        let mut at = self.from;
+        let mut to = from;
         // a `while`: each node says itself where the next one begins
         while at < words.len() {
             let node = Node { words, at };
-            if node.is_plain() {
-                self.put_plain(&node);
+            if let Some(bits) = node.bits_without_lists() {
+                to = node.put_plain(out, to, bits);
                 at += 1;
             } else {
-                self.put_node(&node);
+                to = node.put(out, to);
                 at = node.end();
             }
         }
+        to
     }
 }
 
@@ -387,10 +465,9 @@ impl Packs for Tree<'_> {
         self.measure()
     }
 
-    #[tactic(auto, using(crate::proofs::Putting::put_whole))]
+    #[tactic(auto, using(crate::specs::Room::room_begins, crate::proofs::Putting::put_whole))]
     fn put(&self, out: &mut [u8]) {
-        let mut writer = Writer { out, to: 0 };
-        writer.put_nodes(self);
+        self.put_nodes(out, bits::START);
     }
 }
 
@@ -416,16 +493,17 @@ impl Packs for Record<'_> {
 
     #[tactic(auto, using(crate::specs::FlatLaws::length_record))]
     fn size(&self) -> usize {
-        (32 + bits::ENTRY_BITS * self.consulted) as usize + self.tree.measure()
+        (bits::RECORD_LEAD_BITS + bits::ENTRY_BITS * self.consulted) as usize + self.tree.measure()
     }
 
     fn put(&self, out: &mut [u8]) {
         let words = self.tree.words;
-        let mut writer = Writer { out, to: 0 };
-        writer.put(16, words[0] / policy_model::HALF);
-        writer.put(16, words[0]);
-        writer.put_entries(words, 1, self.consulted, bits::ENTRY_BITS);
-        writer.put_nodes(&self.tree);
+        // the lead is the whole first word, and a field has no more than 25 bits
+        let half = bits::RECORD_LEAD_BITS / 2;
+        let first = bits::put_bits(out, bits::START, half, words[0] / policy_model::HALF);
+        let second = bits::put_bits(out, first, half, words[0]);
+        let consulted = put_entries(out, second, words, 1, self.consulted, bits::ENTRY_BITS);
+        self.tree.put_nodes(out, consulted);
     }
 }
 

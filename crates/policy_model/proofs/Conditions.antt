@@ -2,7 +2,7 @@
 use Rattle.std.specs.Prelude.{Result, Ok, Err}
 use mathlib.Core.Path.{◌≡◌, refl, sym, ◌∙◌, ap}
 use mathlib.Core.List.{List, [], ◌∷◌}
-use Prim.Native.Nat.{ℕ, zero, suc, ◌+◌, ◌-◌, ◌/◌, ◌≤◌, ◌<◌}
+use Prim.Native.Nat.{ℕ, zero, suc, ◌+◌, ◌-◌, ◌≤◌, ◌<◌}
 use native.Mathlib.Numerals.{sub-one}
 use native.Mathlib.Omega.{arith}
 use lib.ListN.{length, drop, get_or}
@@ -13,10 +13,10 @@ use Rattle.laws.specs.Size.{words_c, words_cs}
 use Rattle.laws.proofs.Lengths.{length_encode_c}
 use Rattle.laws.proofs.Canon.{same_c}
 use Rattle.policy_model.specs.declared.ConditionHead.{ConditionHead}
-use Rattle.policy_model.specs.declared.ConditionHead.TheVariants.{Has, Not, All, Any}
+use Rattle.policy_model.specs.declared.ConditionHead.TheVariants.{Not, All, Any}
 use Rattle.policy_model.specs.Answers.{checked, Lists}
 use Rattle.policy_model.specs.Heads.{condition_head, condition_node, deep_condition}
-use Rattle.policy_model.specs.HeadLaws.{condition_node_lem, condition_deep, has_word}
+use Rattle.policy_model.specs.HeadLaws.{condition_node_lem, condition_deep}
 use Rattle.policy_model.proofs.Checking.{word_at, no_word, Leaves, leaves_of, end_with, many_first, many_none}
 
 pub condition_leaves : (d : ℕ) (us : List ℕ) → Leaves words_c us (read_condition d us)
@@ -49,11 +49,6 @@ module _ (words : List ℕ) (at depth : ℕ) where
   by_head h lt f e =
       ap (checked words_c at) (ap (λ x. condition_node (read_condition (depth - 1)) x (drop (at + 1) words)) e ∙ node_there depth (get_or words at 0) (drop (at + 1) words) f
       ∙ ap (read_condition depth) (sym (word_at words at lt)))
-
-  -- A Has by its word.
-  pub has_passed : at < length words → (depth ≡ 0 → ⊥) → get_or words at 0 / 1024 ≡ 524288 → Ok (at + 1) ≡ Asked
-  unfolding checked condition_node
-  has_passed lt f e = by_head (Has _) lt f (has_word _ e)
 
 -- What follows the first word of a Not, an All, an Any.
 module _ (p : List ℕ → Parsed Condition) (at : ℕ) (us : List ℕ) where

@@ -4,6 +4,7 @@ pub mod Fields
 pub mod Quads
 pub mod Pairs
 pub mod Conditions
+pub mod Short
 pub mod Nodes
 pub mod Policies
 pub mod Whole

@@ -1,12 +1,17 @@
 -- A list of obligations, word by word: how many are to come. Assumes nothing.
 use Rattle.std.specs.Prelude.{Result, Ok, Err}
 use mathlib.Core.Path.{◌≡◌, refl, sym, ◌∙◌, ap, ap₂}
-use mathlib.Core.Bool.{Bool, true, false, cond}
+use mathlib.Core.Bool.{Bool, true, false, cond, ◌&&◌}
 use mathlib.Core.List.{List, [], ◌∷◌}
-use Prim.Native.Nat.{ℕ, zero, suc, ◌+◌, ◌-◌, ◌/◌, ◌%◌, ◌≤◌, ◌<◌}
+use Prim.Native.Nat.{ℕ, zero, suc, ◌+◌, ◌-◌, ◌*◌, ◌/◌, ◌%◌, ◌≤◌, ◌<◌}
+use Prim.Native.Nat.{min}
+use lib.Bits.{bit_and}
 use native.Mathlib.Nat.{div-one}
 use native.Mathlib.Numerals.{sub-one}
 use native.Mathlib.Omega.{arith}
+use borrow.Author.Tests.{ltb-true, ltb-false, eq-eqb, ne_eqb}
+use Rattle.std.proofs.lemmas.Nat.{and_mask, and_block}
+use Rattle.std.proofs.lemmas.Nat.Bits.{and_high}
 use lib.Dec.{eqb, ltb, eqb-suc-zero}
 use lib.ListN.{length, drop, get_or}
 use Rattle.model.specs.Fields.{split, words_for}
@@ -149,12 +154,110 @@ four_fields w =
     let b : w % 16777216 % 65536 % 256 ≡ w % 256 = omega arith in
     ap₂ (λ x y. w / 16777216 ∷ w % 16777216 / 65536 ∷ x ∷ y ∷ []) (ap (λ n. n / 256) a) (div-one (w % 16777216 % 65536 % 256) ∙ b)
 
-pub four_seen : (w : ℕ) (s s₁ s₂ s₃ r : Result ℕ ℕ) → s₁ ≡ seen_one s (w / 16777216) → s₂ ≡ seen_one s₁ (w % 16777216 / 65536) → s₃ ≡ seen_one s₂ (w % 65536 / 256) →
-    r ≡ seen_one s₃ (w % 256) → r ≡ seen_all s (split obligation_bits 4 w)
-unfolding seen_all
-four_seen w s s₁ s₂ s₃ r e₁ e₂ e₃ e₄ =
-    let all : r ≡ seen_one (seen_one (seen_one (seen_one s (w / 16777216)) (w % 16777216 / 65536)) (w % 65536 / 256)) (w % 256) = cc in
-    all ∙ ap (seen_all s) (sym (four_fields w))
+-- A field by how many are to come: whether it is accepted, and the bits of it that must be 0.
+abbrev good : ℕ → ℕ → Bool
+good zero b = eqb b 0
+good (suc k) b = ltb b 64
+
+abbrev outside : ℕ → ℕ
+outside zero = 255
+outside (suc k) = 192
+
+unfoldable all_good : ℕ → List ℕ → Bool
+all_good k [] = true
+all_good k (b ∷ bs) = good k b && all_good (k - 1) bs
+
+field_by : (k b : ℕ) → seen_one (Ok k) b ≡ cond (good k b) (Ok (k - 1)) (Err 8)
+unfolding seen_one
+field_by zero b = refl
+field_by (suc k) b = rw (eqb-suc-zero k)
+
+refused_on : (n : ℕ) (bs : List ℕ) → seen_all (Err n) bs ≡ Err n
+unfolding seen_all seen_one
+refused_on n [] = refl
+refused_on n (b ∷ bs) = refused_on n bs
+
+by_first : (k : ℕ) (bs : List ℕ) (t : Bool) → seen_all (Ok (k - 1)) bs ≡ cond (all_good (k - 1) bs) (Ok (k - 1 - length bs)) (Err 8) →
+    seen_all (cond t (Ok (k - 1)) (Err 8)) bs ≡ cond (t && all_good (k - 1) bs) (Ok (k - suc (length bs))) (Err 8)
+by_first k bs true h = h ∙ ap (λ n. cond (all_good (k - 1) bs) (Ok n) (Err 8)) (omega arith)
+by_first k bs false h = refused_on 8 bs
+
+fields_by : (k : ℕ) (bs : List ℕ) → seen_all (Ok k) bs ≡ cond (all_good k bs) (Ok (k - length bs)) (Err 8)
+unfolding seen_all all_good
+fields_by k [] = ap Ok (omega arith)
+fields_by k (b ∷ bs) = ap (λ s. seen_all s bs) (field_by k b) ∙ by_first k bs (good k b) (fields_by (k - 1) bs)
+
+-- The bits that must be 0, field by field.
+high_zero : (b : ℕ) (t : Bool) → ltb b 64 ≡ t → b < 256 → eqb (b / 64 % 4 * 64) 0 ≡ t
+high_zero b true e h = let small : b < 64 = ltb-true b 64 e in eq-eqb (b / 64 % 4 * 64) 0 (omega arith)
+high_zero b false e h = let big : 64 ≤ b = ltb-false b 64 e in ne_eqb (b / 64 % 4 * 64) 0 (λ z. omega arith)
+
+bits_zero : (k b : ℕ) → b < 256 → eqb (bit_and b (outside k)) 0 ≡ good k b
+bits_zero zero b h = ap (λ n. eqb n 0) (and_mask b 8 ∙ omega arith)
+bits_zero (suc k) b h = ap (λ n. eqb n 0) (and_high b 2 6) ∙ high_zero b (ltb b 64) refl h
+
+sum_zero : (x y : ℕ) → eqb (x * 256 + y) 0 ≡ (eqb x 0 && eqb y 0)
+sum_zero zero y = ap (λ n. eqb n 0) (omega arith)
+sum_zero (suc x) y = ne_eqb (suc x * 256 + y) 0 (λ z. omega arith) ∙ rw (eqb-suc-zero x)
+
+in_order : (x y z t : Bool) → (((x && y) && z) && t) ≡ (x && (y && (z && (t && true))))
+in_order true true true true = refl
+in_order true true true false = refl
+in_order true true false t = refl
+in_order true false z t = refl
+in_order false y z t = refl
+
+module _ (k a b c d : ℕ) (of_a : a < 256) (of_b : b < 256) (of_c : c < 256) (of_d : d < 256) where
+  abbrev outside_all : ℕ
+  outside_all = ((outside k * 256 + outside (k - 1)) * 256 + outside (k - 1 - 1)) * 256 + outside (k - 1 - 1 - 1)
+
+  few : (n : ℕ) → outside n < 256
+  few zero = omega arith
+  few (suc n) = omega arith
+
+  by_fields : bit_and (((a * 256 + b) * 256 + c) * 256 + d) outside_all ≡ ((bit_and a (outside k) * 256 + bit_and b (outside (k - 1))) * 256 + bit_and c (outside (k - 1 - 1))) * 256 + bit_and d (outside (k - 1 - 1 - 1))
+  by_fields =
+      and_block 8 ((a * 256 + b) * 256 + c) ((outside k * 256 + outside (k - 1)) * 256 + outside (k - 1 - 1)) d (outside (k - 1 - 1 - 1)) of_d (few (k - 1 - 1 - 1))
+      ∙ ap (λ n. n * 256 + bit_and d (outside (k - 1 - 1 - 1)))
+      (and_block 8 (a * 256 + b) (outside k * 256 + outside (k - 1)) c (outside (k - 1 - 1)) of_c (few (k - 1 - 1))
+      ∙ ap (λ n. n * 256 + bit_and c (outside (k - 1 - 1))) (and_block 8 a (outside k) b (outside (k - 1)) of_b (few (k - 1))))
+
+  four_zero : eqb (bit_and (((a * 256 + b) * 256 + c) * 256 + d) outside_all) 0 ≡ all_good k (a ∷ b ∷ c ∷ d ∷ [])
+  unfolding all_good
+  four_zero =
+      ap (λ n. eqb n 0) by_fields
+      ∙ sum_zero ((bit_and a (outside k) * 256 + bit_and b (outside (k - 1))) * 256 + bit_and c (outside (k - 1 - 1))) (bit_and d (outside (k - 1 - 1 - 1)))
+      ∙ ap (λ t. t && eqb (bit_and d (outside (k - 1 - 1 - 1))) 0)
+      (sum_zero (bit_and a (outside k) * 256 + bit_and b (outside (k - 1))) (bit_and c (outside (k - 1 - 1)))
+      ∙ ap (λ t. t && eqb (bit_and c (outside (k - 1 - 1))) 0) (sum_zero (bit_and a (outside k)) (bit_and b (outside (k - 1)))))
+      ∙ rw (bits_zero k a of_a, bits_zero (k - 1) b of_b, bits_zero (k - 1 - 1) c of_c, bits_zero (k - 1 - 1 - 1) d of_d)
+      (in_order (good k a) (good (k - 1) b) (good (k - 1 - 1) c) (good (k - 1 - 1 - 1) d))
+
+-- The bits of the table.
+abbrev table : List ℕ
+table = 4294967295 ∷ 3238002687 ∷ 3233873919 ∷ 3233857791 ∷ 3233857728 ∷ []
+
+tabled : (k m : ℕ) → m ≡ min k 4 → get_or table m 0 ≡ ((outside k * 256 + outside (k - 1)) * 256 + outside (k - 1 - 1)) * 256 + outside (k - 1 - 1 - 1)
+tabled zero m e = let z : m ≡ 0 = omega arith in rw z
+tabled (suc zero) m e = let z : m ≡ 1 = omega arith in rw z
+tabled (suc (suc zero)) m e = let z : m ≡ 2 = omega arith in rw z
+tabled (suc (suc (suc zero))) m e = let z : m ≡ 3 = omega arith in rw z
+tabled (suc (suc (suc (suc k)))) m e = let z : m ≡ 4 = omega arith in rw (z, sub-one, sub-one, sub-one)
+
+word_is : (w : ℕ) → ((w / 16777216 * 256 + w % 16777216 / 65536) * 256 + w % 65536 / 256) * 256 + w % 256 ≡ w
+word_is w = omega arith
+
+pub word_seen : (k m w : ℕ) (t : Bool) → w < 4294967296 → m ≡ min k 4 → eqb (bit_and w (get_or table m 0)) 0 ≡ t → cond t (Ok (k - 4)) (Err 8) ≡ seen_all (Ok k) (split obligation_bits 4 w)
+word_seen k m w t h e f =
+    let a = w / 16777216 in
+    let b = w % 16777216 / 65536 in
+    let c = w % 65536 / 256 in
+    let d = w % 256 in
+    let zero_by : eqb (bit_and (((a * 256 + b) * 256 + c) * 256 + d) (((outside k * 256 + outside (k - 1)) * 256 + outside (k - 1 - 1)) * 256 + outside (k - 1 - 1 - 1))) 0 ≡ all_good k (a ∷ b ∷ c ∷ d ∷ []) =
+    four_zero k a b c d (omega arith) (omega arith) (omega arith) (omega arith) in
+    ap (λ x. cond x (Ok (k - 4)) (Err 8)) (sym f ∙ ap (λ n. eqb (bit_and w n) 0) (tabled k m e) ∙ rw (word_is w) at zero_by)
+    ∙ sym (fields_by k (a ∷ b ∷ c ∷ d ∷ []))
+    ∙ ap (seen_all (Ok k)) (sym (four_fields w))
 
 -- What the loop over the words asks.
 pub ruleset walks = (passed_on, walk_word, walk_refused, walk_short, walk_done, walk_list, four_passed)

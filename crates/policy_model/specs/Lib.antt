@@ -5,3 +5,4 @@ pub mod Answers
 pub mod Span
 pub mod Plain
 pub mod PlainLaws
+pub mod Short

@@ -13,9 +13,10 @@ ghost use Rattle.model.specs.Products.{read_policy};
 ghost use Rattle.laws.specs.Size.{quads, pairs, words_c, words_cs, words_d, words as words_t, wordss as words_ts};
 ghost use Rattle.policy_model.specs.Heads.{condition_head, deep_condition, shape_by, permit_head, grant_head, permit_trace_head, deny_trace_head, policy_head, within_most, deep_policy, grant_node, permit_trace_node, deny_trace_node};
 ghost use Rattle.policy_model.specs.Plain.{plain_grant};
-ghost use Rattle.policy_model.specs.Lists.{seen_one, seen_all, entry_fits, pair_fits, mark_fits, marks_fit, checked_marks, checked_pairs};
+ghost use Rattle.policy_model.specs.Lists.{seen_all, entry_fits, pair_fits, mark_fits, marks_fit, checked_marks, checked_pairs};
 ghost use Rattle.policy_model.specs.Answers.{WordOrEnd, checked, Lists, Stepped, at_end, refusal, body_at, words_b, lead_of, record_lead};
 ghost use Rattle.refusal.specs.Numbers.{number_of, by_number, refused};
+ghost use Rattle.policy_model.specs.Short.{condition_limits, is_condition};
 ghost use Rattle.policy_model.specs.Span.{arms_of, own_of, span, Skipped, SkippedConditions};
 
 use refusal::Refusal;
@@ -145,6 +146,21 @@ pub const SHEET_WORDS: usize = 4096;
 pub const RECORD_WORDS: usize = 16384;
 
 pub const MOST_LISTED: usize = 4095;
+
+// Tables by kind, since a branch on a kind is often mispredicted. What a condition's other bits are below: 0 for what is none.
+const CONDITION_LIMITS: [u32; 16] = [1, 1, FACTS, 1, COUNTS, COUNTS, 0, 0, 0, 0, 0, 0, 0, 0, 0, 0];
+
+// The bits that count arms, and the arms that no bit counts.
+const COUNT: u32 = COUNTS - 1;
+
+const COUNTED_ARMS: [u32; 16] = [
+    0, 0, 0, 0, COUNT, COUNT, 0, 0, 0, COUNT, COUNT, 0, 0, 0, 0, 0,
+];
+
+const FIXED_ARMS: [u32; 16] = [0, 0, 0, 1, 0, 0, 0, 0, 1, 0, 0, 2, 0, 0, 0, 0];
+
+// The nodes of a short condition, at most: a long one is counted so far in vain.
+const SHORT: usize = 64;
 
 // The value at `at`, or `past`, past the end.
 pub fn value_at<T: Copy>(values: &[T], at: usize, past: T) -> T
@@ -408,34 +424,27 @@ pub fn plain_grant(words: &[u32], at: usize) -> bool
         && words[at + 2] / FACTS == HAS
 }
 
-// One more field of a list of obligations, of which `left` are to come: how many are, after it. After the last obligation a field must be 0.
-#[tactic(auto, unfolding(crate::specs::Lists::seen_one))]
-fn with_field(left: u32, field: u32) -> Result<u32, Refusal>
-    ensures { by_number result ≡ seen_one (Ok left) field }
-{
-    if left == 0 {
-        return if field == 0 {
-            Ok(0)
-        } else {
-            Err(Refusal::Field)
-        };
-    }
-    if field < OBLIGATION_NUMBERS {
-        Ok(left - 1)
-    } else {
-        Err(Refusal::Field)
-    }
-}
+// The bits of a quarter that no obligation has, and those of a word that must be 0, by how many obligations are to come: none, one, two, three, or more. What
+// follows the last one is 0.
+const NO_OBLIGATION: u32 = QUARTER - OBLIGATION_NUMBERS;
 
-// The four fields of a word, from the left.
-#[tactic(auto, unfolding(crate::specs::Lists::seen_one, crate::specs::Lists::seen_all))]
+const NO_OBLIGATIONS: [u32; 5] = [
+    u32::MAX,
+    NO_OBLIGATION * THREE_QUARTERS + (THREE_QUARTERS - 1),
+    NO_OBLIGATION * (THREE_QUARTERS + HALF) + (HALF - 1),
+    NO_OBLIGATION * (THREE_QUARTERS + HALF + QUARTER) + (QUARTER - 1),
+    NO_OBLIGATION * (THREE_QUARTERS + HALF + QUARTER + 1),
+];
+
+// One more word of a list of obligations, of which `left` are to come: how many are, after it.
 fn with_word(left: u32, word: u32) -> Result<u32, Refusal>
     ensures { by_number result ≡ seen_all (Ok left) (split obligation_bits 4 word) }
 {
-    let first = with_field(left, word / THREE_QUARTERS)?;
-    let second = with_field(first, word % THREE_QUARTERS / HALF)?;
-    let third = with_field(second, word % HALF / QUARTER)?;
-    with_field(third, word % QUARTER)
+    if word & NO_OBLIGATIONS[left.min(4) as usize] == 0 {
+        Ok(left.saturating_sub(4))
+    } else {
+        Err(Refusal::Field)
+    }
 }
 
 // Checks a list of `count` obligations from `at`. Each word is looked for in its turn, since WordsEnd comes after any Field in the words before it.
@@ -639,24 +648,54 @@ impl<'a> Tree for ConditionTree<'a> {
     }
 }
 
-// Checks the condition at `at`, of at most `depth` levels.
+// What a condition's other bits are below, by its kind.
+fn condition_limit(kind: u32) -> u32
+    requires { kind < 16 }
+    ensures { result ≡ get_or condition_limits kind 0 }
+{
+    CONDITION_LIMITS[kind as usize]
+}
+
+// Whether a word is the first one of a condition, with no field wrong.
+#[tactic(auto, unfolding(crate::specs::Short::is_condition))]
+fn is_condition(word: u32) -> bool
+    ensures { result ≡ is_condition word }
+{
+    word % KIND < condition_limit(word / KIND)
+}
+
+// The position after the condition at `at`, if it is short, all its nodes are good, and fewer of them have arms than there are levels: then none is too deep,
+// and it is enough to count the nodes that are due. A loop over levels often mispredicts the steps up.
+fn short_condition(words: &[u32], at: usize, depth: usize) -> Option<usize>
+    requires { depth ≤ levels }
+    ensures { IfSome result (λ end. Ok end ≡ checked words_c at (read_condition depth (drop at words.now))) }
+{
+    let end = words.len().min(at.saturating_add(SHORT));
+    let mut due: usize = 1;
+    let mut levels = depth;
+    for next in at..end {
+        if levels == 0 || !is_condition(words[next]) {
+            return None;
+        }
+        let arms = arms_of(words[next]) as usize;
+        levels -= usize::from(arms != 0);
+        due = due - 1 + arms;
+        if due == 0 {
+            return Some(next + 1);
+        }
+    }
+    None
+}
+
+// Checks the condition at `at`, of at most `depth` levels. What the count doesn't pass is judged level by level.
 fn check_condition(words: &[u32], at: usize, depth: usize) -> Result<usize, Refusal>
     requires { depth ≤ levels }
     ensures { by_number result ≡ checked words_c at (read_condition depth (drop at words.now)) }
 {
-    check_tree(&ConditionTree { words }, at, depth)
-}
-
-// Checks a Grant's condition as `check_condition` does. A Has, the commonest, is seen here, with no array to fill.
-#[tactic(auto, using(crate::proofs::Conditions::has_passed))]
-fn check_grant_condition(words: &[u32], at: usize, depth: usize) -> Result<usize, Refusal>
-    requires { depth ≤ levels }
-    ensures { by_number result ≡ checked words_c at (read_condition depth (drop at words.now)) }
-{
-    if depth != 0 && at < words.len() && words[at] / FACTS == HAS {
-        return Ok(at + 1);
+    match short_condition(words, at, depth) {
+        Some(end) => Ok(end),
+        None => check_tree(&ConditionTree { words }, at, depth),
     }
-    check_condition(words, at, depth)
 }
 
 // Checks what follows the first word of a Grant at `at`: label and reason, `obligations`, and one condition of at most `depth` levels.
@@ -667,7 +706,7 @@ fn check_grant(words: &[u32], at: usize, depth: usize, obligations: u32) -> Resu
 {
     let list = check_marks(words, at + 1)?;
     let next = check_obligations(words, list, obligations)?;
-    check_grant_condition(words, next, depth)
+    check_condition(words, next, depth)
 }
 
 // Checks what follows the first word of a PermitWithTrace at `at`: label and count of facts, `obligations`, facts.
@@ -929,23 +968,13 @@ pub fn sheet_number(words: &[u32]) -> u32
     word_at(words, 0) / COUNTS % SHEET_NUMBERS
 }
 
-// The arms that a first word opens, of a condition or a policy; a Grant's condition is one. The kinds without arms that are the commonest come first.
+// The arms that a first word opens, of a condition or a policy; a Grant's condition is one.
 #[tactic(auto, unfolding(crate::specs::Span::arms_of))]
 pub fn arms_of(word: u32) -> u32
     ensures { result ≡ arms_of word }
 {
-    let kind = word / KIND;
-    if kind < KIND_NOT {
-        return 0;
-    }
-    match kind {
-        KIND_NOT | KIND_GRANT => 1,
-        KIND_CONDITION_ALL | KIND_CONDITION_ANY | KIND_POLICY_ALL | KIND_POLICY_ANY => {
-            word % COUNTS
-        }
-        KIND_OR_ELSE => 2,
-        _ => 0,
-    }
+    let kind = (word / KIND) as usize;
+    (word & COUNTED_ARMS[kind]) + FIXED_ARMS[kind]
 }
 
 // The words of the facts that the word at `at` counts in its last 12 bits.

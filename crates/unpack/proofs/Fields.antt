@@ -1,22 +1,25 @@
 -- Fields at a position of a run, as the code reads them. Assumes nothing.
-use mathlib.Core.Path.{◌≡◌, refl, sym, ◌∙◌, ap}
-use mathlib.Core.List.{List, [], ◌∷◌, map}
-use Prim.Native.Nat.{ℕ, zero, suc, ◌+◌, ◌*◌, ◌≤◌, ◌<◌}
-use native.Mathlib.Nat.{mul-suc}
+use mathlib.Core.Path.{◌≡◌, sym, ◌∙◌, ap}
+use mathlib.Core.List.{List, [], ◌∷◌}
+use Prim.Native.Nat.{ℕ, suc, ◌+◌, ◌*◌, ◌%◌, ◌≤◌, ◌<◌}
 use native.Mathlib.Omega.{arith}
+use borrow.Author.Tests.{ne_eqb}
+use Rattle.std.proofs.Common.{eq-eqb}
 use lib.ListN.{length, take, drop, get_or, get_or-eq_default, length-drop}
-use lib.Seq.{drop-drop, take_all}
-use Rattle.model.specs.Fields.{joined, words_for, pack}
+use lib.Seq.{drop-drop}
+use Rattle.model.specs.Fields.{joined}
 use Rattle.model.specs.Bits.{run_of}
 use Rattle.laws.specs.FieldAt.{Narrow}
 use Rattle.laws.proofs.WordLaws.{narrow_drop}
 use Rattle.laws.proofs.BitLaws.{Bits, bits_run, length_run}
-use Rattle.packing.specs.Packed.{values_from}
-use Rattle.packing.specs.PackedLaws.{pack_word}
-use Rattle.unpack.specs.Nodes.{field_in, fields_in, loose_entry}
+use Rattle.unpack.specs.Nodes.{field_in, mark_in, grant_node}
 use Rattle.unpack.specs.declared.Here.{Here}
 use Rattle.unpack.specs.Places.{rest}
-use Rattle.unpack.specs.FieldLaws.{length_fields}
+use Rattle.bits.specs.Widths.{has_lists, plain_width, plain_node_width, mark_width}
+use Rattle.std.specs.Prelude.{true, false, None, Some}
+use Rattle.bits.specs.WidthLaws.{mark_absent, mark_there}
+use Rattle.unpack.specs.NormalLaws.{field_split}
+use Rattle.unpack.specs.FieldLaws.{field_parts, field_small}
 
 -- How many bits there are, and how many are left.
 pub ruleset left = (length_run, length-drop)
@@ -39,43 +42,58 @@ bits_here h = bits_from h.bytes.now h.octets h.at
 pub at_field : (run : List ℕ) (at s w : ℕ) → joined 1 w (drop (at + s) run) ≡ field_in s w (drop at run)
 at_field run at s w = ap (joined 1 w) (sym (drop-drop s at run))
 
--- A field of a list, and none past its end.
-pub field_there : (w n : ℕ) (bs : List ℕ) (i : ℕ) → i < n → joined 1 w (drop (w * i) bs) ≡ get_or (fields_in w n bs) i 0
-unfolding fields_in
-field_there w zero bs i h = let z : ⊥ = omega arith in absurd z
-field_there w (suc n) bs zero h = ap (λ m. joined 1 w (drop m bs)) (let z : w * 0 ≡ 0 = omega arith in z)
-field_there w (suc n) bs (suc i) h =
-    ap (λ m. joined 1 w (drop m bs)) (let e = mul-suc w i in let z : w * suc i ≡ w + w * i = omega arith in z)
-    ∙ ap (joined 1 w) (sym (drop-drop (w * i) w bs))
-    ∙ field_there w n (drop w bs) i (omega arith)
+-- The kinds without lists.
+pub no_lists : (kind : ℕ) → kind < 12 → (kind ≡ 8 → ⊥) → has_lists kind ≡ false
+unfolding has_lists
+no_lists kind l n = grind arith
 
-pub field_past : (w n : ℕ) (bs : List ℕ) (i : ℕ) → n ≤ i → 0 ≡ get_or (fields_in w n bs) i 0
-field_past w n bs i h = sym (get_or-eq_default (fields_in w n bs) 0 (let l = length_fields w n bs in omega arith))
+-- What the table of widths says: whether a kind has lists, and the bits of one without.
+pub lists_told : (kind : ℕ) → None ≡ plain_node_width kind → has_lists kind ≡ true
+unfolding plain_node_width
+lists_told kind e = grind arith
 
-pub entry_there : (vs : List ℕ) (i : ℕ) → loose_entry (get_or vs i 0) ≡ get_or (map loose_entry vs) i 0
-entry_there [] i = refl
-entry_there (v ∷ vs) zero = refl
-entry_there (v ∷ vs) (suc i) = entry_there vs i
+pub plain_told : (kind width : ℕ) → Some width ≡ plain_node_width kind → (has_lists kind ≡ false) × (width ≡ 4 + plain_width kind)
+unfolding plain_node_width
+plain_told kind width e = grind arith
 
--- ---- words of lists
-module _ (vs : List ℕ) (j : ℕ) where
-  pub quad_word : (a b c d : ℕ) → j < words_for 4 (length vs) → a ≡ get_or vs (j * 4) 0 → b ≡ get_or vs (j * 4 + 1) 0 → c ≡ get_or vs (j * 4 + 2) 0 → d ≡ get_or vs (j * 4 + 3) 0 →
-      a * 16777216 + b * 65536 + c * 256 + d ≡ get_or (pack 8 vs) j 0
-  quad_word a b c d h ea eb ec ed =
-      let all : take (length vs) vs ≡ vs = take_all (length vs) vs (omega arith) in
-      let e₁ : get_or vs (j * 4 + 1) 0 ≡ get_or vs (suc (j * 4)) 0 = ap (λ i. get_or vs i 0) (let z : j * 4 + 1 ≡ suc (j * 4) = omega arith in z) in
-      let e₂ : get_or vs (j * 4 + 2) 0 ≡ get_or vs (suc (suc (j * 4))) 0 = ap (λ i. get_or vs i 0) (let z : j * 4 + 2 ≡ suc (suc (j * 4)) = omega arith in z) in
-      let e₃ : get_or vs (j * 4 + 3) 0 ≡ get_or vs (suc (suc (suc (j * 4)))) 0 = ap (λ i. get_or vs i 0) (let z : j * 4 + 3 ≡ suc (suc (suc (j * 4))) = omega arith in z) in
-      omega (arith, ea, eb, ec, ed, e₁, e₂, e₃)
-      ∙ ap (λ l. joined 8 4 (values_from l (j * 4) 4)) (sym all)
-      ∙ sym (pack_word 8 (length vs) vs (omega arith) j h)
-      ∙ ap (λ l. get_or (pack 8 l) j 0) all
+-- The marks of a Grant, by 17 bits that hold the present bits of both.
+module _ (bs : List ℕ) (h : Bits bs) where
+  absent : (at : ℕ) → field_in at 1 bs ≡ 0 → mark_width (mark_in at bs) ≡ 1
+  unfolding mark_in
+  absent at e = rw (eq-eqb (field_in at 1 bs) 0 e) (sym (mark_absent 0 (omega arith)))
 
-  pub pair_word : (a b : ℕ) → j < words_for 2 (length vs) → a ≡ get_or vs (j * 2) 0 → b ≡ get_or vs (j * 2 + 1) 0 → a * 65536 + b ≡ get_or (pack 16 vs) j 0
-  pair_word a b h ea eb =
-      let all : take (length vs) vs ≡ vs = take_all (length vs) vs (omega arith) in
-      let e₁ : get_or vs (j * 2 + 1) 0 ≡ get_or vs (suc (j * 2)) 0 = ap (λ i. get_or vs i 0) (let z : j * 2 + 1 ≡ suc (j * 2) = omega arith in z) in
-      omega (arith, ea, eb, e₁)
-      ∙ ap (λ l. joined 16 2 (values_from l (j * 2) 2)) (sym all)
-      ∙ sym (pack_word 16 (length vs) vs (omega arith) j h)
-      ∙ ap (λ l. get_or (pack 16 l) j 0) all
+  there : (at : ℕ) → field_in at 1 bs ≡ 1 → mark_width (mark_in at bs) ≡ 16
+  unfolding mark_in
+  there at e = rw (ne_eqb (field_in at 1 bs) 0 (λ z. omega (arith, e, z))) (sym (mark_there (field_in at 16 bs) (omega (arith, e, field_parts at 15 bs))))
+
+module _ (h : Here) (v : ℕ) (e : v ≡ field_in 28 17 (rest h)) where
+  abbrev bs : List ℕ
+  bs = rest h
+
+  abbrev first : v ≡ field_in 28 1 bs * 65536 + field_in 29 16 bs
+  first = e ∙ field_parts 28 16 bs
+
+  abbrev second : field_in 29 16 bs ≡ field_in 29 1 bs * 32768 + field_in 30 15 bs
+  second = field_parts 29 15 bs
+
+  abbrev last : v ≡ field_in 28 16 bs * 2 + field_in 44 1 bs
+  last = e ∙ field_split 16 28 1 bs
+
+  abbrev small : (field_in 28 1 bs < 2) × (field_in 29 16 bs < 65536) × (field_in 29 1 bs < 2) × (field_in 30 15 bs < 32768) × (field_in 44 1 bs < 2)
+  small = (field_small 28 1 bs (bits_here h), field_small 29 16 bs (bits_here h), field_small 29 1 bs (bits_here h), field_small 30 15 bs (bits_here h), field_small 44 1 bs (bits_here h))
+
+  by_label : (k n : ℕ) → mark_width (mark_in 28 bs) ≡ k → mark_width (mark_in (28 + k) bs) ≡ n → 28 + k + n ≡ (grant_node bs).width
+  unfolding grant_node
+  by_label k n f g = ap (λ m. 28 + k + m) (sym g) ∙ (λ i. 28 + sym f i + mark_width (mark_in (28 + sym f i) bs))
+
+  pub no_mark : v < 32768 → 30 ≡ (grant_node bs).width
+  no_mark l = by_label 1 1 (absent bs (bits_here h) 28 (omega (arith, first))) (absent bs (bits_here h) 29 (omega (arith, first, second)))
+
+  pub no_label : 32768 ≤ v → v < 65536 → 45 ≡ (grant_node bs).width
+  no_label l m = by_label 1 16 (absent bs (bits_here h) 28 (omega (arith, first))) (there bs (bits_here h) 29 (omega (arith, first, second, small)))
+
+  pub no_reason : 65536 ≤ v → v % 2 ≡ 0 → 45 ≡ (grant_node bs).width
+  no_reason l m = by_label 16 1 (there bs (bits_here h) 28 (omega (arith, first, small))) (absent bs (bits_here h) 44 (omega (arith, last, small)))
+
+  pub both_marks : 65536 ≤ v → (v % 2 ≡ 0 → ⊥) → 60 ≡ (grant_node bs).width
+  both_marks l m = by_label 16 16 (there bs (bits_here h) 28 (omega (arith, first, small))) (there bs (bits_here h) 44 (omega (arith, last, small, m)))

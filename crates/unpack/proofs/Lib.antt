@@ -1,4 +1,5 @@
 pub mod Fields
+pub mod Groups
 pub mod Steps
 pub mod Ends
 pub mod Restoring

@@ -6,16 +6,18 @@ use Prim.Native.Nat.{ℕ, ◌+◌, ◌-◌, ◌*◌, ◌/◌, ◌≤◌, ◌<◌
 use native.Mathlib.Omega.{arith}
 use lib.ListN.{length, take, drop, set, length-append, length-map, length-take, length-drop}
 use lib.Seq.{drop-drop}
+use Rattle.std.specs.Prelude.{None, Some}
 use Rattle.model.specs.Fields.{words_for}
 use Rattle.laws.proofs.BitLaws.{length_run}
 use Rattle.laws.proofs.Lengths.{length_pack}
 use Rattle.packing.specs.Written.{Written}
 use Rattle.packing.specs.WrittenLaws.{written_none, written_lent, written_next, written_same, written_long}
-use Rattle.bits.specs.Widths.{has_lists, plain_width}
+use Rattle.bits.specs.Widths.{has_lists, plain_width, plain_node_width}
 use Rattle.unpack.specs.declared.Node.{Node}
 use Rattle.unpack.specs.Nodes.{fields_in, loose_entry, lead_kind_of, lead_in, kind_in, plain_word, list_node, node_length, node_count, fixed_words, obligation_words, entry_words, node_words, restored_node, node_bits, restored}
 use Rattle.unpack.specs.FieldLaws.{length_fields}
 use Rattle.unpack.specs.RestoreLaws.{restored_step, restored_none}
+use Rattle.unpack.proofs.Fields.{lists_told, plain_told}
 use Rattle.unpack.proofs.Steps.{list_roomy}
 
 -- ---- the words of a node
@@ -97,33 +99,34 @@ module _ {run out₀ out : List ℕ} {from end at to : ℕ} (p : Restoring run o
       }
 
   -- By its first bits, and by whether it has lists.
-  module _ (lead : ℕ) (e : lead ≡ lead_in here) (has : Bool) (h : has ≡ has_lists (lead / 65536)) where
-    kind : has ≡ has_lists (kind_in here)
-    kind = h ∙ ap (λ x. has_lists (lead_kind_of x)) e
+  module _ (lead : ℕ) (e : lead ≡ lead_in here) where
+    module _ (none : None ≡ plain_node_width (lead / 65536)) (n : Node) (f : n ≡ list_node (lead / 65536) here) where
+      has : has_lists (kind_in here) ≡ true
+      has = lists_told (kind_in here) (none ∙ ap (λ x. plain_node_width (lead_kind_of x)) e)
 
-    module _ (yes : has ≡ true) (n : Node) (f : n ≡ list_node (lead / 65536) here) where
       node : n ≡ list_node (kind_in here) here
       node = f ∙ ap (λ x. list_node (lead_kind_of x) here) e
 
       words_are : node_words n here ≡ restored_node here
-      words_are = sym (words_of_list here (sym kind ∙ yes) ∙ ap (λ x. node_words x here) (sym node))
+      words_are = sym (words_of_list here has ∙ ap (λ x. node_words x here) (sym node))
 
       pub room_list : length (restored (drop from run) 0 (end - from)) ≤ length out₀ → node_count n ≤ length (take (length out - to) (drop to out))
       room_list r = simp (length-take, length-drop) (omega (arith, room_node r, long_out r, ap length words_are, length_node n here))
 
       pub after_list : (k : ℕ) {tail : List ℕ} {r : ℕ} → k ≡ node_length n → Written (node_words n here) (take (length out - to) (drop to out)) tail r →
           Restoring run out₀ (take to out ++ (tail ++ drop (length out - to) (drop to out))) from end (at + k) (to + r)
-      after_list k l w = one_more (node_words n here) k words_are (l ∙ ap node_length node ∙ sym (bits_of_list here (sym kind ∙ yes))) (written_lent p.put w)
+      after_list k l w = one_more (node_words n here) k words_are (l ∙ ap node_length node ∙ sym (bits_of_list here has)) (written_lent p.put w)
 
-    module _ (no : has ≡ false) where
+    module _ (width : ℕ) (some : Some width ≡ plain_node_width (lead / 65536)) where
+      told : (has_lists (kind_in here) ≡ false) × (width ≡ 4 + plain_width (kind_in here))
+      told = plain_told (kind_in here) width (some ∙ ap (λ x. plain_node_width (lead_kind_of x)) e)
+
       pub room_plain : length (restored (drop from run) 0 (end - from)) ≤ length out₀ → to < length out
-      room_plain r = omega (arith, room_node r, long_out r, ap length (words_of_plain here (sym kind ∙ no)))
+      room_plain r = omega (arith, room_node r, long_out r, ap length (words_of_plain here told.0))
 
-      pub after_plain : (v k : ℕ) → length (restored (drop from run) 0 (end - from)) ≤ length out₀ → v ≡ plain_word lead → k ≡ plain_width (lead / 65536) → Restoring run out₀ (set out to v) from end (at + (4 + k)) (to + 1)
-      after_plain v k r f g =
-          one_more (v ∷ []) (4 + k) (ap (λ x. x ∷ []) (f ∙ ap plain_word e) ∙ sym (words_of_plain here (sym kind ∙ no)))
-          (ap (λ x. 4 + x) (g ∙ ap (λ x. plain_width (lead_kind_of x)) e) ∙ sym (bits_of_plain here (sym kind ∙ no)))
-          (written_next p.put v (omega (arith, room_plain r, long_out r)))
+      pub after_plain : (v : ℕ) → length (restored (drop from run) 0 (end - from)) ≤ length out₀ → v ≡ plain_word lead → Restoring run out₀ (set out to v) from end (at + width) (to + 1)
+      after_plain v r f =
+          one_more (v ∷ []) width (ap (λ x. x ∷ []) (f ∙ ap plain_word e) ∙ sym (words_of_plain here told.0)) (told.1 ∙ sym (bits_of_plain here told.0)) (written_next p.put v (omega (arith, room_plain r, long_out r)))
 
 pub ends : {run out₀ out : List ℕ} {from end at to : ℕ} → Restoring run out₀ out from end at to → end ≤ at → Written (restored (drop from run) 0 (end - from)) out₀ out to
 ends {run} {out₀} {out} {from} {end} {at} {to} p h =

@@ -2,7 +2,7 @@
 use mathlib.Core.Path.{◌≡◌, refl, sym, ◌∙◌, ap, ap₂, subst}
 use mathlib.Core.Bool.{Bool, true, false, cond}
 use mathlib.Core.List.{List}
-use Prim.Native.Nat.{ℕ, zero, suc, ◌+◌, ◌-◌, ◌/◌, ◌^◌, ◌≤◌, ◌<◌}
+use Prim.Native.Nat.{ℕ, zero, suc, ◌+◌, ◌-◌, ◌*◌, ◌/◌, ◌%◌, ◌^◌, ◌≤◌, ◌<◌}
 use native.Mathlib.Omega.{arith}
 use Rattle.std.proofs.Math.Option.{none, some}
 use borrow.Author.Tests.{le-leb, lt-leb, eqb-true, eqb-false, ne_eqb}
@@ -12,6 +12,7 @@ use lib.Seq.{drop-drop}
 use Rattle.std.specs.Prelude.{Result, Ok, Err}
 use Rattle.model.specs.Reading.{Parsed, refuse, got, unless, few_obligations}
 use Rattle.model.specs.Products.{last_kind}
+use Rattle.model.specs.Fields.{words_for}
 use Rattle.laws.proofs.BitLaws.{Bits}
 use Rattle.unpack.specs.declared.Found.{Found}
 use Rattle.unpack.specs.declared.Node.{Node}
@@ -21,10 +22,10 @@ use Rattle.unpack.specs.Nodes.{field_in, lead_in, kind_in, lead_kind_of, grant_n
 use Rattle.unpack.specs.Answers.{ended, lead_read, Says, one_condition, all_conditions, one_policy, all_policies}
 use Rattle.unpack.specs.Places.{whole, rest, after, step_of, plain_step, Steps}
 use Rattle.unpack.specs.FieldLaws.{need, need_there, need_ended, field_small}
-use Rattle.unpack.specs.NormalLaws.{owed8_in}
+use Rattle.unpack.specs.NormalLaws.{field_split, owed8_in, owed_8}
 use Rattle.unpack.specs.RecordLaws.{resolved_ended, resolved_bad, resolved_is}
 use Rattle.unpack.specs.StepLaws.{policy_lists, condition_step, condition_bad, condition_deep, condition_ended, policy_step, policy_bad, policy_deep, policy_ended, grant_step, permit_step, deny_step}
-use Rattle.unpack.proofs.Fields.{bits_here}
+use Rattle.unpack.proofs.Fields.{bits_here, no_lists}
 
 -- ---- where the bits end
 pub run_ended : (run : List ℕ) (at r : ℕ) → some r ≡ ended run at → (r ≡ 19) × (length run < at)
@@ -93,6 +94,9 @@ module _ (p : Place) where
   module _ (lead : ℕ) (e : Ok lead ≡ lead_read (rest p.here)) where
     pub lead_small : lead < 2 ^ 20
     lead_small = omega (arith, (lead_there (rest p.here) lead e).0, field_small 0 20 (rest p.here) (bits_here p.here))
+
+    pub lead_is : lead ≡ lead_in (rest p.here)
+    lead_is = (lead_there (rest p.here) lead e).0
 
     pub lead_kind : lead / 65536 ≡ kind_in (rest p.here)
     lead_kind = ap lead_kind_of (lead_there (rest p.here) lead e).0
@@ -170,6 +174,30 @@ module _ (p : Place) (kind : ℕ) (e : kind_in (rest p.here) ≡ kind) (low : 12
   stored_as f k v ek ev h = subst (λ f. Steps p (suc depth) (one_policy true (suc depth)) (all_policies true depth) (step_of 0 f)) (sym (h ∙ ap₂ (after p) ek ev)) stored_steps
 
 -- ---- a Grant
+-- Its obligation count, its bits and its words, by its first 20 bits and the width before its obligations.
+module _ (p : Place) (lead : ℕ) (e : lead ≡ lead_in (rest p.here)) where
+  pub lead_owed : lead / 256 % 128 ≡ field_in 5 7 (rest p.here)
+  lead_owed =
+      omega (
+        arith,
+        e,
+        field_split 5 0 15 (rest p.here),
+        field_split 7 5 8 (rest p.here),
+        field_small 5 7 (rest p.here) (bits_here p.here),
+        field_small 12 8 (rest p.here) (bits_here p.here),
+      )
+
+  owed : (grant_node (rest p.here)).obligations ≡ lead / 256 % 128
+  owed = owed_8 (rest p.here) (bits_here p.here) ∙ sym lead_owed
+
+  pub grant_length : (width : ℕ) → width ≡ (grant_node (rest p.here)).width → width + 6 * (lead / 256 % 128) ≡ node_length (grant_node (rest p.here))
+  unfolding grant_node
+  grant_length width f = omega (arith, f, owed)
+
+  pub grant_count : 2 + words_for 4 (lead / 256 % 128) ≡ node_count (grant_node (rest p.here))
+  unfolding grant_node
+  grant_count = ap (λ n. 2 + words_for 4 n) (sym owed) ∙ omega arith
+
 -- Its condition begins after at least as many bits as words.
 pub grant_fewer : (p : Place) (k v : ℕ) → k ≡ node_length (grant_node (rest p.here)) → v ≡ node_count (grant_node (rest p.here)) → (f : Found) → Ok f ≡ after p k v → f.words ≤ f.at
 grant_fewer p k v ek ev f h = let x = after_there p k v f h in omega (arith, x.0, x.1, ek, ev, grant_roomy (rest p.here), p.fewer)
@@ -234,8 +262,8 @@ down {depth} f Q q = subst Q (suc_of depth f) q
     suc_of (suc n) f = omega arith
 
 -- ---- what the check of the code finds answers by
-pub ruleset conditions = (lead_small, condition_short, no_condition, deep_condition, plain_condition)
+pub ruleset conditions = (lead_small, no_lists, condition_short, no_condition, deep_condition, plain_condition)
 
-pub ruleset policies = (lead_small, lead_kind, policy_short, no_policy, deep_policy, plain_policy, residual_true)
+pub ruleset policies = (lead_small, no_lists, lead_is, lead_kind, policy_short, no_policy, deep_policy, plain_policy, residual_true)
 
 pub ruleset resolved = (lead_kind, lead_ended, there, resolved_ended, resolved_bad, resolved_is)

@@ -2,17 +2,21 @@
 // restoring their words is a loop without levels.
 #![tactic(auto)]
 
-ghost use Rattle.std.specs.Prelude.{◌≡◌, Bool, true, ◌&&◌, List, map, ℕ, suc, ◌+◌, ◌-◌, ◌^◌, ◌≤◌, ◌<◌, ltb, length, drop, get_or};
-ghost use Rattle.model.specs.Fields.{words_for};
+ghost use Rattle.std.specs.Prelude.{◌≡◌, Bool, true, false, Some, ◌&&◌, List, ℕ, suc, ◌+◌, ◌-◌, ◌*◌, ◌/◌, ◌^◌, ◌≤◌, ◌<◌, ltb, length, drop, get_or};
+ghost use Rattle.model.specs.Fields.{joined, words_for};
 ghost use Rattle.model.specs.Outcome.{product_sets};
 ghost use Rattle.model.specs.Reading.{levels, Parsed, got};
 ghost use Rattle.model.specs.Products.{last_kind};
 ghost use Rattle.model.specs.Bits.{run_of};
 ghost use Rattle.model.specs.Tight.{tight_bytes, obligation_tight_bits, zeros, filled, resolved_in, loose_r, unpack_sheet, unpack_record};
+ghost use Rattle.model.specs.Writing.{obligation_bits};
+ghost use Rattle.laws.specs.FieldAt.{Narrow};
+ghost use Rattle.policy_model.specs.Span.{arms_of};
+ghost use Rattle.bits.specs.Widths.{has_lists, plain_node_width};
 ghost use Rattle.packing.specs.Written.{Written};
 ghost use Rattle.refusal.specs.Numbers.{by_number, refused};
 ghost use Rattle.answer.specs.Answers.{Answered};
-ghost use Rattle.unpack.specs.Nodes.{field_in, fields_in, mark_in, loose_entry, plain_word, grant_node, permit_node, deny_first, deny_node, list_node, node_length, node_count, Small, obligation_words, entry_words, fixed_words, node_words, kind_in, restored, tree_at, restored_record};
+ghost use Rattle.unpack.specs.Nodes.{field_in, fields_in, mark_in, loose_entry, lead_in, plain_word, grant_node, permit_node, deny_first, deny_node, list_node, node_length, node_count, Small, obligation_words, entry_words, fixed_words, node_words, kind_in, restored, tree_at, restored_record};
 ghost use Rattle.unpack.specs.Answers.{ended, lead_read, sized, Says, one_condition, all_conditions, one_policy, all_policies, words_b, words_u, judged};
 ghost use Rattle.unpack.specs.Levels.{Lists};
 ghost use Rattle.unpack.specs.StepLaws.{condition_lists, policy_lists};
@@ -38,15 +42,67 @@ struct Node {
 // The bits that hold the kind and the other field of a node without lists.
 const PLAIN_BITS: u32 = bits::KIND_BITS + bits::OUTCOME_BITS;
 
-// The word of a node without lists, from those bits. Its kind is a number, as `policy_model` says.
-#[tactic(auto, unfolding(crate::specs::Nodes::plain_word))]
-fn plain_word(lead: u32) -> u32
-    requires { lead < 2 ^ 20 }
+// Where the outcome of a node with lists begins, and its label.
+const GRANT_OUTCOME: usize = bits::GRANT_LEAD_BITS as usize;
+
+const GRANT_LABEL: usize = GRANT_OUTCOME + bits::OUTCOME_BITS as usize;
+
+const PERMIT_OUTCOME: usize = bits::PERMIT_WITH_TRACE_LEAD_BITS as usize;
+
+const PERMIT_LABEL: usize = PERMIT_OUTCOME + bits::OUTCOME_BITS as usize;
+
+const DENY_OUTCOME: usize = bits::DENY_WITH_TRACE_LEAD_BITS as usize;
+
+// Where a Grant's obligations begin: without label and reason, with one of them, with both.
+const NO_MARK: usize = GRANT_LABEL + 2 * bits::PRESENT_BITS as usize;
+
+const ONE_MARK: usize = GRANT_LABEL + (bits::PRESENT_BITS + bits::MARK_BITS) as usize;
+
+const BOTH_MARKS: usize = GRANT_LABEL + 2 * bits::MARK_BITS as usize;
+
+// Where a record's count of consulted entries begins, and the entries.
+const RECORD_COUNT: usize = (bits::KIND_BITS + bits::SHEET_NUMBER_BITS) as usize;
+
+const RECORD_ENTRIES: usize = bits::RECORD_LEAD_BITS as usize;
+
+// Half a word: a record's lead is a word in both forms, and read by halves.
+const HALF_BITS: u32 = 16;
+
+// As `bits::plain_node_bits`, with a test for a Permit: in a long list of them it is predicted, and the next node needn't wait for the table.
+#[tactic(auto, unfolding(bits::specs::Widths::plain_node_width, bits::specs::Widths::has_lists, bits::specs::Widths::plain_width))]
+fn plain_node_bits(kind: u32) -> Option<u32>
+    ensures { result ≡ plain_node_width kind }
+{
+    if kind == policy_model::KIND_PERMIT {
+        return Some(PLAIN_BITS);
+    }
+    bits::plain_node_bits(kind)
+}
+
+// The arms of a node without lists, by its word. Those that have none are told by a test, the others by `policy_model`'s tables: a branch on which of
+// them it is would often be mispredicted.
+#[tactic(auto, unfolding(policy_model::specs::Span::arms_of))]
+fn plain_arms(word: u32) -> u32
+    ensures { result ≡ arms_of word }
+{
+    match word / policy_model::KIND {
+        policy_model::KIND_ALWAYS
+        | policy_model::KIND_NEVER
+        | policy_model::KIND_HAS
+        | policy_model::KIND_PERMIT
+        | policy_model::KIND_DENY => 0,
+        _ => policy_model::arms_of(word),
+    }
+}
+
+// The word of a node without lists, from those bits and its width. Its kind is a number, as `policy_model` says.
+#[tactic(auto, using(crate::proofs::Fields::plain_told, bits::specs::WidthLaws::plain_few), unfolding(crate::specs::Nodes::plain_word))]
+fn plain_word(lead: u32, width: u32) -> u32
+    requires { (lead < 2 ^ 20) × (Some width ≡ plain_node_width (lead / 65536)) }
     ensures { result ≡ plain_word lead }
 {
-    let kind = lead / policy_model::HALF;
-    kind * policy_model::KIND
-        + ((lead % policy_model::HALF) >> (bits::OUTCOME_BITS - bits::plain_bits(kind)))
+    lead / policy_model::HALF * policy_model::KIND
+        + ((lead % policy_model::HALF) >> (PLAIN_BITS - width))
 }
 
 // The bits of some bytes, from bit `at` on. Past the end they are 0.
@@ -85,18 +141,18 @@ impl Here<'_> {
         }
     }
 
-    // A Grant: kind, shape and obligation count (12), outcome (16), label, reason.
+    // A Grant: kind, shape, obligation count, outcome, label, reason.
     #[tactic(auto, using(bits::specs::WidthLaws::mark_few), unfolding(crate::specs::Nodes::grant_node))]
     fn grant(&self) -> Node
         ensures is { result ≡ grant_node (rest self.now) }
         ensures small { Small result }
     {
-        let lead = self.bits(0, 12);
-        let label = self.mark(28);
-        let middle = 28 + bits::mark_bits(label) as usize;
+        let lead = self.bits(0, bits::GRANT_LEAD_BITS);
+        let label = self.mark(GRANT_LABEL);
+        let middle = GRANT_LABEL + bits::mark_bits(label) as usize;
         let reason = self.mark(middle);
         Node {
-            first: lead * policy_model::OBLIGATIONS + self.bits(12, 16),
+            first: lead * policy_model::OBLIGATIONS + self.bits(GRANT_OUTCOME, bits::OUTCOME_BITS),
             second: label * policy_model::HALF + reason,
             third: None,
             width: middle + bits::mark_bits(reason) as usize,
@@ -105,64 +161,82 @@ impl Here<'_> {
         }
     }
 
-    // A PermitWithTrace: kind (4), obligation count (7), outcome (16), label, count of facts (12).
+    // The bits of a Grant before its obligations, by the present bits alone, as the check asks no more: the label's, and the reason's beside it or after the
+    // label.
+    fn grant_width(&self) -> usize
+        ensures is { result ≡ (grant_node (rest self.now)).width }
+        ensures few { result ≤ 60 }
+    {
+        let marks = self.bits(GRANT_LABEL, bits::MARK_BITS + bits::PRESENT_BITS);
+        if marks < policy_model::MARKED {
+            NO_MARK
+        } else if marks < policy_model::HALF {
+            ONE_MARK
+        } else if marks % 2 == 0 {
+            ONE_MARK
+        } else {
+            BOTH_MARKS
+        }
+    }
+
+    // A PermitWithTrace: kind, obligation count, outcome, label, count of facts.
     #[tactic(auto, using(bits::specs::WidthLaws::mark_few), unfolding(crate::specs::Nodes::permit_node))]
     fn permit_trace(&self) -> Node
         ensures is { result ≡ permit_node (rest self.now) }
         ensures small { Small result }
     {
-        let obligations = self.bits(4, 7);
-        let label = self.mark(27);
-        let middle = 27 + bits::mark_bits(label) as usize;
-        let facts = self.bits(middle, 12);
+        let obligations = self.bits(bits::KIND_BITS as usize, bits::OBLIGATION_COUNT_BITS);
+        let label = self.mark(PERMIT_LABEL);
+        let middle = PERMIT_LABEL + bits::mark_bits(label) as usize;
+        let facts = self.bits(middle, bits::COUNT_BITS);
         Node {
             first: policy_model::LEAD_PERMIT_WITH_TRACE
                 + obligations * policy_model::OBLIGATIONS
-                + self.bits(11, 16),
+                + self.bits(PERMIT_OUTCOME, bits::OUTCOME_BITS),
             second: label * policy_model::HALF + facts,
             third: None,
-            width: middle + 12,
+            width: middle + bits::COUNT_BITS as usize,
             obligations,
             facts,
         }
     }
 
-    // The first word of a DenyWithTrace: kind, shape and present bit (6), and the outcome if it is present (16).
+    // The first word of a DenyWithTrace: kind, shape, present bit, and the outcome if it is present.
     #[tactic(auto, using(bits::specs::WidthLaws::denied_few, std::proofs::Common::pow_mono), unfolding(crate::specs::Nodes::deny_first))]
     fn denied(&self) -> u32
         ensures { result ≡ deny_first (rest self.now) }
     {
-        let lead = self.bits(0, 6) * policy_model::DENIED;
-        lead + self.bits(6, bits::denied_bits(lead))
+        let lead = self.bits(0, bits::DENY_WITH_TRACE_LEAD_BITS) * policy_model::DENIED;
+        lead + self.bits(DENY_OUTCOME, bits::denied_bits(lead))
     }
 
-    // A DenyWithTrace: its first word, label, reason, count of facts (12).
+    // A DenyWithTrace: its first word, label, reason, count of facts.
     #[tactic(auto, using(bits::specs::WidthLaws::mark_few, bits::specs::WidthLaws::denied_few), unfolding(crate::specs::Nodes::deny_node))]
     fn deny_trace(&self) -> Node
         ensures is { result ≡ deny_node (rest self.now) }
         ensures small { Small result }
     {
         let first = self.denied();
-        let before = 6 + bits::denied_bits(first) as usize;
+        let before = DENY_OUTCOME + bits::denied_bits(first) as usize;
         let label = self.mark(before);
         let middle = before + bits::mark_bits(label) as usize;
         let reason = self.mark(middle);
         let after = middle + bits::mark_bits(reason) as usize;
-        let facts = self.bits(after, 12);
+        let facts = self.bits(after, bits::COUNT_BITS);
         Node {
             first,
             second: label * policy_model::HALF + reason,
             third: Some(facts),
-            width: after + 12,
+            width: after + bits::COUNT_BITS as usize,
             obligations: 0,
             facts,
         }
     }
 
-    // The node of kind 8, 12 or 13.
+    // The node of kind 8, 12 or 13. By value, so that a walk keeps a place in registers until it comes to such a node.
     #[tactic(auto, unfolding(crate::specs::Nodes::list_node))]
-    fn node(&self, kind: u32) -> Node
-        ensures is { result ≡ list_node kind (rest self.now) }
+    fn node(self, kind: u32) -> Node
+        ensures is { result ≡ list_node kind (rest self.entry) }
         ensures small { Small result }
     {
         match kind {
@@ -215,14 +289,17 @@ impl Here<'_> {
             };
             let lead = here.bits(0, PLAIN_BITS);
             let kind = lead / policy_model::HALF;
-            if bits::has_lists(kind) {
-                let node = here.node(kind);
-                to = to + here.restore_node(node, &mut out[to..]);
-                at = at + node_bits(node);
-            } else {
-                out[to] = plain_word(lead);
-                to += 1;
-                at = at + (bits::KIND_BITS + bits::plain_bits(kind)) as usize;
+            match plain_node_bits(kind) {
+                Some(width) => {
+                    out[to] = plain_word(lead, width);
+                    to += 1;
+                    at = at + width as usize;
+                }
+                None => {
+                    let node = here.node(kind);
+                    to = to + here.restore_node(node, &mut out[to..]);
+                    at = at + node_bits(node);
+                }
             }
         }
         to
@@ -302,7 +379,7 @@ impl Place<'_> {
     fn lead(&self) -> Result<u32, Refusal>
         ensures { by_number result ≡ lead_read (rest self.now.here) }
     {
-        self.inside(4)?;
+        self.inside(bits::KIND_BITS as usize)?;
         Ok(self.here.bits(0, PLAIN_BITS))
     }
 
@@ -319,29 +396,35 @@ impl Place<'_> {
     }
 
     // Checks a node without lists, from its first bits.
+    #[tactic(auto, using(crate::proofs::Fields::plain_told, crate::proofs::Fields::lists_told, bits::specs::WidthLaws::plain_few))]
     fn plain_step(&self, lead: u32) -> Result<Step, Refusal>
-        requires { lead < 2 ^ 20 }
+        requires { (lead < 2 ^ 20) × (has_lists (lead / 65536) ≡ false) }
         ensures { by_number result ≡ plain_step self.now lead }
     {
-        let width = (bits::KIND_BITS + bits::plain_bits(lead / policy_model::HALF)) as usize;
+        let width = bits::plain_node_bits(lead / policy_model::HALF).unwrap();
         Ok(Step {
-            found: self.after(width, 1)?,
-            arms: policy_model::arms_of(plain_word(lead)),
+            found: self.after(width as usize, 1)?,
+            arms: plain_arms(plain_word(lead, width)),
         })
     }
 
-    // Checks a Grant, with its condition of at most `depth` levels: the obligation count first, then the other fields.
+    // Checks a Grant from its first bits, with its condition of at most `depth` levels: the obligation count first, then the other fields.
     #[tactic(auto, using(laws::proofs::BitLaws::length_run, crate::proofs::Steps::after_inside))]
-    fn grant_step(&self, depth: usize) -> Result<Step, Refusal>
-        requires { (depth < levels) × (kind_in (rest self.now.here) ≡ 8) }
+    fn grant_step(&self, lead: u32, depth: usize) -> Result<Step, Refusal>
+        requires { (depth < levels) × (kind_in (rest self.now.here) ≡ 8) × (lead ≡ lead_in (rest self.now.here)) }
         ensures { (residual : Bool) → Steps self.now (suc depth) (one_policy residual (suc depth)) (all_policies residual depth) (by_number result) }
     {
-        self.inside(12)?;
-        if self.here.bits(5, 7) > policy_model::MOST_OBLIGATIONS {
+        self.inside(GRANT_OUTCOME)?;
+        let obligations = (lead >> (PLAIN_BITS - bits::GRANT_LEAD_BITS))
+            % policy_model::OBLIGATION_COUNTS;
+        if obligations > policy_model::MOST_OBLIGATIONS {
             return Err(Refusal::Field);
         }
-        let node = self.here.grant();
-        let Found { at, words } = self.after(node_bits(node), node_words(node))?;
+        let width = self.here.grant_width() + (bits::OBLIGATION_BITS * obligations) as usize;
+        let Found { at, words } = self.after(
+            width,
+            2 + policy_model::obligation_words(obligations),
+        )?;
         let condition = Place {
             here: Here {
                 bytes: self.here.bytes,
@@ -401,10 +484,10 @@ impl Place<'_> {
             };
             let step = nodes.step(place, depth - level)?;
             found = step.found;
-            if step.arms == 0 {
-                left -= 1;
-            } else {
-                above[level] = left - 1;
+            // stored at each node, as a branch on whether it has arms is often mispredicted
+            left -= 1;
+            above[level] = left;
+            if step.arms != 0 {
                 level += 1;
                 left = step.arms;
             }
@@ -497,7 +580,7 @@ impl Nodes for Policies {
             return Err(Refusal::Level);
         }
         match kind {
-            policy_model::KIND_GRANT => place.grant_step(depth - 1),
+            policy_model::KIND_GRANT => place.grant_step(lead, depth - 1),
             policy_model::KIND_PERMIT_WITH_TRACE | policy_model::KIND_DENY_WITH_TRACE => {
                 place.stored_step(kind)
             }
@@ -519,27 +602,16 @@ struct FieldList<'a> {
 impl FieldList<'_> {
     ghost use Rattle.unpack.specs.Places.{rest};
 
-    // Field number `index`.
-    #[tactic(auto, using(crate::proofs::Fields::field_there, crate::proofs::Fields::field_past))]
-    fn field(&self, index: usize) -> u32
-        ensures is { result ≡ get_or (fields_in self.now.width self.now.count (rest self.now.here)) index 0 }
-        ensures fits { result < 2 ^ self.now.width }
+    // The fields of a word, `most` from number `first` on, as one number: they are read at once, and moved up by those that the last word lacks.
+    fn group(&self, first: usize, most: u32) -> u32
+        requires { (first < self.now.count) × (self.now.width * most ≤ 25) }
+        ensures { result ≡ joined self.now.width most (drop first (fields_in self.now.width self.now.count (rest self.now.here))) }
     {
-        if index < self.count as usize {
-            self.here.bits(self.width as usize * index, self.width)
-        } else {
-            0
-        }
-    }
-
-    // The same of a fact or consulted entry, with its zero bits.
-    #[tactic(auto, using(crate::proofs::Fields::entry_there, std::proofs::Common::pow_mono))]
-    fn entry(&self, index: usize) -> u32
-        ensures is { result ≡ get_or (map loose_entry (fields_in self.now.width self.now.count (rest self.now.here))) index 0 }
-        ensures fits { result < 65536 }
-    {
-        let field = self.field(index);
-        field / policy_model::FACTS * policy_model::PRESENCE + field % policy_model::FACTS
+        let left = self.count - first as u32;
+        let fields = if left < most { left } else { most };
+        self.here
+            .bits(self.width as usize * first, self.width * fields)
+            << (self.width * (most - fields))
     }
 
     // Restores obligations, four a word; unused tail fields are 0.
@@ -549,27 +621,48 @@ impl FieldList<'_> {
     {
         let words = policy_model::obligation_words(self.count);
         for j in 0..words {
-            let first = j * 4;
-            out[j] = self.field(first) * policy_model::THREE_QUARTERS
-                + self.field(first + 1) * policy_model::HALF
-                + self.field(first + 2) * policy_model::QUARTER
-                + self.field(first + 3);
+            out[j] = obligation_word(self.group(j * 4, 4));
         }
         words
     }
 
-    // Restores facts, or consulted entries, two a word; an unused last field is 0.
+    // Restores facts, or consulted entries, two a word; an unused last field is 0. Inlined: most nodes have none, and then nothing is laid in memory for a call.
     // Apart from `restore_obligations`: four fields a word against two, each put together in one sum, are plainer than a loop over the fields of a word.
+    #[inline(always)]
     fn restore_entries(&self, out: &mut [u32]) -> usize
         requires { words_for 2 self.now.count ≤ length out.old }
         ensures { (result ≡ words_for 2 self.now.count) × Written (entry_words self.now.width self.now.count (rest self.now.here)) out.old out.new result }
     {
         let words = policy_model::entry_words(self.count);
         for j in 0..words {
-            out[j] = self.entry(j * 2) * policy_model::HALF + self.entry(j * 2 + 1);
+            let pair = self.group(j * 2, 2);
+            out[j] = entry(pair >> self.width) * policy_model::HALF
+                + entry(pair % (1 << self.width));
         }
         words
     }
+}
+
+// A word of four obligations, from their bits.
+fn obligation_word(bits: u32) -> u32
+    requires { bits < 2 ^ 24 }
+    ensures { (owed : List ℕ) → Narrow obligation_tight_bits owed → bits ≡ joined obligation_tight_bits 4 owed → result ≡ joined obligation_bits 4 owed }
+{
+    let above_fourth = bits / policy_model::OBLIGATION_NUMBERS;
+    let above_third = above_fourth / policy_model::OBLIGATION_NUMBERS;
+    above_third / policy_model::OBLIGATION_NUMBERS * policy_model::THREE_QUARTERS
+        + above_third % policy_model::OBLIGATION_NUMBERS * policy_model::HALF
+        + above_fourth % policy_model::OBLIGATION_NUMBERS * policy_model::QUARTER
+        + bits % policy_model::OBLIGATION_NUMBERS
+}
+
+// A fact or consulted entry with its zero bits.
+fn entry(field: u32) -> u32
+    requires { field < 2 ^ 12 }
+    ensures is { result ≡ loose_entry field }
+    ensures fits { result < 65536 }
+{
+    field / policy_model::FACTS * policy_model::PRESENCE + field % policy_model::FACTS
 }
 
 // Restores the first words of a node.
@@ -625,7 +718,7 @@ pub fn unpack_sheet(bytes: &[u8], out: &mut [u32]) -> Answer
     Ok(found.words)
 }
 
-// Checks a record: kind (4), the sheet's number (16), consulted count (12), the entries, the tree.
+// Checks a record: kind, the sheet's number, consulted count, the entries, the tree.
 fn check_record(bytes: &[u8]) -> Result<Found, Refusal>
     requires { length bytes.now ≤ tight_bytes }
     ensures { Says (run_of bytes.now) (tree_at (run_of bytes.now)) (sized words_u 0 (loose_r product_sets.value (run_of bytes.now))) (by_number result) }
@@ -634,14 +727,14 @@ fn check_record(bytes: &[u8]) -> Result<Found, Refusal>
         here: Here { bytes, at: 0 },
         words: 0,
     };
-    start.inside(4)?;
-    let kind = start.here.bits(0, 4);
+    start.inside(bits::KIND_BITS as usize)?;
+    let kind = start.here.bits(0, bits::KIND_BITS);
     if kind < policy_model::KIND_RESOLVED {
         return Err(Refusal::Kind);
     }
-    start.inside(32)?;
-    let count = start.here.bits(20, 12);
-    let tree = (32 + bits::ENTRY_BITS * count) as usize;
+    start.inside(RECORD_ENTRIES)?;
+    let count = start.here.bits(RECORD_COUNT, bits::COUNT_BITS);
+    let tree = RECORD_ENTRIES + (bits::ENTRY_BITS * count) as usize;
     start.inside(tree)?;
     let place = Place {
         here: Here { bytes, at: tree },
@@ -660,16 +753,20 @@ fn restore_record(bytes: &[u8], end: usize, out: &mut [u32]) -> usize
     ensures { Written (restored_record (run_of bytes.now) end) out.old out.new result }
 {
     let start = Here { bytes, at: 0 };
-    let count = start.bits(20, 12);
-    out[0] = start.bits(0, 16) * policy_model::HALF + start.bits(16, 16);
+    let count = start.bits(RECORD_COUNT, bits::COUNT_BITS);
+    out[0] = start.bits(0, HALF_BITS) * policy_model::HALF
+        + start.bits(HALF_BITS as usize, HALF_BITS);
     let consulted = FieldList {
-        here: Here { bytes, at: 32 },
+        here: Here {
+            bytes,
+            at: RECORD_ENTRIES,
+        },
         count,
         width: bits::ENTRY_BITS,
     };
     let tree = Here {
         bytes,
-        at: (32 + bits::ENTRY_BITS * count) as usize,
+        at: RECORD_ENTRIES + (bits::ENTRY_BITS * count) as usize,
     };
     let front = 1 + consulted.restore_entries(&mut out[1..]);
     front + tree.restore(end, &mut out[front..])

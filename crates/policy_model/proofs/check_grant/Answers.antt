@@ -30,4 +30,4 @@ returns c =
     let m = marked _ _ _ c.in_ok-list.ensures in
     λ shape outcome.
     grant_goes_on s.words.now s.at s.depth s.obligations shape outcome m.0 c.type_inv.words _ _ m.1 (rw m.2 at c.in_ok-next.ensures.is)
-    c.check_grant_condition.ensures
+    c.check_condition.ensures

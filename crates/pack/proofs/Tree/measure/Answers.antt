@@ -12,18 +12,18 @@ from_node ws at end bits h b e =
     ∙ length-append (node_run ws at) (flat (drop (at + 1 + own_of (get_or ws at 0) (drop (at + 1) ws)) ws) 0)
     ∙ (λ i. sym b i + length (flat (drop (sym e i) ws) 0))
 
-pub loop-at-preserved-then-is_plain : goal.loop-at-preserved-then-is_plain
-loop-at-preserved-then-is_plain c =
+pub loop-at-preserved-in-Some : goal.loop-at-preserved-in-Some
+loop-at-preserved-in-Some c =
     let ws = c.args.self.now.words.now in
     let at = c.loop-at.at in
     let inv = c.loop-at.invariant in
-    let size = c.plain_bits-size.ensures in
-    let plain = c.is_plain.ensures c.if-is_plain.true in
-    let node = from_node ws at (at + 1) _ c.loop-at-test.true (size.is ∙ sym (ap length (node_plain ws at plain.0 plain.1 plain.2))) (omega (arith, own_plain (get_or ws at 0) (drop (at + 1) ws) plain)) in
-    (omega (arith, inv.0, node), omega (arith, inv.1, size.few), omega (arith, c.args.self.now.few))
+    let told = c.in-Some.ensures in
+    let plain = told.0 in
+    let node = from_node ws at (at + 1) _ c.loop-at-test.true (told.1 ∙ sym (ap length (node_plain ws at plain.0 plain.1 plain.2))) (omega (arith, own_plain (get_or ws at 0) (drop (at + 1) ws) plain)) in
+    (omega (arith, inv.0, node), omega (arith, inv.1, told.2), omega (arith, c.args.self.now.few))
 
-pub overflow_add-size-else-is_plain : goal.overflow_add-size-else-is_plain
-overflow_add-size-else-is_plain c = omega (arith, c.loop-at.invariant.1, c.loop-at.invariant.2, c.bits-size.ensures, node_few c.args.self.now.words.now c.loop-at.at)
+pub overflow_add-size-in_default : goal.overflow_add-size-in_default
+overflow_add-size-in_default c = omega (arith, c.loop-at.invariant.1, c.loop-at.invariant.2, c.bits-size.ensures, node_few c.args.self.now.words.now c.loop-at.at)
 
 pub loop-at-preserved : goal.loop-at-preserved
 loop-at-preserved c =

@@ -30,24 +30,24 @@ pub fn put_record(
     ensures { Put walk.now.words.now (table_of walk.now.facts.now) buf.now decision entries.now out.old out.new result }
 {
     let mut obligations = [0u8; decision::LIST_ROOM];
-    let held = decision::obligations(walk.words, decision, buf, &mut obligations);
+    let obligation_count = decision::obligations(walk.words, decision, buf, &mut obligations);
     let count = clause::clause_facts(walk, decision.clause, named);
-    if !clause::countable(decision.permit, held, count) {
+    if !clause::countable(decision.permit, obligation_count, count) {
         return Err(Refusal::Room);
     }
-    let size = clause::decision_words(decision.permit, held, count);
+    let size = clause::decision_words(decision.permit, obligation_count, count);
     if out.len() < 1 + policy_model::entry_words(entries.len() as u32) + size {
         return Err(Refusal::Room);
     }
-    let front = record::write_front(Status::Resolved, entries, out);
+    let behind = record::write_front(Status::Resolved, entries, out);
     let rest = clause::write_decision(
         walk.words,
         decision,
-        &obligations[..held],
+        &obligations[..obligation_count],
         &named[..count],
-        &mut out[front..],
+        &mut out[behind..],
     );
-    Ok(front + rest)
+    Ok(behind + rest)
 }
 
 // Writes a record as it stands, if there is room for it.

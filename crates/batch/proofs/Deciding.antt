@@ -22,9 +22,9 @@ use Rattle.model.specs.Batch.{reply_of, unless_over, visited, evaluate_within, d
 use Rattle.laws.proofs.Deeper.{follows_got}
 use Rattle.laws.proofs.Wider.{sheet_among}
 use Rattle.laws.proofs.BatchLaws.{within}
+use Rattle.laws.proofs.FieldLaws.{held_at}
 use Rattle.policy_model.specs.Answers.{refusal}
 use Rattle.policy_model.proofs.Records.{was_read}
-use Rattle.evaluate.proofs.Nodes.{held_at}
 use Rattle.std.specs.Prelude.{Option as Maybe, Some, None, Result, Ok, Err, IsErrAnd}
 use Rattle.refusal.specs.declared.Refusal.{Refusal}
 use Rattle.refusal.specs.declared.Refusal.TheVariants as cause

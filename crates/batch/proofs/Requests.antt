@@ -1,25 +1,29 @@
 -- A request: its table, and the sheet that decides it. Assumes nothing.
 use mathlib.Core.Path.{◌≡◌, refl, sym, ap, subst}
-use mathlib.Core.Bool.{Bool, true, cond, and-eq-true_iff}
-use mathlib.Core.Option.{Option, some}
+use mathlib.Core.Bool.{Bool, true, false, cond}
+use mathlib.Core.Option.{Option, none, some}
 use mathlib.Core.List.{List, [], ◌∷◌, ◌++◌}
 use Prim.Native.Nat.{ℕ, ◌%◌, ◌^◌, ◌≤◌, ◌<◌}
 use native.Mathlib.Omega.{arith}
-use borrow.Author.Tests.{le-leb, lt-leb}
+use borrow.Author.Tests.{lt-leb}
 use lib.Dec.{leb}
 use lib.ListN.{length, take, drop, get_or, length-append, length-take, length-drop}
 use lib.Seq.{length-take-le}
 use Rattle.model.specs.Facts.{table_of, table_bytes, known_facts, table_fault, first_fault, table_fields}
 use Rattle.model.specs.Outcome.{Outcomes}
-use Rattle.model.specs.Reading.{sheet_words, sheet_length, read_sheet}
+use Rattle.model.specs.Reading.{Parsed, sheet_length, read_sheet}
 use Rattle.model.specs.Calls as calls
+use Rattle.model.specs.Calls.{is_sheet_number}
+use Rattle.model.specs.Levels.{OutcomeTable}
+use Rattle.policy_model.specs.Answers.{refusal}
+use Rattle.calls.specs.Judged.{read_sheet_by, judged, of_number, judged_sheet}
 use Rattle.model.specs.Record.{evaluated}
 use Rattle.model.specs.Visits.{visits}
 use Rattle.model.specs.Batch as model
-use Rattle.model.specs.Batch.{Handed, length_bits, table_words, request_words, bytes_of, table_in, request_of, reply_of, unless_over, visited, decide_by, of_entry, reply}
+use Rattle.model.specs.Batch.{length_bits, table_words, request_words, bytes_of, table_in, request_of, reply_of, unless_over, visited, decide_by}
 use Rattle.std.specs.Prelude.{Option as Maybe, Result, Err}
 use Rattle.refusal.specs.declared.Refusal.{Refusal}
-use Rattle.refusal.specs.declared.Refusal.TheVariants as refusal
+use Rattle.refusal.specs.declared.Refusal.TheVariants as cause
 use Rattle.batch.specs.declared.Decided.{Decided}
 use Rattle.batch.specs.Answers.{handed, Replies}
 use Rattle.batch.proofs.Bytes.{length_bytes}
@@ -41,17 +45,29 @@ module _ (L : Outcomes) (number : ℕ) (sheet facts : List ℕ) (left : ℕ) (be
       (calls.unless_other (calls.is_sheet_number number) (calls.under number (calls.write L (length before) (evaluated L (table_of facts) t))))))))
       (visited L (read_sheet L.value sheet) (table_of facts))
 
-  pub refused_table : sheet_length sheet ≡ true → table_fault known_facts facts ≡ some 2 → Replies (decide_by L (some (handed number sheet)) facts left (length before)) before before (Err refusal.TableLength)
+  pub refused_table : sheet_length sheet ≡ true → table_fault known_facts facts ≡ some 2 → Replies (decide_by L (some (handed number sheet)) facts left (length before)) before before (Err cause.TableLength)
   refused_table e f =
-      subst (λ b. Replies (Turned b (table_fault known_facts facts)) before before (Err refusal.TableLength)) (sym e)
-      (subst (λ o. Replies (Turned true o) before before (Err refusal.TableLength)) (sym f) (record { reply_is = refl; output_is = refl }))
+      subst (λ b. Replies (Turned b (table_fault known_facts facts)) before before (Err cause.TableLength)) (sym e)
+      (subst (λ o. Replies (Turned true o) before before (Err cause.TableLength)) (sym f) (record { reply_is = refl; output_is = refl }))
 
   pub same_table : {facts' : List ℕ} → facts ≡ facts' → {after : List ℕ} {r : Result (Maybe Decided) Refusal} → Replies (decide_by L (some (handed number sheet)) facts left (length before)) before after r →
       Replies (decide_by L (some (handed number sheet)) facts' left (length before)) before after r
   same_table e {after} {r} h = subst (λ f. Replies (decide_by L (some (handed number sheet)) f left (length before)) before after r) e h
 
-pub good_length : (sheet : List ℕ) → (length sheet ≡ 0 → ⊥) → length sheet ≤ sheet_words → sheet_length sheet ≡ true
-good_length sheet h k = (and-eq-true_iff (leb 1 (length sheet)) (leb (length sheet) sheet_words)).1 (le-leb 1 (length sheet) (omega arith), le-leb (length sheet) sheet_words k)
+-- ---- what a sheet's length says
+length_none : (long : Bool) → ◌≡◌ {A = Option ℕ} none (cond long none (some 1)) → long ≡ true
+length_none true e = refl
+length_none false e = let z : ◌≡◌ {A = ℕ} 0 1 = cc in absurd (omega arith)
+
+pub good_length : (sheet : List ℕ) → ◌≡◌ {A = Option ℕ} none (cond (sheet_length sheet) none (some 1)) → sheet_length sheet ≡ true
+good_length sheet = length_none (sheet_length sheet)
+
+by_length : {A : Type 0} (long : Bool) (fault : Option ℕ) (q : Parsed A) (n : ℕ) → some n ≡ cond long none (some 1) → some n ≡ refusal (judged long fault q)
+by_length true fault q n e = let z : ◌≡◌ {A = ℕ} 0 1 = cc in absurd (omega arith)
+by_length false fault q n e = e
+
+pub bad_length : (g : Option OutcomeTable) (number : ℕ) (sheet facts : List ℕ) (n : ℕ) → some n ≡ cond (sheet_length sheet) none (some 1) → some n ≡ refusal (judged_sheet g known_facts number sheet facts)
+bad_length g number sheet facts n = by_length (sheet_length sheet) (table_fault known_facts facts) (of_number (is_sheet_number number) (read_sheet_by g sheet)) n
 
 pub long_request : (request : List ℕ) → request_words ≤ length request → 256 < get_or request 0 0 % 2 ^ length_bits → table_fault known_facts (request_of request).facts ≡ some 2
 long_request request h k =

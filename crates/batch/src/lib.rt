@@ -31,6 +31,9 @@ const SHEET_COUNTS: u32 = policy_model::HALF;
 // Allowances are below it.
 const ALLOWANCES: u32 = 65536;
 
+// In a reply the nodes stand above the words.
+const ABOVE_WORDS: u64 = 65536;
+
 // What a decided request takes: the words written and the nodes visited.
 #[derive(Clone, Copy)]
 struct Decided {
@@ -103,15 +106,15 @@ fn decide_by(
     sheet: &[u32],
     number: u32,
     facts: &[u8],
-    left: u32,
+    allowance: u32,
     out: &mut [u32],
 ) -> Reply
     requires { number < 2 ^ sheet_bits }
-    ensures { Replies (decide_by (outcomes_of (carried outcomes.entry)) (some (handed number sheet.now)) facts.now left (list_length out.old)) out.old out.new result }
+    ensures { Replies (decide_by (outcomes_of (carried outcomes.entry)) (some (handed number sheet.now)) facts.now allowance (list_length out.old)) out.old out.new result }
 {
     let most = outcome::most(outcomes);
     calls::judge_sheet(sheet, number, facts, TableKind::Known, most)?;
-    let Some(nodes) = visits::visits(sheet, facts, left) else {
+    let Some(nodes) = visits::visits(sheet, facts, allowance) else {
         return Err(Refusal::Allowance);
     };
     let written = calls::decide(sheet, facts, outcomes, out);
@@ -119,28 +122,26 @@ fn decide_by(
     Ok(Some(Decided { words, nodes }))
 }
 
-// Decides a request by its sheet. A length beyond the table's bytes is that of a table which is too long (2), after the sheet's own length (1).
+// Decides a request by its sheet. A length beyond the bytes that a request has is that of a table which is too long (2), after the sheet's own length (1).
 fn decide_request(
     outcomes: Option<OutcomeTable<'_>>,
     sheet: &[u32],
     number: u32,
     request: &[u32; REQUEST_WORDS],
-    left: u32,
+    allowance: u32,
     out: &mut [u32],
 ) -> Reply
     requires { number < 2 ^ sheet_bits }
-    ensures { Replies (decide_by (outcomes_of (carried outcomes.entry)) (some (handed number sheet.now)) (request_of request.now).facts left (list_length out.old)) out.old out.new result }
+    ensures { Replies (decide_by (outcomes_of (carried outcomes.entry)) (some (handed number sheet.now)) (request_of request.now).facts allowance (list_length out.old)) out.old out.new result }
 {
     let length = (request[0] % LENGTHS) as usize;
     if length > facts::TABLE_BYTES {
-        if sheet.is_empty() || sheet.len() > policy_model::SHEET_WORDS {
-            return Err(Refusal::Length);
-        }
+        calls::judge_length(sheet)?;
         return Err(Refusal::TableLength);
     }
     let mut bytes = [0u8; facts::TABLE_BYTES];
     load_table(&request[2..], length, &mut bytes);
-    decide_by(outcomes, sheet, number, &bytes[..length], left, out)
+    decide_by(outcomes, sheet, number, &bytes[..length], allowance, out)
 }
 
 // What a reply takes: nothing if it is no decision.
@@ -160,7 +161,7 @@ fn number_of(reply: Reply) -> u64
 {
     match reply {
         Ok(None) => 0,
-        Ok(Some(decided)) => u64::from(decided.nodes) * 65536 + decided.words as u64,
+        Ok(Some(decided)) => u64::from(decided.nodes) * ABOVE_WORDS + decided.words as u64,
         Err(cause) => cause.high_half(),
     }
 }
@@ -168,9 +169,9 @@ fn number_of(reply: Reply) -> u64
 impl Desk<'_> {
     // The reply to a request: none where no sheet is in force or that one wasn't handed over.
     #[tactic(auto, using(crate::proofs::Handed::found))]
-    fn reply_to(&self, request: &[u32; REQUEST_WORDS], left: u32, out: &mut [u32]) -> Reply
+    fn reply_to(&self, request: &[u32; REQUEST_WORDS], allowance: u32, out: &mut [u32]) -> Reply
         requires { list_length self.now.entries.now ≤ register_words }
-        ensures { (hs : List Handed) → handed_over self.now.sheets.now ≡ some hs → Replies (reply (outcomes_of (carried self.now.outcomes)) (entries_of self.now.entries.now) hs left (list_length out.old) (request_of request.now)) out.old out.new result }
+        ensures { (hs : List Handed) → handed_over self.now.sheets.now ≡ some hs → Replies (reply (outcomes_of (carried self.now.outcomes)) (entries_of self.now.entries.now) hs allowance (list_length out.old) (request_of request.now)) out.old out.new result }
     {
         let Some(entry) = register::in_force(self.entries, request[0] / LENGTHS, request[1]) else {
             return Ok(None);
@@ -178,7 +179,7 @@ impl Desk<'_> {
         let Some(sheet) = find_sheet(self.sheets, entry.number) else {
             return Ok(None);
         };
-        decide_request(self.outcomes, sheet, entry.number, request, left, out)
+        decide_request(self.outcomes, sheet, entry.number, request, allowance, out)
     }
 
     // Replies to the requests in order, each with what those before left of the allowance and of the output. Returns the words written in all.
@@ -186,15 +187,15 @@ impl Desk<'_> {
         requires { (list_length self.now.entries.now ≤ register_words) × (is_whole (handed_over self.now.sheets.now) ≡ true) × (request_count requests.now ≤ list_length replies.old) }
         ensures { (hs : List Handed) → handed_over self.now.sheets.now ≡ some hs → Runs (answers (batch_replies (outcomes_of (carried self.now.outcomes)) (entries_of self.now.entries.now) hs allowance (list_length out.old) (requests_of (request_count requests.now) requests.now))) replies.old replies.new out.old out.new (Ok result) }
     {
-        let mut left = allowance;
+        let mut unspent = allowance;
         let mut used = 0;
         let whole = requests.as_chunks::<REQUEST_WORDS>().0;
         for (i, request) in whole.iter().enumerate() {
-            let reply = self.reply_to(request, left, &mut out[used..]);
+            let reply = self.reply_to(request, unspent, &mut out[used..]);
             replies[i] = number_of(reply);
-            let taken = taken(reply);
-            left -= taken.nodes;
-            used += taken.words;
+            let decided = taken(reply);
+            unspent -= decided.nodes;
+            used += decided.words;
         }
         used
     }

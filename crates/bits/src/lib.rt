@@ -27,7 +27,7 @@ pub const OUTCOME_BITS: u32 = 16;
 
 pub const MARK_BITS: u32 = 16;
 
-pub const SHAPE_BITS: u32 = 1;
+const SHAPE_BITS: u32 = 1;
 
 pub const PRESENT_BITS: u32 = 1;
 

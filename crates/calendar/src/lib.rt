@@ -57,7 +57,7 @@ fn years_days(years: u32) -> u32
 }
 
 impl Date {
-    pub fn exists(self) -> bool
+    fn exists(self) -> bool
         ensures { result ≡ date_exists (date_of self) }
     {
         FIRST_YEAR <= self.year

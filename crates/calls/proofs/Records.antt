@@ -26,17 +26,18 @@ use Rattle.model.specs.Products.{Outcome, encode, encode_r, lead_kind, read_poli
 use Rattle.laws.specs.Size.{pairs}
 use Rattle.laws.specs.Form.{Countable, FormD}
 use Rattle.laws.proofs.Lengths.{length_numbered}
-use Rattle.laws.specs.Products.{InRange, written_products}
+use Rattle.laws.specs.Products.{InRange}
+use Rattle.laws.proofs.ProductLaws.{written_products}
 use Rattle.laws.proofs.ReadForm.{ok_record}
 use Rattle.laws.proofs.Canon.{same_record}
 use Rattle.laws.proofs.Deeper.{follows_got}
 use Rattle.laws.proofs.Wider.{record_among}
+use Rattle.laws.proofs.FieldLaws.{held_at}
 use Rattle.policy_model.specs.Answers.{Lead, lead_of}
 use Rattle.refusal.specs.declared.Refusal.{Refusal}
 use Rattle.refusal.specs.declared.Refusal.TheVariants.{Contradiction}
 use Rattle.refusal.specs.Numbers.{number_of}
 use Rattle.policy_model.proofs.Records.{record_parts, lead_is_lem}
-use Rattle.evaluate.proofs.Nodes.{held_at}
 use Rattle.answer.specs.Answers.{Answer, Answered, Makes, Numbered, copied}
 use Rattle.contradiction.specs.Contradicted.{Contradicted}
 use Rattle.calls.specs.Judged.{read_record_by, judged_record}

@@ -18,11 +18,11 @@ use Rattle.model.specs.Levels.{OutcomeTable, outcome_count}
 use Rattle.model.specs.Products.{Outcome, write}
 use Rattle.laws.proofs.Deeper.{follows_got}
 use Rattle.laws.proofs.Wider.{sheet_among}
+use Rattle.laws.proofs.FieldLaws.{held_at}
 use Rattle.policy_model.specs.Answers.{refusal}
 use Rattle.policy_model.proofs.Records.{sheet_tree, was_read}
 use Rattle.refusal.specs.declared.Refusal.{Refusal}
 use Rattle.refusal.specs.Numbers.{number_of}
-use Rattle.evaluate.proofs.Nodes.{held_at}
 use Rattle.answer.specs.Answers.{Answer, Answered, Makes, Numbered}
 use Rattle.calls.specs.Judged.{read_sheet_by, judged_sheet}
 use Rattle.calls.proofs.Judging.{judged_got, by_judged, few_words_lem}

@@ -4,14 +4,14 @@
 // hand back what it is given.
 #![tactic(auto)]
 
-ghost use Rattle.std.specs.Prelude.{◌≡◌, ◌≤◌, length};
+ghost use Rattle.std.specs.Prelude.{◌≡◌, ◌≤◌, cond, length};
 ghost use Rattle.std.proofs.Math.Option.{Option, none, some};
 ghost use Rattle.refusal.specs.Numbers.{refused};
 ghost use Rattle.outcome.specs.Carried.{table, carried};
 ghost use Rattle.model.specs.Facts.{table_of};
 ghost use Rattle.model.specs.Levels.{outcome_count};
 ghost use Rattle.model.specs.Levels as model;
-ghost use Rattle.model.specs.Reading.{record_words};
+ghost use Rattle.model.specs.Reading.{record_words, sheet_length};
 ghost use Rattle.model.specs.Calls.{has_number, is_sheet_number};
 ghost use Rattle.model.specs.Products.{evaluate_by, partial_evaluate_by, narrow_residual_by, complete_residual_by};
 ghost use Rattle.model.specs.Products.{evaluate as calls_evaluate, partial_evaluate, narrow_residual, complete_residual};
@@ -55,6 +55,16 @@ fn check_record(words: &[u32], number: u32, most: u32) -> Result<RecordHead, Ref
     }
 }
 
+// Judges a sheet's length: the first cause for which a sheet is turned back.
+pub fn judge_length(sheet: &[u32]) -> Result<(), Refusal>
+    ensures { refused result ≡ cond (sheet_length sheet.now) none (some 1) }
+{
+    if sheet.len() == 0 || sheet.len() > policy_model::SHEET_WORDS {
+        return Err(Refusal::Length);
+    }
+    Ok(())
+}
+
 // Judges a sheet and its table: the length, the table, the words, the number. `policy_model` judges the length too, but after the table.
 pub fn judge_sheet(
     sheet: &[u32],
@@ -65,9 +75,7 @@ pub fn judge_sheet(
 ) -> Result<(), Refusal>
     ensures { (g : Option model.OutcomeTable) → most ≡ outcome_count g → refused result ≡ refusal (judged_sheet g (kind_of kind) number sheet.now facts.now) }
 {
-    if sheet.len() == 0 || sheet.len() > policy_model::SHEET_WORDS {
-        return Err(Refusal::Length);
-    }
+    judge_length(sheet)?;
     facts::check_table(facts, kind)?;
     check_sheet(sheet, number, most)
 }

@@ -4,6 +4,7 @@ use Rattle.std.proofs.Math.Path.{refl, ap, ap₂}
 use Rattle.std.proofs.Common.{sym, ◌∙◌, arith, leb-true, length-take-le}
 use Rattle.std.proofs.Math.Bool.{true, false}
 use Rattle.std.proofs.Math.Dec.{leb}
+use Rattle.std.proofs.lemmas.Bool.{and_parts}
 use Rattle.model.specs.Fields.{words_for}
 use Rattle.model.specs.Facts.{Table}
 use Rattle.model.specs.Outcome.{product_sets}
@@ -60,10 +61,6 @@ module _ {words : List ℕ} {T : Table} {buf os fs : List ℕ} {d : Decision} {h
   decision_short = short_by d.permit refl
 
 -- What is countable is few.
-and_parts : (a b : Bool) → (a && b) ≡ true → (a ≡ true) × (b ≡ true)
-and_parts true b e = (refl, e)
-and_parts false b e = (e, cc)
-
 pub few_facts : (b : Bool) (n m : ℕ) → countable b n m ≡ true → m ≤ most_listed
 few_facts true n m e = leb-true m most_listed (and_parts (leb m most_listed) (leb n most_held) e).0
 few_facts false n m e = leb-true m most_listed e

@@ -1,17 +1,17 @@
 -- A list of facts that is copied field by field is the list that reads there. Assumes nothing.
-use mathlib.Core.Path.{◌≡◌, refl, sym, ◌∙◌, ap}
-use mathlib.Core.List.{List, ◌++◌, map-id}
+use mathlib.Core.Path.{◌≡◌, sym, ◌∙◌}
+use mathlib.Core.List.{List}
 use Prim.Native.Nat.{ℕ, ◌-◌, ◌≤◌, ◌<◌}
 use native.Mathlib.Omega.{arith}
 use lib.ListN.{length, take, drop, get_or, length-drop}
 use lib.Seq.{length-take-le, get_or-take, ext_get_or}
-use Rattle.model.specs.Fields.{words_for, pack}
+use Rattle.model.specs.Fields.{words_for}
 use Rattle.model.specs.Writing.{entry_bits}
 use Rattle.model.specs.Reading.{read_list, listed}
 use Rattle.laws.specs.FieldAt.{field_at}
 use Rattle.laws.proofs.FieldAtLaws.{fact_field}
-use Rattle.laws.proofs.FieldLaws.{weaker, both_hold, same_list_lem}
-use Rattle.laws.proofs.ReadForm.{same_listed, ok_facts}
+use Rattle.laws.proofs.FieldLaws.{weaker}
+use Rattle.laws.proofs.ReadForm.{read_facts}
 use Rattle.clause.specs.Answers.{FactsListed}
 
 -- The first i fields stand at the front.
@@ -29,13 +29,12 @@ module _ (words : List ℕ) (at count : ℕ) where
         front = λ few.
             weaker (read_list listed entry_bits count (drop at words))
             (λ fs vs r.
-            let were : pack 16 fs ++ vs ≡ drop at words = ap (λ m. pack 16 m ++ vs) (sym (map-id fs)) ∙ r.1.were in
-            let many : length fs ≡ count = r.1.long in
+            let many : length fs ≡ count = r.long in
             ext_get_or 0 (take count after) fs (length-take-le count after there ∙ sym many)
             (λ k below.
             let in_list : k < length fs = omega (arith, length-take-le count after there) in
-            get_or-take count after k 0 (omega arith) ∙ l.fields k (omega arith) ∙ fact_field fs vs (drop at words) k r.0.0 in_list were))
-            (both_hold (read_list listed entry_bits count (drop at words)) (ok_facts count (drop at words)) (same_list_lem (λ f. f) listed same_listed entry_bits 1 count (drop at words) refl));
+            get_or-take count after k 0 (omega arith) ∙ l.fields k (omega arith) ∙ fact_field fs vs (drop at words) k r.below in_list r.were))
+            (read_facts count (drop at words));
       }
 
   -- Nothing is copied: the words end in the list.
@@ -45,6 +44,6 @@ module _ (words : List ℕ) (at count : ℕ) where
         within = omega arith;
         front = λ few.
             weaker (read_list listed entry_bits count (drop at words))
-            (λ fs vs r. let z : ⊥ = omega (arith, r.2, length-drop at words) in absurd z)
-            (ok_facts count (drop at words));
+            (λ fs vs r. let z : ⊥ = omega (arith, r.took_words, length-drop at words) in absurd z)
+            (read_facts count (drop at words));
       }

@@ -2,26 +2,25 @@
 use mathlib.Core.Path.{◌≡◌, refl, sym, ◌∙◌, ap, ap₂, subst}
 use mathlib.Core.Bool.{Bool, true, false}
 use mathlib.Core.Option.{none, some}
-use mathlib.Core.List.{List, [], ◌∷◌, ◌++◌, map-id}
+use mathlib.Core.List.{List, [], ◌∷◌}
 use Prim.Native.Nat.{ℕ, suc, ◌+◌, ◌/◌, ◌%◌, ◌≤◌, ◌<◌}
 use native.Mathlib.Omega.{arith}
 use borrow.Author.Tests.{ltb-true}
 use lib.Dec.{ltb}
 use lib.ListN.{length, take, drop, get_or}
-use lib.Seq.{length-take-le, drop_at, drop-drop, get_or-drop}
+use lib.Seq.{length-take-le, drop-drop, get_or-drop}
 use Rattle.std.specs.Prelude as prelude
-use Rattle.model.specs.Fields.{words_for, pack}
+use Rattle.model.specs.Fields.{words_for}
 use Rattle.model.specs.Facts.{Table}
 use Rattle.model.specs.Condition.{Condition, eval_condition}
 use Rattle.model.specs.Decision.{Denial, permits, denies, generic_deny}
 use Rattle.model.specs.Decision.{Decision as Decided}
 use Rattle.model.specs.Policy.{Policy, grant, pnil, pcons}
 use Rattle.model.specs.Writing.{obligation_bits, entry_bits, most_listed}
-use Rattle.model.specs.Reading.{Parsed, refuse, got, read_list, obligation, listed, mark, many, shape_of, read_condition}
+use Rattle.model.specs.Reading.{Parsed, got, read_list, obligation, listed, mark, many, shape_of, read_condition}
 use Rattle.model.specs.Products.{Outcome, read_policy}
-use Rattle.laws.proofs.FieldLaws.{Holds, fine, nothing, if_holds, weaker, then_holds, same_list_lem}
-use Rattle.laws.proofs.Lengths.{length_pack}
-use Rattle.laws.proofs.ReadForm.{same_obligation}
+use Rattle.laws.proofs.FieldLaws.{Holds, fine, nothing, if_holds, weaker, then_holds, itself, anything}
+use Rattle.laws.proofs.ReadForm.{read_obligations}
 use Rattle.policy_model.specs.declared.DenyShape.{DenyShape}
 use Rattle.policy_model.specs.declared.DenyShape.TheVariants.{Forbidden}
 use Rattle.policy_model.specs.declared.PolicyHead.{PolicyHead}
@@ -42,25 +41,6 @@ use Rattle.clause.specs.Clauses.{clause_by}
 use Rattle.clause.specs.Answers.{FactsListed, ClauseFacts, ClauseIs}
 
 -- ---- what was read
-
--- As what it was read.
-as_read : {A : Type 0} (q : Parsed A) → Holds (λ a ws. q ≡ got a ws) q
-as_read (refuse n) = nothing
-as_read (got a ws) = fine refl
-
--- Anything.
-whatever : {A : Type 0} (q : Parsed A) → Holds (λ _ _. Unit {0}) q
-whatever (refuse n) = nothing
-whatever (got a ws) = fine tt
-
--- What follows n obligations.
-after_obligations : (n : ℕ) (ws : List ℕ) → Holds (λ os vs. drop (words_for 4 n) ws ≡ vs) (read_list obligation obligation_bits n ws)
-after_obligations n ws =
-    weaker (read_list obligation obligation_bits n ws)
-    (λ os vs h.
-    let were : pack 8 os ++ vs ≡ ws = ap (λ l. pack 8 l ++ vs) (sym (map-id os)) ∙ h.were in
-    ap (drop (words_for 4 n)) (sym were) ∙ drop_at (pack 8 os) vs (words_for 4 n) (length_pack 8 os ∙ ap (words_for 4) h.long))
-    (same_list_lem (λ o. o) obligation same_obligation obligation_bits 3 n ws refl)
 
 -- A grant, a stored permit and a stored deny, by the words after the first one.
 pub record GrantThere (pc : List ℕ → Parsed Condition) (shape : DenyShape) (o n : ℕ) (ws : List ℕ) (t : Policy Outcome) (us : List ℕ) : Type 0 where
@@ -88,13 +68,13 @@ grant_there pc shape n o [] = nothing
 grant_there pc shape n o (w ∷ ws) =
     then_holds (mark (w / 65536)) _ (mark_in_read (w / 65536)) (λ l _ el.
     then_holds (mark (w % 65536)) _ (mark_in_read (w % 65536)) (λ m _ em.
-    then_holds (read_list obligation obligation_bits n ws) _ (after_obligations n ws) (λ os vs ev.
-    then_holds (pc vs) _ (as_read (pc vs)) (λ c us ec.
+    then_holds (read_list obligation obligation_bits n ws) _ (read_obligations n ws) (λ os vs ev.
+    then_holds (pc vs) _ (itself (pc vs)) (λ c us ec.
     fine (record {
       condition = c;
       obligations = os;
       is = ap₂ (λ x y. grant (record { outcome = o; obligations = os; label = x; reason = y; shape = shape_of (bit_of shape) }) c) (sym el) (sym em);
-      read = ap pc ev ∙ ec;
+      read = ap pc ev.left ∙ ec;
     })))))
 
 permit_there : (n o : ℕ) (ws : List ℕ) → Holds (PermitThere o n ws) (permit_trace_node n o ws)
@@ -103,26 +83,26 @@ permit_there n o [] = nothing
 permit_there n o (w ∷ ws) =
     then_holds (mark (w / 65536)) _ (mark_in_read (w / 65536)) (λ l _ el.
     if_holds (ltb (w % 65536) 4096) 8 _ (λ few.
-    then_holds (read_list obligation obligation_bits n ws) _ (after_obligations n ws) (λ os vs ev.
-    then_holds (read_list listed entry_bits (w % 65536) vs) _ (as_read (read_list listed entry_bits (w % 65536) vs)) (λ fs us ef.
+    then_holds (read_list obligation obligation_bits n ws) _ (read_obligations n ws) (λ os vs ev.
+    then_holds (read_list listed entry_bits (w % 65536) vs) _ (itself (read_list listed entry_bits (w % 65536) vs)) (λ fs us ef.
     fine (record {
       obligations = os;
       facts = fs;
       is = ap (λ x. permits (record { outcome = o; obligations = os; label = x; facts = fs })) (sym el);
       few = omega (arith, ltb-true (w % 65536) 4096 few);
-      read = ap (read_list listed entry_bits (w % 65536)) ev ∙ ef;
+      read = ap (read_list listed entry_bits (w % 65536)) ev.left ∙ ef;
     })))))
 
 deny_there : (shape : DenyShape) (denied : prelude.Option ℕ) (ws : List ℕ) → Holds (DenyThere shape denied ws) (deny_trace_node shape denied ws)
 unfolding deny_trace_node
 deny_there shape denied [] = nothing
 deny_there shape denied (w ∷ []) =
-    then_holds (mark (w / 65536)) _ (whatever (mark (w / 65536))) (λ l _ _. then_holds (mark (w % 65536)) _ (whatever (mark (w % 65536))) (λ m _ _. nothing))
+    then_holds (mark (w / 65536)) _ (anything (mark (w / 65536))) (λ l _ _. then_holds (mark (w % 65536)) _ (anything (mark (w % 65536))) (λ m _ _. nothing))
 deny_there shape denied (w ∷ n ∷ ws) =
     then_holds (mark (w / 65536)) _ (mark_in_read (w / 65536)) (λ l _ el.
     then_holds (mark (w % 65536)) _ (mark_in_read (w % 65536)) (λ m _ em.
     if_holds (ltb n 4096) 8 _ (λ few.
-    then_holds (read_list listed entry_bits n ws) _ (as_read (read_list listed entry_bits n ws)) (λ fs us ef.
+    then_holds (read_list listed entry_bits n ws) _ (itself (read_list listed entry_bits n ws)) (λ fs us ef.
     fine (record {
       facts = fs;
       is = ap₂ (λ x y. denies (record { denied = denied_by denied; facts = fs; label = x; reason = y; shape = shape_of (bit_of shape) })) (sym el) (sym em);
@@ -142,9 +122,9 @@ unfolding policy_node
 none_there pc p T (Permit o) ws k = fine refl
 none_there pc p T Deny ws k = fine refl
 none_there pc p T (Grant shape n o) ws k = absurd (k.no_grant shape n o refl)
-none_there pc p T (All n) ws k = then_holds (many pnil pcons p n ws) _ (whatever (many pnil pcons p n ws)) (λ ts vs _. fine refl)
-none_there pc p T (Any n) ws k = then_holds (many pnil pcons p n ws) _ (whatever (many pnil pcons p n ws)) (λ ts vs _. fine refl)
-none_there pc p T OrElse ws k = then_holds (p ws) _ (whatever (p ws)) (λ a vs _. then_holds (p vs) _ (whatever (p vs)) (λ b us _. fine refl))
+none_there pc p T (All n) ws k = then_holds (many pnil pcons p n ws) _ (anything (many pnil pcons p n ws)) (λ ts vs _. fine refl)
+none_there pc p T (Any n) ws k = then_holds (many pnil pcons p n ws) _ (anything (many pnil pcons p n ws)) (λ ts vs _. fine refl)
+none_there pc p T OrElse ws k = then_holds (p ws) _ (anything (p ws)) (λ a vs _. then_holds (p vs) _ (anything (p vs)) (λ b us _. fine refl))
 none_there pc p T (PermitWithTrace n o) ws k = absurd (k.no_permit n o refl)
 none_there pc p T (DenyWithTrace shape denied) ws k = absurd (k.no_deny shape denied refl)
 none_there pc p T BadKind ws k = nothing

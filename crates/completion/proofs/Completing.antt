@@ -14,16 +14,16 @@ use Rattle.model.specs.Partial.{resolved}
 use Rattle.model.specs.Consulted.{Consulted, once}
 use Rattle.model.specs.Writing.{entry_field}
 use Rattle.model.specs.Products.{Outcome, read, read_policy, write}
-use Rattle.laws.proofs.FieldLaws.{Holds, weaker, both_hold}
+use Rattle.laws.proofs.FieldLaws.{Holds, weaker, both_hold, held_at}
 use Rattle.laws.specs.Size.{words}
 use Rattle.laws.specs.Form.{FormOf, Countable, Free}
-use Rattle.laws.specs.Products.{InRange, written_products}
+use Rattle.laws.specs.Products.{InRange}
+use Rattle.laws.proofs.ProductLaws.{written_products}
 use Rattle.laws.proofs.ReadForm.{ok_t}
 use Rattle.staging.proofs.Entries.{read_fits}
 use Rattle.consulted.specs.Listing.{Lent, Listed}
 use Rattle.evaluate.specs.declared.PolicyEval.{PolicyEval}
 use Rattle.evaluate.specs.Evaluating.{EvaluatesP}
-use Rattle.evaluate.proofs.Nodes.{held_at}
 use Rattle.answer.specs.Answers.{Answer, Answered, Put, Makes}
 use Rattle.completion.specs.Answers.{LoadsConsulted, InUse, completed_after}
 use Rattle.completion.proofs.Shallow.{few_levels_in}

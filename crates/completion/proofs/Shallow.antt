@@ -19,7 +19,8 @@ use Rattle.laws.specs.Form.{Countable, FormOf, Few, depth_c, depth_cs, depth, de
 use Rattle.laws.proofs.ReadForm.{ok_t}
 use Rattle.laws.proofs.ReadBack.{back_t}
 use Rattle.laws.proofs.Canon.{same_t}
-use Rattle.laws.specs.Products.{InRange, written_products}
+use Rattle.laws.specs.Products.{InRange}
+use Rattle.laws.proofs.ProductLaws.{written_products}
 
 mutual
   deep_c : (c : Condition) → depth_c c ≤ words_c c

@@ -15,12 +15,12 @@ use consulted::Consulted;
 use evaluate::Evaluation;
 use policy_model::{LEVELS, RECORD_WORDS, SHEET_WORDS};
 
-// Lists the `count` entries of a record, once each, the first one kept. It reads them as `contradiction::contradicted` does, which ends at the first that
+// Lists the `prior` entries of a record, once each, the first one kept. It reads them as `contradiction::contradicted` does, which ends at the first that
 // contradicts. What the two loops share is how an entry is taken apart: a walk that is lent what to do with each entry would be longer than both.
-pub fn load_consulted(words: &[u32], count: usize, consulted: &mut Consulted<'_>)
-    ensures { LoadsConsulted words.now count (held consulted.old) (held consulted.new) }
+pub fn load_consulted(words: &[u32], prior: usize, consulted: &mut Consulted<'_>)
+    ensures { LoadsConsulted words.now prior (held consulted.old) (held consulted.new) }
 {
-    for i in 0..count {
+    for i in 0..prior {
         let field = packing::unpack_entry(words, 1, i) as u32;
         consulted.consult(field % policy_model::FACTS, facts::entry_presence(field));
     }
@@ -37,10 +37,10 @@ pub fn in_use<'a>(consulted: &'a Consulted<'_>) -> &'a [u16]
     &consulted.entries[..length]
 }
 
-// A consulted list has each fact once, and the set of those that it has a bit for each.
+// A consulted list has each fact once, and beside it stands the set of those that it has.
 pub const ENTRIES: usize = policy_model::FACTS as usize;
 
-pub const SEEN: usize = ENTRIES / 64;
+pub const SEEN: usize = fact_set::NUMBERS;
 
 // How many words are few, and short: the lists that are lent for them are short as well, since to clear long ones would take longer than to decide. They have
 // two facts for a word at most.
@@ -57,17 +57,17 @@ pub const UNITED: usize = decision::OBLIGATION_ROOM * (LEVELS + 1);
 
 pub const UNITED_FEW: usize = decision::OBLIGATION_ROOM * (FEW + 1);
 
-// Decides the policy at `tree` in words that were checked, of at most `DEPTH` levels, after the `count` entries. `LISTED` facts may be consulted, `BYTES`
+// Decides the policy at `tree` in words that were checked, of at most `DEPTH` levels, after the `prior` entries. `LISTED` facts may be consulted, `BYTES`
 // take united obligations, and `NAMED` facts the clause that decides. Every page of its stack is touched when it is called, so it keeps a frame of its own.
 #[inline(never)]
 fn complete_in<const DEPTH: usize, const LISTED: usize, const BYTES: usize, const NAMED: usize>(
     evaluation: &Evaluation<'_>,
-    count: usize,
+    prior: usize,
     tree: usize,
     out: &mut [u32],
 ) -> Answer
     requires { RoomToWalk (length evaluation.now.walk.words.now) DEPTH LISTED BYTES NAMED }
-    ensures { Makes (completed_after (carried evaluation.now.outcomes) (table_of evaluation.now.walk.facts.now)) evaluation.now.walk.words.now count tree out.old out.new result }
+    ensures { Makes (completed_after (carried evaluation.now.outcomes) (table_of evaluation.now.walk.facts.now)) evaluation.now.walk.words.now prior tree out.old out.new result }
 {
     let mut entries = [0u16; LISTED];
     let mut seen = [0u64; SEEN];
@@ -78,7 +78,7 @@ fn complete_in<const DEPTH: usize, const LISTED: usize, const BYTES: usize, cons
         seen: &mut seen,
         length: 0,
     };
-    load_consulted(evaluation.walk.words, count, &mut consulted);
+    load_consulted(evaluation.walk.words, prior, &mut consulted);
     let eval = evaluation.eval_policy(tree, DEPTH, &mut consulted, &mut buf);
     answer::put_record(
         &evaluation.walk,
@@ -91,19 +91,19 @@ fn complete_in<const DEPTH: usize, const LISTED: usize, const BYTES: usize, cons
 }
 
 // The same with as much room as its words take.
-pub fn complete(evaluation: &Evaluation<'_>, count: usize, tree: usize, out: &mut [u32]) -> Answer
-    ensures { Makes (completed_after (carried evaluation.now.outcomes) (table_of evaluation.now.walk.facts.now)) evaluation.now.walk.words.now count tree out.old out.new result }
+pub fn complete(evaluation: &Evaluation<'_>, prior: usize, tree: usize, out: &mut [u32]) -> Answer
+    ensures { Makes (completed_after (carried evaluation.now.outcomes) (table_of evaluation.now.walk.facts.now)) evaluation.now.walk.words.now prior tree out.old out.new result }
 {
     match evaluation.walk.words.len() {
         0..=FEW => complete_in::<FEW, FEW_FACTS, UNITED_FEW, FEW_FACTS>(
-            evaluation, count, tree, out,
+            evaluation, prior, tree, out,
         ),
         0..=SHORT => complete_in::<LEVELS, SHORT_FACTS, UNITED, SHORT_FACTS>(
-            evaluation, count, tree, out,
+            evaluation, prior, tree, out,
         ),
         0..=SHEET_WORDS => complete_in::<LEVELS, ENTRIES, UNITED, SHEET_WORDS>(
-            evaluation, count, tree, out,
+            evaluation, prior, tree, out,
         ),
-        _ => complete_in::<LEVELS, ENTRIES, UNITED, RECORD_WORDS>(evaluation, count, tree, out),
+        _ => complete_in::<LEVELS, ENTRIES, UNITED, RECORD_WORDS>(evaluation, prior, tree, out),
     }
 }

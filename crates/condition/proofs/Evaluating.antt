@@ -1,59 +1,46 @@
 -- Whether a condition is satisfied and what it consults, by its first word. Assumes nothing.
 use mathlib.Core.Path.{◌≡◌, refl, sym, subst, ◌∙◌}
-use mathlib.Core.Bool.{Bool, true, false, not, cond}
+use mathlib.Core.Bool.{Bool, true, false, cond}
 use mathlib.Core.List.{List, [], ◌∷◌}
 use Prim.Native.Nat.{ℕ, zero, suc, ◌+◌, ◌/◌, ◌%◌, ◌≤◌, ◌<◌}
 use native.Mathlib.Omega.{arith}
-use borrow.Author.Tests.{lt-ltb, ltb-true}
+use borrow.Author.Tests.{ltb-true}
 use lib.Dec.{eqb, ltb}
 use lib.ListN.{length, drop, get_or}
-use Rattle.model.specs.Facts.{Presence, absent, present, unknown, silent, Table, fact_count}
-use Rattle.model.specs.Condition.{Condition, always, never, all_c, any_c, cnil, satisfied, unsatisfied, eval_has, flip, eval_condition}
-use Rattle.model.specs.Condition as model
+use Rattle.model.specs.Facts.{Table, fact_count}
+use Rattle.model.specs.Condition.{Condition, always, never, all_c, any_c, cnil, satisfied, eval_condition}
 use Rattle.model.specs.Consulted.{Consulted, read_c}
-use Rattle.model.specs.Reading.{refuse, got, kind_of, rest_of, read_condition}
+use Rattle.model.specs.Reading.{got, kind_of, rest_of, read_condition}
 use Rattle.laws.proofs.FieldLaws.{Holds, fine, nothing}
+use Rattle.laws.proofs.NodeLaws.{condition_none}
 use Rattle.laws.specs.Size.{words_c}
+use Rattle.laws.specs.Truth.{is_satisfied}
 use Rattle.facts.specs.Answers.{is_present}
+use Rattle.facts.specs.AnswerLaws.{has_value}
 use Rattle.policy_model.specs.declared.ConditionHead.{ConditionHead}
 use Rattle.policy_model.specs.declared.ConditionHead.TheVariants.{Always, Never, Has, Not, All, Any, BadKind, BadField}
 use Rattle.policy_model.specs.Heads.{condition_heads, condition_head, condition_node}
-use Rattle.policy_model.specs.HeadLaws.{condition_node_lem, condition_deep}
+use Rattle.policy_model.specs.HeadLaws.{condition_node_lem, condition_deep, has_word}
 use Rattle.policy_model.proofs.Checking.{word_at, no_word}
 use Rattle.condition.specs.declared.ConditionEval.{ConditionEval}
 use Rattle.condition.specs.declared.Node.TheVariants.{Value}
 use Rattle.consulted.specs.Listing.{Lent, Recorded}
-use Rattle.condition.specs.Evaluating.{is_satisfied, answer_of, EvaluatesC, EvaluatesHas}
+use Rattle.condition.specs.Evaluating.{answer_of, EvaluatesC, EvaluatesHas}
 use Rattle.condition.specs.Walking.{node_of}
 use Rattle.consulted.proofs.Listing.{consults_as, consults_none}
 
 -- ---- reading at a position
-read_none : (depth : ℕ) → read_condition depth [] ≡ refuse 6
-read_none zero = refl
-read_none (suc depth) = refl
-
 module _ {Q : Condition → List ℕ → Type 0} where
   pub no_levels : (ws : List ℕ) → Holds Q (read_condition zero ws)
   no_levels [] = nothing
   no_levels (w ∷ ws) = rw (condition_deep w ws) nothing
 
   pub no_words : (words : List ℕ) (at depth : ℕ) → length words ≤ at → Holds Q (read_condition depth (drop at words))
-  no_words words at depth h = rw (no_word words at h, read_none depth) nothing
+  no_words words at depth h = rw (no_word words at h, condition_none depth) nothing
 
   pub by_head : (words : List ℕ) (at d : ℕ) (h : ConditionHead) → at < length words → h ≡ condition_head (get_or words at 0) →
       Holds Q (condition_node (λ vs. read_condition d vs) h (drop (at + 1) words)) → Holds Q (read_condition (suc d) (drop at words))
   by_head words at d h lt e g = rw (word_at words at lt, condition_node_lem) (rw e at g)
-
--- ---- values
-pub has_value : (f : ℕ) (p : Presence) → is_present p ≡ is_satisfied (eval_has f p)
-has_value f absent = refl
-has_value f present = refl
-has_value f unknown = refl
-has_value f silent = refl
-
-pub flip_value : (x : model.ConditionEval) → not (is_satisfied x) ≡ is_satisfied (flip x)
-flip_value (satisfied fs) = refl
-flip_value (unsatisfied fs) = refl
 
 -- ---- a condition that reads no fact
 pub eval_end : (T : Table) (words : List ℕ) (at depth : ℕ) (s : Lent) (r : ConditionEval) → length words ≤ at → EvaluatesC T words at depth s r s
@@ -88,15 +75,6 @@ pub eval_has_lem : (T : Table) (words : List ℕ) (at d : ℕ) (s : Lent) (v : B
     EvaluatesHas T f s v t → EvaluatesC T words at (suc d) s (answer_of v (at + 1)) t
 unfolding condition_node
 eval_has_lem T words at d s v t lt f e a = record { says = by_head words at d (Has f) lt e (fine (record { satisfied_is = a.satisfied_is; next_is = refl; log = a.log })) }
-
--- A word that one division shows to be a Has.
-pub has_word : (w : ℕ) → w / 1024 ≡ 524288 → Has (w % 1024) ≡ condition_head w
-unfolding condition_head
-has_word w e =
-    let k : w / 268435456 ≡ 2 = omega arith in
-    let f : w % 268435456 ≡ w % 1024 = omega arith in
-    let b : ltb (w % 1024) 1024 ≡ true = lt-ltb (w % 1024) 1024 (omega arith) in
-    rw (k, f, b) refl
 
 pub eval_has_word : (T : Table) (words : List ℕ) (at depth : ℕ) (s : Lent) (v : Bool) (t : Lent) → at < length words → get_or words at 0 / 1024 ≡ 524288 →
     EvaluatesHas T (get_or words at 0 % 1024) s v t → EvaluatesC T words at depth s (answer_of v (at + 1)) t

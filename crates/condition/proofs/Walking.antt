@@ -14,7 +14,9 @@ use Rattle.model.specs.Condition as model
 use Rattle.model.specs.Consulted.{Consulted, after_true, after_false, read_c, read_all_c, read_any_c}
 use Rattle.model.specs.Reading.{got, next, many, read_condition}
 use Rattle.laws.proofs.FieldLaws.{Holds, fine, weaker, then_holds, both_hold}
+use Rattle.laws.proofs.TruthLaws.{truth_flip}
 use Rattle.laws.specs.Size.{words_c, words_cs}
+use Rattle.laws.specs.Truth.{is_satisfied}
 use Rattle.policy_model.specs.declared.ConditionHead.{ConditionHead}
 use Rattle.policy_model.specs.declared.ConditionHead.TheVariants.{Always, Never, Has, Not, All, Any, BadKind, BadField}
 use Rattle.policy_model.specs.Heads.{condition_head, condition_node}
@@ -26,10 +28,10 @@ use Rattle.condition.specs.declared.OpenNode.TheVariants.{Not as not_node, Arms}
 use Rattle.condition.specs.declared.Node.TheVariants.{Value, Open}
 use Rattle.condition.specs.declared.Node.TheVariants as node
 use Rattle.consulted.specs.Listing.{Lent, Consults}
-use Rattle.condition.specs.Evaluating.{is_satisfied, answer_of, EvaluatesC, EvaluatesHas}
+use Rattle.condition.specs.Evaluating.{answer_of, EvaluatesC, EvaluatesHas}
 use Rattle.condition.specs.Walking.{node_of, opens, list_value, list_read, value_on, read_on, Known, Unread, Settles}
 use Rattle.consulted.proofs.Listing.{consults_none, consults_then, consults_as}
-use Rattle.condition.proofs.Evaluating.{no_levels, no_words, by_head, flip_value, eval_value, eval_has_lem}
+use Rattle.condition.proofs.Evaluating.{no_levels, no_words, by_head, eval_value, eval_has_lem}
 
 -- ---- a list rule by its first arm and the others
 value_both : (x y : model.ConditionEval) → cond (beq (is_satisfied x) false) (is_satisfied x) (is_satisfied y) ≡ is_satisfied (both x y)
@@ -160,7 +162,7 @@ module _ (T : Table) (words : List ℕ) (s : Lent) (r : ConditionEval) (t : Lent
   open_not e k =
       by_head words at d Not lt e (then_holds (read_condition d (drop (at + 1) words)) (λ c vs. got (not_c c) vs) k (λ c vs i.
       let end : at + 1 + words_c c ≡ at + (1 + words_c c) = omega arith in
-      fine (rw (flip_value (eval_condition T c), end) at i)))
+      fine (rw (sym (truth_flip (eval_condition T c)), end) at i)))
 
   open_list : (h : ConditionHead) (stop : Bool) (rule : Conditions → Condition) (m : ℕ) → h ≡ condition_head (get_or words at 0) →
       condition_node (λ vs. read_condition d vs) h (drop (at + 1) words) ≡ next (many cnil ccons (read_condition d) (suc m) (drop (at + 1) words)) (λ cs vs. got (rule cs) vs) →

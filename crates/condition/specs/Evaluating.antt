@@ -1,18 +1,14 @@
 -- What the evaluation of conditions answers, and what it leaves in the list that it is lent.
-use Rattle.std.specs.Prelude.{◌≡◌, Bool, true, false, List, ℕ, ◌+◌, drop}
+use Rattle.std.specs.Prelude.{◌≡◌, Bool, List, ℕ, ◌+◌, drop}
 use Rattle.model.specs.Facts.{Table}
 use Rattle.model.specs.Condition.{has, eval_condition}
-use Rattle.model.specs.Condition as model
 use Rattle.model.specs.Consulted.{Consulted, read_c}
 use Rattle.model.specs.Reading.{read_condition}
 use Rattle.laws.proofs.FieldLaws.{Holds}
 use Rattle.laws.specs.Size.{words_c}
+use Rattle.laws.specs.Truth.{is_satisfied}
 use Rattle.condition.specs.declared.ConditionEval.{ConditionEval}
 use Rattle.consulted.specs.Listing.{Lent, Consults}
-
-abbrev pub is_satisfied : model.ConditionEval → Bool
-is_satisfied (model.satisfied fs) = true
-is_satisfied (model.unsatisfied fs) = false
 
 abbrev pub answer_of : Bool → ℕ → ConditionEval
 answer_of value next = record { satisfied = value; next = next }

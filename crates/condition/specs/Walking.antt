@@ -7,6 +7,7 @@ use Rattle.model.specs.Consulted.{Consulted, read_c, read_all_c, read_any_c}
 use Rattle.model.specs.Reading.{many, read_condition}
 use Rattle.laws.proofs.FieldLaws.{Holds}
 use Rattle.laws.specs.Size.{words_c, words_cs}
+use Rattle.laws.specs.Truth.{is_satisfied}
 use Rattle.policy_model.specs.declared.ConditionHead.{ConditionHead}
 use Rattle.policy_model.specs.declared.ConditionHead.TheVariants as condition
 use Rattle.condition.specs.declared.ConditionEval.{ConditionEval}
@@ -15,7 +16,7 @@ use Rattle.condition.specs.declared.OpenNode.TheVariants.{Not, Arms}
 use Rattle.condition.specs.declared.Node.{Node}
 use Rattle.condition.specs.declared.Node.TheVariants.{Value, Has, Open}
 use Rattle.consulted.specs.Listing.{Lent}
-use Rattle.condition.specs.Evaluating.{is_satisfied, Evaluated}
+use Rattle.condition.specs.Evaluating.{Evaluated}
 
 -- ---- nodes
 -- What a condition's head is to a walk.

@@ -21,7 +21,7 @@ pub struct Consulted<'a> {
 
 // Puts the entry at the end, unless its fact is listed `already`, and returns how many are in use then. Slice, length and flag are plain values: document 01
 // has `record` thin over such a core, and the set says whether the fact is listed.
-pub fn recorded(entries: &mut [u16], length: usize, already: bool, entry: u16) -> usize
+fn recorded(entries: &mut [u16], length: usize, already: bool, entry: u16) -> usize
     requires { length < long entries.old }
     ensures listed { (result ≡ length_with length already) × (entries.new ≡ entries_with entries.old length already entry) }
 {
@@ -41,7 +41,7 @@ impl<'a> Consulted<'a> {
     }
 
     // `recorded` of a list that is lent. The set of its facts is `consult`'s.
-    pub fn record(&mut self, already: bool, entry: u16)
+    fn record(&mut self, already: bool, entry: u16)
         requires { self.old.length < long self.old.entries.now }
         ensures { self.new ≡ list_with self.old already entry }
     {

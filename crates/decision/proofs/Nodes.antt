@@ -2,17 +2,15 @@
 use mathlib.Core.Path.{◌≡◌, refl, sym, ◌∙◌, ap, subst}
 use mathlib.Core.Bool.{Bool, true, false, cond}
 use mathlib.Core.Option.{Option}
-use mathlib.Core.List.{List, [], ◌∷◌, ◌++◌, map-id}
+use mathlib.Core.List.{List, [], ◌∷◌, ◌++◌}
 use Prim.Native.Nat.{ℕ, ◌+◌, ◌-◌, ◌/◌, ◌%◌, ◌≤◌, ◌<◌}
-use native.Mathlib.Numerals.{add-one}
 use native.Mathlib.Omega.{arith}
 use borrow.Author.Tests.{ltb-true, ltb-false}
 use lib.Dec.{ltb}
 use lib.ListN.{length, take, drop, get_or, length-drop, drop_of_length-le}
-use lib.Seq.{length-take-le, take_all, take_at, drop-cons}
+use lib.Seq.{length-take-le, take_all, take_at}
 use Rattle.std.specs.Prelude.{Option as Carried, None, Some}
 use Rattle.model.specs.Facts.{Table}
-use Rattle.model.specs.Fields.{pack}
 use Rattle.model.specs.Condition.{Condition}
 use Rattle.model.specs.Decision.{denies, generic_deny}
 use Rattle.model.specs.Policy.{Policy, pnil, pcons}
@@ -22,14 +20,15 @@ use Rattle.model.specs.Products.{Outcome, read_policy}
 use Rattle.laws.specs.Lists.{Below}
 use Rattle.laws.specs.FieldAt.{firsts}
 use Rattle.laws.proofs.FieldAtLaws.{fields_held, narrow_below}
-use Rattle.laws.proofs.FieldLaws.{Holds, fine, nothing, if_holds, weaker, then_holds, both_hold, same_list_lem}
-use Rattle.laws.proofs.ReadForm.{same_obligation, ok_obligations}
+use Rattle.laws.proofs.FieldLaws.{Holds, fine, nothing, if_holds, weaker, then_holds, anything}
+use Rattle.laws.proofs.ReadForm.{read_obligations as list_read}
 use Rattle.policy_model.specs.declared.DenyShape.{DenyShape}
 use Rattle.policy_model.specs.declared.PolicyHead.{PolicyHead}
 use Rattle.policy_model.specs.declared.PolicyHead.TheVariants.{Permit, Deny, Grant, All, Any, OrElse, PermitWithTrace, DenyWithTrace, BadKind, BadField}
 use Rattle.policy_model.specs.Heads.{policy_head, bit_of, denied_by, grant_node, permit_trace_node, deny_trace_node, policy_node}
 use Rattle.policy_model.specs.HeadLaws.{policy_node_lem}
 use Rattle.policy_model.proofs.Skipping.{grant_says, permit_says}
+use Rattle.policy_model.proofs.Checking.{word_at}
 use Rattle.decision.specs.Nodes.{reached, node_at, obligations_of_d, obligations_of, clause_read, obligations_read, clause_at, obligations_at, obligation_fields, head_count, obligation_count_of}
 use Rattle.decision.specs.Meaning.{Stands, past, reads}
 use Rattle.decision.specs.Answers.{Loaded}
@@ -42,23 +41,14 @@ read_obligations : (n : ℕ) (ws : List ℕ) → Holds (ReadO n ws) (read_list o
 read_obligations n ws =
     weaker (read_list obligation obligation_bits n ws)
     (λ os vs h.
-    let were : pack 8 os ++ vs ≡ ws = ap (λ l. pack 8 l ++ vs) (sym (map-id os)) ∙ h.1.were in
-    let same : obligation_fields (length os) ws ≡ os = fields_held 8 3 ws os vs refl (sym were) (narrow_below 8 obligation_count os (omega arith) h.0.0) in
-    (h.0.0, sym same ∙ ap (λ k. obligation_fields k ws) h.1.long))
-    (both_hold (read_list obligation obligation_bits n ws) (ok_obligations n ws) (same_list_lem (λ o. o) obligation same_obligation obligation_bits 3 n ws refl))
+    let same : obligation_fields (length os) ws ≡ os = fields_held 8 3 ws os vs refl (sym h.were) (narrow_below 8 obligation_count os (omega arith) h.below) in
+    (h.below, sym same ∙ ap (λ k. obligation_fields k ws) h.long))
+    (list_read n ws)
 
 -- What a node has, ws being the words after its first.
 pub record Has (h : PolicyHead) (ws : List ℕ) (t : Policy Outcome) (vs : List ℕ) : Type 0 where
   pub below : Below obligation_count (obligations_of t)
   pub listed_there : obligations_of t ≡ obligation_fields (head_count h) (drop 1 ws)
-
--- Anything was read.
-abbrev Whatever : {A : Type 0} → A → List ℕ → Type 0
-Whatever a ws = Unit {0}
-
-whatever : {A : Type 0} (q : Parsed A) → Holds Whatever q
-whatever (refuse n) = nothing
-whatever (got a ws) = fine tt
 
 none_has : (h : PolicyHead) (ws : List ℕ) (t : Policy Outcome) (vs : List ℕ) → obligations_of t ≡ [] → head_count h ≡ 0 → Has h ws t vs
 unfolding firsts
@@ -69,43 +59,43 @@ module _ (pc : List ℕ → Parsed Condition) (p : List ℕ → Parsed (Policy O
   unfolding grant_node
   grant_has shape n o [] = nothing
   grant_has shape n o (w ∷ ws) =
-      then_holds (mark (w / 65536)) _ (whatever (mark (w / 65536))) (λ l _ _.
-      then_holds (mark (w % 65536)) _ (whatever (mark (w % 65536))) (λ m _ _.
+      then_holds (mark (w / 65536)) _ (anything (mark (w / 65536))) (λ l _ _.
+      then_holds (mark (w % 65536)) _ (anything (mark (w % 65536))) (λ m _ _.
       then_holds (read_list obligation obligation_bits n ws) _ (read_obligations n ws) (λ os vs h.
-      then_holds (pc vs) _ (whatever (pc vs)) (λ c us _.
+      then_holds (pc vs) _ (anything (pc vs)) (λ c us _.
       fine (record { below = h.0; listed_there = h.1 })))))
 
   permit_has : (n o : ℕ) (ws : List ℕ) → Holds (λ d _. ReadO n (drop 1 ws) (obligations_of_d d) []) (permit_trace_node n o ws)
   unfolding permit_trace_node
   permit_has n o [] = nothing
   permit_has n o (w ∷ ws) =
-      then_holds (mark (w / 65536)) _ (whatever (mark (w / 65536))) (λ l _ _.
+      then_holds (mark (w / 65536)) _ (anything (mark (w / 65536))) (λ l _ _.
       if_holds (ltb (w % 65536) 4096) 8 _ (λ _.
       then_holds (read_list obligation obligation_bits n ws) _ (read_obligations n ws) (λ os vs h.
-      then_holds (read_list listed entry_bits (w % 65536) vs) _ (whatever (read_list listed entry_bits (w % 65536) vs)) (λ fs us _.
+      then_holds (read_list listed entry_bits (w % 65536) vs) _ (anything (read_list listed entry_bits (w % 65536) vs)) (λ fs us _.
       fine h))))
 
   deny_has : (shape : DenyShape) (denied : Carried ℕ) (ws : List ℕ) → Holds (λ d _. obligations_of_d d ≡ []) (deny_trace_node shape denied ws)
   unfolding deny_trace_node
   deny_has shape denied [] = nothing
   deny_has shape denied (w ∷ ws) =
-      then_holds (mark (w / 65536)) _ (whatever (mark (w / 65536))) (λ l _ _.
-      then_holds (mark (w % 65536)) _ (whatever (mark (w % 65536))) (λ m _ _. facts_read l m ws))
+      then_holds (mark (w / 65536)) _ (anything (mark (w / 65536))) (λ l _ _.
+      then_holds (mark (w % 65536)) _ (anything (mark (w % 65536))) (λ m _ _. facts_read l m ws))
     where
       facts_read : (l m : Option ℕ) (ws : List ℕ) → Holds (λ d _. obligations_of_d d ≡ []) (another ws (λ n vs. counted n (next (read_list listed entry_bits n vs) (λ fs us.
           got (denies (record { denied = denied_by denied; facts = fs; label = l; reason = m; shape = shape_of (bit_of shape) })) us))))
       facts_read l m [] = nothing
       facts_read l m (n ∷ ws) =
-          if_holds (ltb n 4096) 8 _ (λ _. then_holds (read_list listed entry_bits n ws) _ (whatever (read_list listed entry_bits n ws)) (λ fs us _. fine refl))
+          if_holds (ltb n 4096) 8 _ (λ _. then_holds (read_list listed entry_bits n ws) _ (anything (read_list listed entry_bits n ws)) (λ fs us _. fine refl))
 
   pub node_has : (h : PolicyHead) (ws : List ℕ) → Holds (Has h ws) (policy_node pc p h ws)
   unfolding policy_node
   node_has (Permit o) ws = fine (none_has _ _ _ _ refl refl)
   node_has Deny ws = fine (none_has _ _ _ _ refl refl)
   node_has (Grant shape n o) ws = grant_has shape n o ws
-  node_has (All n) ws = then_holds (many pnil pcons p n ws) _ (whatever (many pnil pcons p n ws)) (λ ts vs _. fine (none_has _ _ _ _ refl refl))
-  node_has (Any n) ws = then_holds (many pnil pcons p n ws) _ (whatever (many pnil pcons p n ws)) (λ ts vs _. fine (none_has _ _ _ _ refl refl))
-  node_has OrElse ws = then_holds (p ws) _ (whatever (p ws)) (λ a vs _. then_holds (p vs) _ (whatever (p vs)) (λ b us _. fine (none_has _ _ _ _ refl refl)))
+  node_has (All n) ws = then_holds (many pnil pcons p n ws) _ (anything (many pnil pcons p n ws)) (λ ts vs _. fine (none_has _ _ _ _ refl refl))
+  node_has (Any n) ws = then_holds (many pnil pcons p n ws) _ (anything (many pnil pcons p n ws)) (λ ts vs _. fine (none_has _ _ _ _ refl refl))
+  node_has OrElse ws = then_holds (p ws) _ (anything (p ws)) (λ a vs _. then_holds (p vs) _ (anything (p vs)) (λ b us _. fine (none_has _ _ _ _ refl refl)))
   node_has (PermitWithTrace n o) ws =
       then_holds (permit_trace_node n o ws) _ (permit_has n o ws) (λ d vs h. fine (record { below = h.0; listed_there = h.1 }))
   node_has (DenyWithTrace shape denied) ws =
@@ -114,13 +104,10 @@ module _ (pc : List ℕ → Parsed Condition) (p : List ℕ → Parsed (Policy O
   node_has BadField ws = nothing
 
 -- ---- by position
-node_words_lem : (words : List ℕ) (at : ℕ) → at < length words → drop at words ≡ get_or words at 0 ∷ drop (at + 1) words
-node_words_lem words at h = rw (add-one, drop-cons words at 0)
-
 pub node_there : (words : List ℕ) (at : ℕ) → at < length words →
     node_at words at ≡ policy_node (λ vs. read_condition 31 vs) (λ vs. read_policy true 31 vs) (policy_head (get_or words at 0) true) (drop (at + 1) words)
 unfolding node_at
-node_there words at h = ap (read_policy true 32) (node_words_lem words at h) ∙ policy_node_lem true 31 (get_or words at 0) (drop (at + 1) words)
+node_there words at h = ap (read_policy true 32) (word_at words at h) ∙ policy_node_lem true 31 (get_or words at 0) (drop (at + 1) words)
 
 node_past : (words : List ℕ) (at : ℕ) → length words ≤ at → node_at words at ≡ refuse 6
 unfolding node_at
@@ -190,7 +177,7 @@ obligations_there words at h (reads t vs e) =
     let pc : List ℕ → Parsed Condition = λ us. read_condition 31 us in
     let p : List ℕ → Parsed (Policy Outcome) = λ us. read_policy true 31 us in
     let ws = drop (at + 1) words in
-    ap (λ l. obligation_fields (head_count head) (drop 2 l)) (node_words_lem words at h)
+    ap (λ l. obligation_fields (head_count head) (drop 2 l)) (word_at words at h)
     ∙ read_there head ws (policy_node pc p head ws) t vs (node_has pc p head ws) (sym (node_there words at h) ∙ e)
     ∙ ap obligations_read (sym (node_there words at h))
 
@@ -200,7 +187,7 @@ few_in w (Grant shape n o) e = let says = grant_says true w shape n o e in (omeg
 few_in w (PermitWithTrace n o) e = let says = permit_says true w n o e in (omega (arith, says.0), omega (arith, says.0))
 few_in w h e = (omega arith, omega arith)
 
--- A word whose field says none has none, whatever its node.
+-- A word whose field says none has none, anything its node.
 pub no_obligations : (w : ℕ) → w / 1048576 % 128 ≡ 0 → obligation_count_of w ≡ 0
 unfolding obligation_count_of
 no_obligations w e = omega (arith, (few_in w (policy_head w true) refl).1)

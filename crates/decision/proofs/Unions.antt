@@ -9,11 +9,13 @@ use lib.Dec.{eqb}
 use lib.ListN.{length, take, drop, set, get_or, length-append}
 use lib.Seq.{length-take-le, take-append-le, take-take}
 use Rattle.std.proofs.lemmas.List.{take_more, take_more_set}
+use Rattle.std.proofs.lemmas.Bool.{or_parts}
 use lib.Bits.{bit_or}
 use Rattle.model.specs.Decision.{held, union_obligations}
 use Rattle.model.specs.Decision.{insert as insert_one}
 use Rattle.model.specs.Reading.{obligation_count}
-use Rattle.laws.specs.Lists.{Below, distinct_end, every_end, every_append, or_false_r, pigeon}
+use Rattle.laws.specs.Lists.{Below}
+use Rattle.laws.proofs.ListLaws.{distinct_end, every_end, every_append, pigeon}
 use Rattle.decision.specs.Room.{obligation_room}
 use Rattle.decision.specs.declared.Decision.{Decision}
 use Rattle.decision.specs.declared.Union.{Union}
@@ -67,7 +69,7 @@ module _ (u : Union) (o : ℕ) (buf : List ℕ) where
     not_held os h = sym (held_by_lem os h) ∙ ne_eqb (bit_at u.mask o) 1 n
 
     not_appended : (os : List ℕ) → Holding os buf u → held o (take u.count buf) ≡ false
-    not_appended os h = or_false_r (held o os) (held o (take u.count buf)) (sym (held_append o os (take u.count buf)) ∙ not_held os h)
+    not_appended os h = (or_parts (held o os) (held o (take u.count buf)) (sym (held_append o os (take u.count buf)) ∙ not_held os h)).1
 
     pub append_new : (m : ℕ) (fits : u.count + 1 ≤ obligation_room) → (o < obligation_count → m ≡ bit_or u.mask (2 ^ o)) →
         Grown (o ∷ []) buf (set buf u.count o) u (union_of m (u.count + 1) fits)

@@ -19,18 +19,19 @@ use policy_model::PolicyHead;
 
 // What was decided. A position is that of a grant or of a stored decision.
 // One flat value and no enum: most uses ask `permit` alone or the clause, which both kinds have, and a match would give each of them two arms.
-#[derive(Clone, Copy, PartialEq, Eq)]
+#[derive(Clone, Copy)]
 pub struct Decision {
     pub permit: bool,
     // of a permit; no product on deny
     pub outcome: u16,
+    // Of a permit: how many obligations it has besides, which joins appended, at the front of the buffer. That they fit in their room (`Few`) is asked by each
+    // function that reads the buffer, and is no ghost field: others, such as `products`, take any decision, and with one they would ask more of their callers.
+    // A u32, as it then lies in one word with what stands above: a wide list copies less for each arm.
+    pub united: u32,
     // the node whose label, reason, shape and facts it carries
     pub clause: Option<usize>,
     // of a permit: the node whose obligations it has
     pub obligations: Option<usize>,
-    // Of a permit: how many more it has, which joins appended, at the front of the buffer. That they fit in their room (`Few`) is asked by each function that
-    // reads the buffer, and is no ghost field: others, such as `products`, take any decision, and with one they would ask more of their callers.
-    pub united: usize,
 }
 
 impl Decision {
@@ -75,7 +76,7 @@ pub fn denied() -> Decision
 }
 
 // A permit with the label and facts of the node at `at`, and with the obligations of the node at `held` and the first `united` bytes of the buffer.
-fn with_united(outcome: u16, at: Option<usize>, held: Option<usize>, united: usize) -> Decision
+fn with_united(outcome: u16, at: Option<usize>, held: Option<usize>, united: u32) -> Decision
     ensures { result ≡ permitted_at outcome at held united }
 {
     Decision {
@@ -162,7 +163,7 @@ pub fn obligations(words: &[u32], decision: Decision, buf: &[u8], out: &mut [u8]
     ensures { Held words.now decision buf.now out.new result }
 {
     let own = load_obligations(words, decision.obligations, out);
-    let count = decision.united;
+    let count = decision.united as usize;
     out[own..own + count].copy_from_slice(&buf[..count]);
     own + count
 }
@@ -179,11 +180,11 @@ fn with_bit(mask: u64, obligation: u8) -> u64
 
 // The mask with these obligations.
 #[tactic(auto, using(crate::proofs::Masks::masked_more))]
-fn with_bits(mask: u64, obligations: &[u8]) -> u64
-    ensures { Masked mask obligations.now result }
+fn with_bits(mask: u64, numbers: &[u8]) -> u64
+    ensures { Masked mask numbers.now result }
 {
     let mut all = mask;
-    for obligation in obligations {
+    for obligation in numbers {
         all = with_bit(all, *obligation);
     }
     all
@@ -232,11 +233,11 @@ impl Union {
 
     // Appends these obligations, one by one.
     #[tactic(auto, using(crate::proofs::Unions::grown_more))]
-    fn append_all(&mut self, obligations: &[u8], buf: &mut [u8])
+    fn append_all(&mut self, numbers: &[u8], buf: &mut [u8])
         requires { RoomToUnite 1 buf.old }
-        ensures { Grown obligations.now buf.old buf.new self.old self.new }
+        ensures { Grown numbers.now buf.old buf.new self.old self.new }
     {
-        for obligation in obligations {
+        for obligation in numbers {
             self.append(*obligation, buf);
         }
     }
@@ -270,19 +271,19 @@ fn unobliged(words: &[u32], decision: Decision) -> bool
 
 // Appends the obligations of the incoming permit to those of the permit so far, and returns how many bytes of the buffer these take then. It is
 // compiled into the folds, and these into the list rules: with calls, whole decisions are laid in memory for each arm, and an Any of 4,095 Permits is evaluated
-// in 131 µs in place of 44.
+// in 119 µs in place of 31.
 #[inline(always)]
-fn unite(words: &[u32], sofar: Decision, incoming: Decision, buf: &mut [u8]) -> usize
+fn unite(words: &[u32], sofar: Decision, incoming: Decision, buf: &mut [u8]) -> u32
     requires { Few sofar × Few incoming × RoomToUnite 2 buf.old }
     ensures { Both words.now sofar incoming buf.old buf.new result }
 {
-    let count = sofar.united;
+    let count = sofar.united as usize;
     let (front, later) = buf.split_at_mut(OBLIGATION_ROOM);
     let mask = with_bits(node_mask(words, sofar.obligations), &front[..count]);
     let mut union = Union { mask, count };
     union.append_node(words, incoming.obligations, front);
-    union.append_all(&later[..incoming.united], front);
-    union.count
+    union.append_all(&later[..incoming.united as usize], front);
+    union.count as u32
 }
 
 // The incoming decision of an arm, whose buffer starts at the second room, as the decision so far, whose buffer is the front.
@@ -290,7 +291,7 @@ pub fn keep(incoming: Decision, buf: &mut [u8]) -> Decision
     requires { Few incoming × RoomToUnite 2 buf.old }
     ensures { Kept incoming buf.old buf.new result }
 {
-    let count = incoming.united;
+    let count = incoming.united as usize;
     let (front, later) = buf.split_at_mut(OBLIGATION_ROOM);
     front[..count].copy_from_slice(&later[..count]);
     incoming

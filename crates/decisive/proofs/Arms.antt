@@ -12,7 +12,8 @@ use Rattle.model.specs.Facts.{Table, fact_count}
 use Rattle.model.specs.Condition.{Condition, Conditions, cnil, ccons, ConditionEval, satisfied, unsatisfied, both, either, eval_condition, eval_condition_all, eval_condition_any}
 use Rattle.model.specs.Reading.{next, many, read_condition}
 use Rattle.laws.proofs.FieldLaws.{Holds, fine, weaker}
-use Rattle.laws.specs.Lists.{Below, every_append}
+use Rattle.laws.specs.Lists.{Below}
+use Rattle.laws.proofs.ListLaws.{every_append}
 use Rattle.laws.specs.Size.{words_cs}
 use Rattle.policy_model.specs.Span.{SkippedConditions}
 use Rattle.decisive.specs.declared.Named.{Named}

@@ -14,9 +14,10 @@ use Rattle.facts.specs.Answers.{is_present}
 use Rattle.policy_model.specs.declared.ConditionHead.{ConditionHead}
 use Rattle.policy_model.specs.declared.ConditionHead.TheVariants.{Always, Never, Has, Not, All, Any, BadKind, BadField}
 use Rattle.policy_model.specs.Heads.{condition_head, condition_node}
+use Rattle.policy_model.specs.HeadLaws.{has_word}
 use Rattle.decisive.specs.declared.Named.{Named}
 use Rattle.decisive.specs.Naming.{eval_of, Tells, Decisive, DecisiveArms, Says, NamesFact}
-use Rattle.condition.proofs.Evaluating.{no_words, below_head, has_word}
+use Rattle.condition.proofs.Evaluating.{no_words, below_head}
 use Rattle.decisive.proofs.Positions.{no_levels, by_head, Some, some_arms}
 
 eval_has_lem : (f : ℕ) (p : Presence) → eval_has f p ≡ eval_of (is_present p) (f ∷ [])

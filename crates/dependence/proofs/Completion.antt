@@ -12,7 +12,7 @@ use Rattle.model.specs.Reading.{Parsed, refuse, got, record_length, read_record}
 use Rattle.model.specs.Required.{required_residual_facts}
 use Rattle.model.specs.Calls.{Answer, unless_long, unless_fault, on_read, unless_other, has_number, under, write, complete_residual}
 use Rattle.laws.specs.Each.{Each}
-use Rattle.laws.specs.Names.{each_of}
+use Rattle.laws.proofs.NameLaws.{each_of}
 use Rattle.laws.proofs.Deeper.{follows_got}
 use Rattle.laws.proofs.Wider.{record_among}
 use Rattle.laws.proofs.LevelLaws.{few_outcomes, by_accepted, by_refused}

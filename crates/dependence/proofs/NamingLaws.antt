@@ -1,12 +1,10 @@
 -- The test `names`, which the calls' definitions compute, and the proposition `Names`, in which demand 3 speaks, are the same.
 use Rattle.std.specs.Prelude.{◌≡◌, refl, ◌⊎◌, Bool, true, false, ◌||◌, ℕ}
-use Rattle.std.proofs.Common.{inl, inr, arith, eqb-true, eq-eqb}
+use Rattle.std.proofs.Common.{inl, inr, eqb-true, eq-eqb}
+use Rattle.std.proofs.lemmas.Bool.{false≢true}
 use Rattle.model.specs.Condition.{Condition, always, never, has, not_c, all_c, any_c, Conditions, cnil, ccons, names_c, names_cs}
 use Rattle.model.specs.Policy.{Policy, permit, deny, grant, all, any, or_else, stored, Policies, pnil, pcons, names, namess}
 use Rattle.laws.specs.Names.{NamesC, NamesCs, Names, Namess}
-
-no : {A : Type 0} → false ≡ true → A
-no e = let z : ◌≡◌ {A = ℕ} 0 1 = cc in absurd (omega arith)
 
 -- Of two tests that one is true, what either tells.
 or_tells : {A B : Type 0} (a b : Bool) → (a ≡ true → A) → (b ≡ true → B) → (a || b) ≡ true → A ⊎ B
@@ -15,36 +13,36 @@ or_tells false b f g e = inr (g e)
 
 or_told : {A B : Type 0} (a b : Bool) → (A → a ≡ true) → (B → b ≡ true) → A ⊎ B → (a || b) ≡ true
 or_told true b f g n = refl
-or_told false b f g (inl n) = no (f n)
+or_told false b f g (inl n) = absurd (false≢true (f n))
 or_told false b f g (inr n) = g n
 
 module _ (f : ℕ) where
   mutual
     named_c : (c : Condition) → names_c f c ≡ true → NamesC f c
-    named_c always e = no e
-    named_c never e = no e
+    named_c always e = absurd (false≢true e)
+    named_c never e = absurd (false≢true e)
     named_c (has g) e = eqb-true f g e
     named_c (not_c c) e = named_c c e
     named_c (all_c cs) e = named_cs cs e
     named_c (any_c cs) e = named_cs cs e
 
     named_cs : (cs : Conditions) → names_cs f cs ≡ true → NamesCs f cs
-    named_cs cnil e = no e
+    named_cs cnil e = absurd (false≢true e)
     named_cs (ccons c cs) e = or_tells (names_c f c) (names_cs f cs) (λ h. named_c c h) (λ h. named_cs cs h) e
 
   mutual
     -- What the test finds is named ..
     pub named : {O : Type 0} (t : Policy O) → names f t ≡ true → Names f t
-    named (permit o) e = no e
-    named deny e = no e
+    named (permit o) e = absurd (false≢true e)
+    named deny e = absurd (false≢true e)
     named (grant g c) e = named_c c e
     named (all ts) e = nameds ts e
     named (any ts) e = nameds ts e
     named (or_else a b) e = or_tells (names f a) (names f b) (λ h. named a h) (λ h. named b h) e
-    named (stored d) e = no e
+    named (stored d) e = absurd (false≢true e)
 
     nameds : {O : Type 0} (ts : Policies O) → namess f ts ≡ true → Namess f ts
-    nameds pnil e = no e
+    nameds pnil e = absurd (false≢true e)
     nameds (pcons t ts) e = or_tells (names f t) (namess f ts) (λ h. named t h) (λ h. nameds ts h) e
 
   mutual

@@ -12,7 +12,7 @@ use Rattle.model.specs.Reading.{got, read_record}
 use Rattle.model.specs.Required.{fact_set, required_of, required_residual_facts}
 use Rattle.laws.proofs.FieldLaws.{Holds}
 use Rattle.laws.specs.Each.{Each}
-use Rattle.laws.specs.Names.{of_each}
+use Rattle.laws.proofs.NameLaws.{of_each}
 use Rattle.laws.specs.Form.{IfThere, Free, Countable}
 use Rattle.laws.proofs.ReadForm.{OkRecord, ok_record}
 use Rattle.fact_set.specs.SetLaws.{has_fact}

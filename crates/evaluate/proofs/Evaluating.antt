@@ -1,15 +1,17 @@
 -- What a policy comes to and consults, by its head. Assumes nothing.
 use mathlib.Core.Path.{◌≡◌, refl, sym, ◌∙◌, ap, ap₂, subst}
 use mathlib.Core.Logic.{◌⊎◌, inl, inr}
-use mathlib.Core.Bool.{Bool, true, false}
+use mathlib.Core.Bool.{Bool, true, false, cond}
 use mathlib.Core.Option.{Option}
 use mathlib.Core.List.{List, [], ◌∷◌}
 use Prim.Native.Nat.{ℕ, zero, suc, ◌+◌, ◌-◌, ◌/◌, ◌%◌, ◌≤◌, ◌<◌}
 use native.Mathlib.Numerals.{sub-one}
 use native.Mathlib.Omega.{arith}
+use lib.Dec.{eqb}
 use lib.ListN.{length, drop, get_or, length-drop}
 use lib.Seq.{drop-drop}
 use Rattle.std.specs.Prelude.{Option as Carried, Some, None}
+use Rattle.model.specs.Fields.{bits}
 use Rattle.model.specs.Facts.{Table}
 use Rattle.model.specs.Condition.{Condition, satisfied, unsatisfied, eval_condition}
 use Rattle.model.specs.Condition as model
@@ -19,14 +21,18 @@ use Rattle.model.specs.Levels.{OutcomeTable}
 use Rattle.model.specs.Decision.{permits, denies}
 use Rattle.model.specs.Decision.{Decision as Decided}
 use Rattle.model.specs.Evaluate.{eval_grant}
-use Rattle.model.specs.Reading.{Parsed, refuse, got, next, read_condition}
+use Rattle.model.specs.Reading.{Parsed, got, next, few_obligations, read_condition}
 use Rattle.model.specs.Products.{Outcome, read, eval_policy, read_policy, policy_at}
-use Rattle.laws.proofs.FieldLaws.{Holds, fine, nothing, weaker, then_holds}
+use Rattle.model.specs.Outcome.{product_sets}
+use Rattle.laws.proofs.FieldLaws.{Holds, fine, nothing, weaker, then_holds, held_at}
+use Rattle.laws.proofs.NodeLaws.{policy_none}
+use Rattle.laws.proofs.GrantLaws.{grant_read}
 use Rattle.laws.specs.Size.{words_c, words_d, words}
+use Rattle.laws.specs.Truth.{is_satisfied}
 use Rattle.policy_model.specs.declared.DenyShape.{DenyShape}
 use Rattle.policy_model.specs.declared.PolicyHead.{PolicyHead}
 use Rattle.policy_model.specs.declared.PolicyHead.TheVariants.{Permit, Deny, Grant, PermitWithTrace, DenyWithTrace, BadKind, BadField}
-use Rattle.policy_model.specs.Heads.{policy_head, policy_node, permit_trace_node, deny_trace_node}
+use Rattle.policy_model.specs.Heads.{shape_by, policy_head, grant_head, policy_node, permit_trace_node, deny_trace_node, bit_of, grant_node}
 use Rattle.policy_model.proofs.Policies.{node_of}
 use Rattle.policy_model.specs.HeadLaws.{policy_deep, permit_word}
 use Rattle.policy_model.proofs.Checking.{no_word}
@@ -34,7 +40,7 @@ use Rattle.policy_model.proofs.Skipping.{grant_says, permit_owns, deny_owns}
 use Rattle.grant.specs.Fields.{outcome_at, obligations_at}
 use Rattle.condition.specs.declared.ConditionEval.{ConditionEval}
 use Rattle.consulted.specs.Listing.{Lent}
-use Rattle.condition.specs.Evaluating.{is_satisfied, Evaluated, EvaluatesC}
+use Rattle.condition.specs.Evaluating.{Evaluated, EvaluatesC}
 use Rattle.consulted.proofs.Listing.{consults_none, consults_as}
 use Rattle.decision.specs.declared.Decision.{Decision}
 use Rattle.decision.specs.Nodes.{node_at}
@@ -42,16 +48,12 @@ use Rattle.decision.specs.Meaning.{denied_at, permitted_at, granted_at, decision
 use Rattle.decision.proofs.Standing.{node_reads, as_permit, denied_is, denied_grant, denied_stored, permitted_is, permitted_grant, permitted_stored, sound_denied, sound_permitted}
 use Rattle.evaluate.specs.declared.PolicyEval.{PolicyEval}
 use Rattle.evaluate.specs.Evaluating.{eval_of, Answers, EvaluatesP, after_node, EvaluatesBy}
-use Rattle.evaluate.proofs.Nodes.{held_at, in_sheet, node_holds, node_knows, grant_reads, IsPermit, permit_reads, IsDeny, deny_reads}
+use Rattle.evaluate.proofs.Nodes.{in_sheet, node_holds, node_knows, IsPermit, permit_reads, IsDeny, deny_reads}
 use Rattle.decision.specs.Room.{obligation_room, Few}
 
 -- The answer to a policy at `at`.
 abbrev pub Answered : Option OutcomeTable → Table → List ℕ → ℕ → Lent → PolicyEval → Lent → List ℕ → Policy Outcome → List ℕ → Type 0
 Answered g T W at s r t buf p rest = Answers T W (eval_policy g T p) (at + words p) (read g T p) s r t buf
-
-pub nothing_there : (res : Bool) (depth : ℕ) → read_policy res depth [] ≡ refuse 6
-nothing_there res zero = refl
-nothing_there res (suc depth) = refl
 
 pub no_levels : {Q : Policy Outcome → List ℕ → Type 0} (res : Bool) (ws : List ℕ) → Holds Q (read_policy res zero ws)
 no_levels res [] = nothing
@@ -72,7 +74,7 @@ module _ {g : Option OutcomeTable} {T : Table} {W : List ℕ} {at depth : ℕ} {
   pub eval_end : length W ≤ at → EvaluatesP g T W at depth s (eval_of (denied_at None) next) s buf
   eval_end h = record {
     few = omega arith;
-    says = λ res. rw (no_word W at h, nothing_there res depth) nothing;
+    says = λ res. rw (no_word W at h, policy_none product_sets.value res depth) nothing;
   }
 
   pub eval_limit : depth ≡ 0 → EvaluatesP g T W at depth s (eval_of (denied_at None) next) s buf
@@ -116,6 +118,24 @@ eval_permit_word g T W at (suc depth) s buf lt e =
     by_head (λ z. omega arith) refl (permit_word (get_or W at 0) true e) (eval_permit lt refl)
 
 -- ---- a grant
+-- A word of a Grant's kind: what answers for each Grant answers for it, as of a word that doesn't read nothing is said.
+module _ {g : Option OutcomeTable} {T : Table} {W : List ℕ} {at depth : ℕ} {s : Lent} {r : PolicyEval} {t : Lent} {buf : List ℕ} (lt : at < length W) (deep : depth ≡ 0 → ⊥)
+    (each : (shape : DenyShape) (n o : ℕ) → EvaluatesBy g (Grant shape n o) T W at (depth - 1) s r t buf) where
+  unread : Few r.decision → EvaluatesBy g BadField T W at (depth - 1) s r t buf
+  unfolding policy_node
+  unread few = record { few = few; says = λ e. node_holds W at (depth - 1) BadField lt e nothing }
+
+  by_grant : (b c : Bool) (shape : DenyShape) (n o : ℕ) → cond b (cond c (Grant shape n o) BadField) BadField ≡ policy_head (get_or W at 0) true → EvaluatesP g T W at depth s r t buf
+  by_grant true true shape n o e = by_head deep refl e (each shape n o)
+  by_grant true false shape n o e = by_head deep refl e (unread (each shape n o).few)
+  by_grant false c shape n o e = by_head deep refl e (unread (each shape n o).few)
+
+  pub eval_grant_word : get_or W at 0 / 268435456 ≡ 8 → EvaluatesP g T W at depth s r t buf
+  unfolding policy_head grant_head
+  eval_grant_word e =
+      let r = get_or W at 0 % 268435456 in
+      by_grant (few_obligations (bits 20 7 r)) (eqb (bits 16 4 r) 0) (shape_by (eqb (r / 134217728) 1)) (bits 20 7 r) (r % 65536) (rw e refl)
+
 -- The answer to a grant at `at`, by the answer to its condition.
 module _ (T : Table) (W : List ℕ) (at : ℕ) (buf : List ℕ) (k : Clause Outcome) (c : Condition) (rest : List ℕ) (node : node_at W at ≡ got (grant k c) rest) where
   pub granted_is : (b : Bool) (x : model.ConditionEval) → eval_condition T c ≡ x → b ≡ is_satisfied x → decision_of W T buf (granted_at b k.outcome at) ≡ eval_grant k (eval_condition T c)
@@ -144,11 +164,11 @@ granted_few false o at = omega arith
 module _ (g : Option OutcomeTable) (T : Table) (W : List ℕ) (at depth : ℕ) (shape : DenyShape) (n o : ℕ) (lt : at < length W) (deep : depth < 32) where
   -- A grant that ends early.
   pub grant_short : (s : Lent) (r : PolicyEval) (buf : List ℕ) → r.decision.united ≤ obligation_room → length W - at < 2 + (n + 3) / 4 → EvaluatesBy g (Grant shape n o) T W at depth s r s buf
-  unfolding policy_node
+  unfolding policy_node grant_node
   grant_short s r buf few h = record {
     few = few;
     says = λ e. node_holds W at depth (Grant shape n o) lt e
-        (weaker _ (λ p rest f. absurd (omega (arith, f.fits, length-drop (at + 1) W))) (grant_reads depth shape n o (drop (at + 1) W)));
+        (weaker _ (λ p rest f. absurd (omega (arith, f.fits, length-drop (at + 1) W))) (grant_read product_sets.value (read_condition depth) (bit_of shape) n o (drop (at + 1) W)));
   }
 
   -- What is known of the grant, given the answer to its condition.
@@ -163,7 +183,7 @@ module _ (g : Option OutcomeTable) (T : Table) (W : List ℕ) (at depth : ℕ) (
 
   grant_known : (a : ConditionEval) (s t : Lent) → EvaluatesC T W (at + (2 + (n + 3) / 4)) depth s a t → Grant shape n o ≡ policy_head (get_or W at 0) true →
       Holds (Granted a s t) (policy_at W at (suc depth))
-  unfolding policy_node
+  unfolding policy_node grant_node
   grant_known a s t c e =
       weaker (policy_at W at (suc depth)) (λ p rest h.
       let f = h.1 in
@@ -179,7 +199,7 @@ module _ (g : Option OutcomeTable) (T : Table) (W : List ℕ) (at depth : ℕ) (
         words_are = omega (arith, f.long);
         answer = held_at c.says (ap (read_condition depth) (sym from) ∙ f.below);
       })
-      (node_knows W at depth (Grant shape n o) lt e (grant_reads depth shape n o (drop (at + 1) W)))
+      (node_knows W at depth (Grant shape n o) lt e (grant_read product_sets.value (read_condition depth) (bit_of shape) n o (drop (at + 1) W)))
 
   pub grant_decides : (a : ConditionEval) (s t : Lent) (buf : List ℕ) → EvaluatesC T W (at + (2 + (n + 3) / 4)) depth s a t →
       EvaluatesBy g (Grant shape n o) T W at depth s (eval_of (granted_at a.satisfied o at) a.next) t buf

@@ -10,37 +10,24 @@ use lib.Dec.{ltb}
 use lib.ListN.{length, drop, get_or}
 use Rattle.std.specs.Prelude.{Option as Carried}
 use Rattle.model.specs.Outcome.{product_sets}
-use Rattle.model.specs.Condition.{Condition}
 use Rattle.model.specs.Decision.{Permit, Denial, Decision, permits, denies}
-use Rattle.model.specs.Policy.{Policy, Grant, grant, pnil, pcons}
+use Rattle.model.specs.Policy.{Policy, pnil, pcons}
 use Rattle.model.specs.Writing.{obligation_bits, entry_bits}
-use Rattle.model.specs.Reading.{Parsed, refuse, got, next, another, counted, read_list, obligation, listed, mark, shape_of, read_condition}
+use Rattle.model.specs.Reading.{Parsed, refuse, got, next, another, counted, read_list, obligation, listed, mark, shape_of}
 use Rattle.model.specs.Products.{Outcome, read_policy, policy_at}
-use Rattle.laws.proofs.FieldLaws.{Holds, fine, nothing, if_holds, weaker, then_holds, both_hold}
+use Rattle.laws.proofs.FieldLaws.{Holds, fine, nothing, if_holds, weaker, then_holds, both_hold, itself, anything, held_at}
 use Rattle.laws.proofs.Deeper.{deeper, follows_got}
-use Rattle.laws.proofs.ReadForm.{ok_obligations, ok_facts}
+use Rattle.laws.proofs.ReadForm.{read_obligations, read_facts}
 use Rattle.policy_model.specs.declared.DenyShape.{DenyShape}
 use Rattle.policy_model.specs.declared.PolicyHead.{PolicyHead}
-use Rattle.policy_model.specs.Heads.{policy_head, bit_of, denied_by, grant_node, permit_trace_node, deny_trace_node}
+use Rattle.policy_model.specs.Heads.{policy_head, bit_of, denied_by, permit_trace_node, deny_trace_node}
 use Rattle.policy_model.specs.HeadLaws.{policy_node_lem}
 use Rattle.policy_model.specs.Span.{Skipped}
 use Rattle.laws.specs.Size.{words_d, words, wordss}
 use Rattle.policy_model.proofs.Checking.{word_at}
-use Rattle.policy_model.proofs.Quads.{obligations_leave}
 use Rattle.policy_model.proofs.Policies.{node_of}
 
 -- ---- reading
-pub itself : {A : Type 0} (q : Parsed A) → Holds (λ a ws. q ≡ got a ws) q
-itself (refuse n) = nothing
-itself (got a ws) = fine refl
-
-pub held_at : {A : Type 0} {Q : A → List ℕ → Type 0} {q : Parsed A} {a : A} {ws : List ℕ} → Holds Q q → q ≡ got a ws → Q a ws
-held_at {Q = Q} h e = (subst (Holds Q) e h).it
-
-anything : {A : Type 0} (q : Parsed A) → Holds (λ _ _. Unit {0}) q
-anything (refuse n) = nothing
-anything (got a ws) = fine tt
-
 -- What holds of a policy where nodes 12 and 13 and more levels are allowed holds of it with fewer levels, and in a sheet.
 pub in_fewer : {Q : Policy Outcome → List ℕ → Type 0} (d depth : ℕ) (ws : List ℕ) → d ≤ depth → Holds Q (read_policy true depth ws) → (res : Bool) →
     Holds Q (read_policy res d ws)
@@ -68,34 +55,6 @@ module _ (W : List ℕ) (at depth : ℕ) (h : PolicyHead) (lt : at < length W) (
   node_knows g = both_hold (policy_at W at (suc depth)) (itself (policy_at W at (suc depth))) (node_holds g)
 
 -- ---- what a node holds, ws being the words after its first
--- A grant: n obligations after its second word, then the condition.
-pub record ReadsGrant (depth n o : ℕ) (ws : List ℕ) (p : Policy Outcome) (rest : List ℕ) : Type 0 where
-  pub clause : Grant Outcome
-  pub inner : Condition
-  pub policy_is : p ≡ grant clause inner
-  pub outcome_is : clause.outcome ≡ o
-  pub long : length clause.obligations ≡ n
-  pub fits : 1 + (n + 3) / 4 ≤ length ws
-  pub below : read_condition depth (drop ((n + 3) / 4) (drop 1 ws)) ≡ got inner rest
-
-pub grant_reads : (depth : ℕ) (shape : DenyShape) (n o : ℕ) (ws : List ℕ) → Holds (ReadsGrant depth n o ws) (grant_node (read_condition depth) shape n o ws)
-unfolding grant_node
-grant_reads depth shape n o [] = nothing
-grant_reads depth shape n o (w ∷ ws) =
-    then_holds (mark (w / 65536)) _ (anything (mark (w / 65536))) (λ l _ _.
-    then_holds (mark (w % 65536)) _ (anything (mark (w % 65536))) (λ m _ _.
-    then_holds (read_list obligation obligation_bits n ws) _ (both_hold (read_list obligation obligation_bits n ws) (ok_obligations n ws) (obligations_leave n ws)) (λ os vs h.
-    then_holds (read_condition depth vs) _ (itself (read_condition depth vs)) (λ c us e.
-    fine (record {
-      clause = record { outcome = o; obligations = os; label = l; reason = m; shape = shape_of (bit_of shape) };
-      inner = c;
-      policy_is = refl;
-      outcome_is = refl;
-      long = h.0.1;
-      fits = omega (arith, h.0.2);
-      below = ap (λ k. read_condition depth (drop ((k + 3) / 4) ws)) (sym h.0.1) ∙ ap (read_condition depth) h.1 ∙ e;
-    })))))
-
 -- A stored permit on an outcome, and a stored deny: n words, and those of the facts, which the word k counts.
 pub record IsPermit (o n k : ℕ) (d : Decision Outcome) : Type 0 where
   pub was : Permit Outcome
@@ -110,9 +69,9 @@ permit_reads n o (w ∷ ws) =
     then_holds (mark (w / 65536)) _ (anything (mark (w / 65536))) (λ l _ _.
     if_holds (ltb (w % 65536) 4096) 8 _ (λ b.
     let small : w % 65536 < 4096 = ltb-true (w % 65536) 4096 b in
-    then_holds (read_list obligation obligation_bits n ws) _ (ok_obligations n ws) (λ os vs h.
-    then_holds (read_list listed entry_bits (w % 65536) vs) _ (ok_facts (w % 65536) vs) (λ fs us g.
-    fine (record { was = record { outcome = o; obligations = os; label = l; facts = fs }; is = refl; outcome_is = refl; long = omega (arith, h.1, g.1) })))))
+    then_holds (read_list obligation obligation_bits n ws) _ (read_obligations n ws) (λ os vs h.
+    then_holds (read_list listed entry_bits (w % 65536) vs) _ (read_facts (w % 65536) vs) (λ fs us g.
+    fine (record { was = record { outcome = o; obligations = os; label = l; facts = fs }; is = refl; outcome_is = refl; long = omega (arith, h.long, g.long) })))))
 
 pub record IsDeny (k : ℕ) (d : Decision Outcome) : Type 0 where
   pub was : Denial Outcome
@@ -126,8 +85,8 @@ deny_facts shape denied l m [] = nothing
 deny_facts shape denied l m (n ∷ ws) =
     if_holds (ltb n 4096) 8 _ (λ b.
     let small : n < 4096 = ltb-true n 4096 b in
-    then_holds (read_list listed entry_bits n ws) _ (ok_facts n ws) (λ fs us g.
-    fine (record { was = record { denied = denied_by denied; facts = fs; label = l; reason = m; shape = shape_of (bit_of shape) }; is = refl; long = omega (arith, g.1) })))
+    then_holds (read_list listed entry_bits n ws) _ (read_facts n ws) (λ fs us g.
+    fine (record { was = record { denied = denied_by denied; facts = fs; label = l; reason = m; shape = shape_of (bit_of shape) }; is = refl; long = omega (arith, g.long) })))
 
 pub deny_reads : (shape : DenyShape) (denied : Carried ℕ) (ws : List ℕ) → Holds (λ d _. IsDeny (get_or ws 1 0) d) (deny_trace_node shape denied ws)
 unfolding deny_trace_node

@@ -115,7 +115,8 @@ pub fn join_next(
 }
 
 impl Evaluation<'_> {
-    // A grant at `at`, whose condition has at most `depth` levels.
+    // A grant at `at`, whose condition has at most `depth` levels. It is compiled into the list rules, since with a call its decision is laid in memory.
+    #[inline(always)]
     fn eval_grant(&self, at: usize, depth: usize, consulted: &mut Consulted<'_>) -> PolicyEval
         requires { (at < length self.now.walk.words.now) × (depth < levels) }
         ensures { (g : Option model.OutcomeTable) (shape : DenyShape) (obligations outcome : ℕ) (buf : List ℕ) → EvaluatesBy g (Grant shape obligations outcome) (table_of self.now.walk.facts.now) self.now.walk.words.now at depth (held consulted.old) result (held consulted.new) buf }
@@ -175,8 +176,10 @@ impl Evaluation<'_> {
         }
     }
 
-    // The same of an arm of a list rule. A Permit, the commonest arm of a wide list, is answered here, with no further call.
+    // The same of an arm of a list rule. A Permit and a Grant, the commonest arms of a wide list, are answered here, with no call of `eval_policy`. It is
+    // compiled into the list rules, and what `eval_policy` answers is taken apart: handed on whole, it would have every arm's answer laid in memory.
     #[cycle(evaluation)]
+    #[inline(always)]
     fn eval_arm(
         &self,
         at: usize,
@@ -194,7 +197,14 @@ impl Evaluation<'_> {
         if word / policy_model::HALF == policy_model::PERMIT {
             return permitted((word % policy_model::HALF) as u16, at + 1);
         }
-        self.eval_policy(at, depth, consulted, buf)
+        if word / policy_model::KIND == policy_model::KIND_GRANT && depth != 0 {
+            return self.eval_grant(at, depth - 1, consulted);
+        }
+        let below = self.eval_policy(at, depth, consulted, buf);
+        PolicyEval {
+            decision: below.decision,
+            next: below.next,
+        }
     }
 
     // The All at `at`, whose `arms` have at most `depth` levels: meets the permits, or denies with the first denying arm. Arms after that one aren't read.

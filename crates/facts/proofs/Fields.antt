@@ -1,9 +1,9 @@
 -- A table by its bytes: fact f has the field at place f % 4 of byte f / 4, and past the last byte the table is silent. Assumes nothing.
 use mathlib.Core.Path.{◌≡◌, refl, sym, ◌∙◌, ap}
-use mathlib.Core.List.{List, [], ◌∷◌}
+use mathlib.Core.List.{List, [], ◌∷◌, ◌++◌}
 use Prim.Native.Nat.{ℕ, zero, suc, ◌-◌, ◌*◌, ◌/◌, ◌%◌, ◌^◌, ◌≤◌, ◌<◌}
 use native.Mathlib.Omega.{arith}
-use lib.ListN.{length, get_or, get_or-eq_default}
+use lib.ListN.{length, get_or, set, get_or-eq_default}
 use Rattle.model.specs.Fields.{split}
 use Rattle.model.specs.Facts.{silent, presence, table_fields, observed, table_of}
 use Rattle.laws.proofs.ShiftLaws.{split_shift, split_none}
@@ -26,6 +26,18 @@ field_by_shift bs f h = split_shift 2 3 (f % 4) (get_or bs (f / 4) 0) h (omega a
 
 pub field_past_end : (bs : List ℕ) (f : ℕ) → length bs ≤ f / 4 → get_or (table_fields bs) f 0 ≡ 0
 field_past_end bs f h = field_at_lem bs f ∙ ap (λ b. get_or (split 2 4 b) (f % 4) 0) (get_or-eq_default bs 0 h) ∙ split_none 2 4 (f % 4)
+
+-- ---- one field of a table set
+pub fields_set : (bs : List ℕ) (f v r : ℕ) → f / 4 < length bs → split 2 4 r ≡ set (split 2 4 (get_or bs (f / 4) 0)) (f % 4) v → table_fields (set bs (f / 4) r) ≡ set (table_fields bs) f v
+fields_set [] f v r h e = absurd (omega arith)
+fields_set (b ∷ bs) zero v r h e = ap (λ l. l ++ table_fields bs) e
+fields_set (b ∷ bs) (suc zero) v r h e = ap (λ l. l ++ table_fields bs) e
+fields_set (b ∷ bs) (suc (suc zero)) v r h e = ap (λ l. l ++ table_fields bs) e
+fields_set (b ∷ bs) (suc (suc (suc zero))) v r h e = ap (λ l. l ++ table_fields bs) e
+fields_set (b ∷ bs) (suc (suc (suc (suc f)))) v r h e =
+    let q : suc (suc (suc (suc f))) / 4 ≡ suc (f / 4) = omega arith in
+    let m : suc (suc (suc (suc f))) % 4 ≡ f % 4 = omega arith in
+    rw q (ap (λ l. split 2 4 b ++ l) (fields_set bs f v r (omega arith) (rw (q, m) at e)))
 
 -- ---- a table says what the fact's field says, and past its end nothing
 reads_in : (qs : List ℕ) (f : ℕ) → f < length qs → observed qs f ≡ presence (get_or qs f 0)

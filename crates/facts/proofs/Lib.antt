@@ -1,3 +1,4 @@
 -- Laws that several proofs cite.
-mod Fields
+pub mod Fields
 pub mod Faults
+mod Setting

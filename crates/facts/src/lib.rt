@@ -1,7 +1,7 @@
-// Fact tables, after gatekeep's facts.rs: what a table says of a fact, how that stands in a consulted entry, and the fault for which a table is turned back.
+// Fact tables, after gatekeep's facts.rs: what a table says of a fact, how that is set, or stands in a consulted entry, and the fault that turns a table back.
 #![tactic(auto)]
 
-ghost use Rattle.std.specs.Prelude.{◌≡◌, ◌/◌, ◌≤◌, ◌<◌, eqb, length, get_or};
+ghost use Rattle.std.specs.Prelude.{◌≡◌, ◌/◌, ◌≤◌, ◌<◌, eqb, length, get_or, set};
 ghost use Rattle.model.specs.Fields.{split};
 ghost use Rattle.model.specs.Facts.{fact_count, table_fields, table_of, field_fault, first_fault, table_bytes, table_fault};
 ghost use Rattle.model.specs.Facts.{partial_facts};
@@ -31,6 +31,13 @@ const ABOVE_FACT_16: u16 = ABOVE_FACT as u16;
 
 // A table has at most this many bytes.
 pub const TABLE_BYTES: usize = 256;
+
+// The two bits of each field of a table's byte, and both bits of its first field.
+pub const UPPER_BITS: u8 = 0b1010_1010;
+
+pub const LOWER_BITS: u8 = 0b0101_0101;
+
+const FIRST_FIELD: u8 = 0b1100_0000;
 
 // A known table holds no Unknown.
 #[derive(Clone, Copy, PartialEq, Eq)]
@@ -92,15 +99,35 @@ pub fn entry(fact: u32, presence: Presence) -> u16
 }
 
 // The presence in a consulted entry. No `From`: not every number is an entry, and in a table's field 3 reads otherwise.
-pub fn entry_presence(field: u32) -> Presence
-    ensures { Reads result (seen_in (field / 16384)) }
+pub fn entry_presence(half: u32) -> Presence
+    ensures { Reads result (seen_in (half / 16384)) }
 {
-    match field / ABOVE_FACT {
+    match half / ABOVE_FACT {
         0 => Presence::Absent,
         1 => Presence::Present,
         2 => Presence::Unknown,
         _ => Presence::Silent,
     }
+}
+
+// A byte of a table with a value in one of its four fields: so many times the lower bits have it in all four. The place is a shift, so nothing branches on it.
+fn with_field(byte: u8, place: u32, value: u8) -> u8
+    requires { (place < 4) × (value < 4) }
+    ensures { split 2 4 result ≡ set (split 2 4 byte) place value }
+{
+    let mask = FIRST_FIELD >> (place * 2);
+    byte - (byte & mask) + (value * LOWER_BITS & mask)
+}
+
+// Sets the field of a fact, in a table as long as one can be.
+#[inline]
+#[tactic(auto, using(crate::proofs::Fields::fields_set))]
+pub fn set_presence(table: &mut [u8; TABLE_BYTES], fact: u32, presence: Presence)
+    requires { fact < fact_count }
+    ensures { table_fields table.new ≡ set (table_fields table.old) fact (presence_number presence) }
+{
+    let at = (fact / 4) as usize;
+    table[at] = with_field(table[at], fact % 4, presence as u8);
 }
 
 // Whether the table has the fact as Present.
@@ -117,11 +144,11 @@ pub fn settled(facts: &[u8], fact: u32) -> bool
     field(facts, fact) < 2
 }
 
-// Whether a field is at fault.
-fn check_field(field: u8, kind: TableKind) -> Result<(), Refusal>
-    ensures { refused result ≡ field_fault (kind_of kind) field }
+// Whether a field of this value is at fault.
+fn check_field(value: u8, kind: TableKind) -> Result<(), Refusal>
+    ensures { refused result ≡ field_fault (kind_of kind) value }
 {
-    match (field, kind) {
+    match (value, kind) {
         (0 | 1, _) | (2, TableKind::Partial) => Ok(()),
         (2, TableKind::Known) => Err(Refusal::UnknownFact),
         _ => Err(Refusal::TableField),
@@ -143,7 +170,7 @@ fn check_fields(facts: &[u8], kind: TableKind) -> Result<(), Refusal>
 pub fn marks_of_three(byte: u8) -> u8
     ensures { eqb result 0 ≡ no_fault (first_fault partial_facts (split 2 4 byte)) }
 {
-    byte & (byte / 2) & 0b0101_0101
+    byte & (byte / 2) & LOWER_BITS
 }
 
 // A mark in each field of a byte that is at fault: a 3, and in a known table whatever has the upper bit.
@@ -152,7 +179,7 @@ fn marks(byte: u8, kind: TableKind) -> u8
 {
     match kind {
         TableKind::Partial => marks_of_three(byte),
-        TableKind::Known => byte & 0b1010_1010,
+        TableKind::Known => byte & UPPER_BITS,
     }
 }
 

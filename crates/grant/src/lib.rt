@@ -9,9 +9,9 @@ ghost use Rattle.grant.specs.Fields.{outcome_at, before_condition_at};
 pub const CONDITION_LEVELS: usize = policy_model::LEVELS - 1;
 
 #[derive(Drop)]
-pub struct GrantRef<'a> {
-    pub words: &'a [u32],
-    pub at: usize,
+struct GrantRef<'a> {
+    words: &'a [u32],
+    at: usize,
 }
 
 // The outcome, the last 16 bits of the first word.
@@ -30,19 +30,19 @@ fn before_condition_at(words: &[u32], at: usize) -> u32
 }
 
 impl<'a> GrantRef<'a> {
-    pub fn new(words: &'a [u32], at: usize) -> GrantRef<'a>
+    fn new(words: &'a [u32], at: usize) -> GrantRef<'a>
         ensures { (result.words ≡ words.entry) × (result.at ≡ at) }
     {
         GrantRef { words, at }
     }
 
-    pub fn outcome(self) -> u32
+    fn outcome(self) -> u32
         ensures { result ≡ outcome_at self.entry.words.now self.entry.at }
     {
         outcome_at(self.words, self.at)
     }
 
-    pub fn before_condition(self) -> u32
+    fn before_condition(self) -> u32
         ensures { result ≡ before_condition_at self.entry.words.now self.entry.at }
     {
         before_condition_at(self.words, self.at)

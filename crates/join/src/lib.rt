@@ -30,7 +30,7 @@ fn clash_marks(a: u8, b: u8) -> u8
     requires { Clean a × Clean b }
     ensures { eqb result 0 ≡ bytes_agree a b }
 {
-    facts::marks_of_three(a ^ b ^ 0b1010_1010)
+    facts::marks_of_three(a ^ b ^ facts::UPPER_BITS)
 }
 
 // The fields of two bytes joined: Present in either is Present, and Unknown in both is Unknown.
@@ -39,7 +39,7 @@ fn join_byte(a: u8, b: u8) -> u8
     requires { Clean a × Clean b × (bytes_agree a b ≡ true) }
     ensures { result ≡ join_byte a b }
 {
-    (a & b) | ((a | b) & 0b0101_0101)
+    (a & b) | ((a | b) & facts::LOWER_BITS)
 }
 
 // Whether the rest of a table agrees with one that has ended, which reads Absent.

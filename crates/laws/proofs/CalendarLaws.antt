@@ -3,7 +3,7 @@
 use Rattle.std.specs.Prelude.{◌≡◌, refl, Bool, true, false, cond, not, ◌&&◌, ◌||◌, List, [], ◌∷◌, ℕ, zero, suc, ◌+◌, ◌-◌, ◌≤◌, ◌<◌, eqb, ltb, leb, length, get_or, take, pos, negsuc}
 use Rattle.std.proofs.Common.{sym, ◌∙◌, ap, ap₂, arith, leb-true, leb-false, le-leb, ltb-true, ltb-false, lt-ltb, le-ltb, eqb-true, eq-eqb, ne_eqb}
 use Rattle.std.proofs.Math.Bool.{and-false}
-use Rattle.std.proofs.lemmas.Bool.{lt-leb}
+use Rattle.std.proofs.lemmas.Bool.{lt-leb, and_parts}
 use Rattle.std.proofs.Math.ListN.{get_or-eq_default}
 use Rattle.std.proofs.Math.IntN.{sub_ℕ}
 use Rattle.std.specs.Int.Signed.{le_z}
@@ -17,10 +17,6 @@ pub record Real (d : Date) : Type 0 where
   pub to_last : d.year ≤ last_year
   pub some_day : 1 ≤ d.day
   pub in_month : d.day ≤ month_days d.year d.month
-
-both : (a b : Bool) → (a && b) ≡ true → (a ≡ true) × (b ≡ true)
-both true b h = (refl, h)
-both false b h = (h, cc)
 
 either : (a b : Bool) → (a || b) ≡ true → {X : Type 0} → (a ≡ true → X) → (b ≡ true → X) → X
 either true b h f g = f refl
@@ -71,9 +67,9 @@ month_of_days y (suc m) h = by (ltb m 12) refl
 
 pub real : (d : Date) → exists d ≡ true → Real d
 real d h =
-    let a = both (leb first_year d.year && leb d.year last_year && leb 1 d.day) _ h in
-    let b = both (leb first_year d.year && leb d.year last_year) _ a.0 in
-    let c = both (leb first_year d.year) _ b.0 in
+    let a = and_parts (leb first_year d.year && leb d.year last_year && leb 1 d.day) _ h in
+    let b = and_parts (leb first_year d.year && leb d.year last_year) _ a.0 in
+    let c = and_parts (leb first_year d.year) _ b.0 in
     record { from_first = leb-true _ _ c.0; to_last = leb-true _ _ c.1; some_day = leb-true _ _ b.1; in_month = leb-true _ _ a.1 }
 
 pub real_exists : (d : Date) → Real d → exists d ≡ true
@@ -217,9 +213,9 @@ module _ (a b : Date) where
   sooner : before a b ≡ true → Sooner
   sooner h =
       either (ltb a.year b.year) _ h (λ y. by_year (ltb-true _ _ y)) (λ h₁.
-      let k = both (eqb a.year b.year) _ h₁ in
+      let k = and_parts (eqb a.year b.year) _ h₁ in
       either (ltb a.month b.month) _ k.1 (λ m. by_month (eqb-true _ _ k.0) (ltb-true _ _ m)) (λ h₂.
-      let l = both (eqb a.month b.month) _ h₂ in by_day (eqb-true _ _ k.0) (eqb-true _ _ l.0) (ltb-true _ _ l.1)))
+      let l = and_parts (eqb a.month b.month) _ h₂ in by_day (eqb-true _ _ k.0) (eqb-true _ _ l.0) (ltb-true _ _ l.1)))
 
   pub year_before : a.year < b.year → before a b ≡ true
   year_before h = rw (lt-ltb _ _ h)
@@ -327,7 +323,7 @@ own_year d r = ap (in_year d d.year) (stays (leap_day d) (leap d.year) refl refl
     stays false l e f = refl
     stays true true e f = refl
     stays true false e f =
-        let m = both (eqb d.month 2) _ e in
+        let m = and_parts (eqb d.month 2) _ e in
         let two : d.month ≡ 2 = eqb-true d.month 2 m.0 in
         let few : month_days d.year d.month ≡ cond (leap d.year) 29 28 = ap (month_days d.year) two in
         let short : ◌≡◌ {A = ℕ} (cond (leap d.year) 29 28) 28 = ap (λ b. cond b 29 28) f in

@@ -1,6 +1,6 @@
 -- Words are read in one way only: what was read, written again, is the words that were read.
 use Rattle.std.specs.Prelude.{◌≡◌, refl, Bool, true, false, cond, ◌&&◌, List, [], ◌∷◌, ◌++◌, map, ℕ, zero, suc, ◌+◌, ◌-◌, ◌*◌, ◌/◌, ◌%◌, ◌≤◌, ◌<◌, eqb, ltb, leb, T, length}
-use Rattle.std.proofs.Common.{sym, ◌∙◌, ap, ap₂, subst, append_assoc, append-nil, map-id, arith, eqb-true, ltb-false, leb→le}
+use Rattle.std.proofs.Common.{sym, ◌∙◌, ap, ap₂, subst, append_assoc, append-nil, arith, eqb-true, ltb-false, leb→le}
 use Rattle.std.proofs.Math.Option.{Option, none, some}
 use Rattle.std.proofs.Math.Nat.{div-div-eq-div-mul}
 use Rattle.model.specs.Fields.{pack}
@@ -8,13 +8,13 @@ use Rattle.model.specs.Condition.{Condition, always, never, has, not_c, all_c, a
 use Rattle.model.specs.Decision.{Decision, permits, denies}
 use Rattle.model.specs.Policy.{Policy, permit, deny, grant, all, any, or_else, stored, Policies, pnil, pcons}
 use Rattle.model.specs.Partial.{ReducedPolicy, resolved, pending, as_residual}
-use Rattle.model.specs.Consulted.{Consulted}
 use Rattle.model.specs.Record.{Record}
 use Rattle.model.specs.Writing.{obligation_bits, entry_bits, word, shape_bit, marked, entry_field, count_c, count, encode_c, encode_cs, denied_field, encode_d, encode, encodes, lead_kind, encode_r, numbered}
 use Rattle.model.specs.Reading.{Parsed, refuse, got, next, unless, another, read_list, obligation, listed, consulted, many, node_c, read_condition, whole, mark, shape_of, outcome_of, denied_of, grant_more, grant_at, more12, at12, more13, at13, as_stored, in_residual, node_p, last_kind, read_policy, read_sheet, node14, parse14, parse15, rest, leads, read_lead, read_record, sheet_number, most_obligations}
-use Rattle.laws.proofs.FieldLaws.{Holds, fine, nothing, if_holds, weaker, then_holds, same_list_lem}
+use Rattle.laws.proofs.FieldLaws.{Holds, fine, nothing, if_holds, weaker, then_holds}
 use Rattle.laws.specs.Form.{IfThere}
-use Rattle.laws.proofs.ReadForm.{same_obligation, same_listed, same_consulted}
+use Rattle.laws.proofs.ReadForm.{read_obligations, read_facts, read_entries}
+use Rattle.laws.proofs.NodeLaws.{outcome_holds, another_holds, shape_again}
 use Rattle.laws.specs.Canon.{SameR}
 
 word_split : (w : ℕ) → word (w / 268435456) (w % 268435456) ≡ w
@@ -59,30 +59,6 @@ same_c (suc d) (w ∷ us) =
     let r = w % 268435456 in
     weaker (node_c (λ vs. read_condition d vs) k r us) (λ c vs s. s ∙ ap (λ x. x ∷ us) (word_split w)) (same_node (λ vs. read_condition d vs) (λ vs. same_c d vs) k r us)
 
--- ---- obligations, facts, entries
-abbrev TookO : ℕ → List ℕ → List ℕ → List ℕ → Type 0
-TookO n us os vs = (pack obligation_bits os ++ vs ≡ us) × (length os ≡ n)
-
-same_obligations : (n : ℕ) (us : List ℕ) → Holds (TookO n us) (read_list obligation obligation_bits n us)
-same_obligations n us =
-    weaker (read_list obligation obligation_bits n us) (λ os vs h. (ap (λ l. pack obligation_bits l ++ vs) (sym (map-id os)) ∙ h.were, h.long))
-    (same_list_lem (λ o. o) obligation same_obligation obligation_bits 3 n us refl)
-
-abbrev TookF : ℕ → List ℕ → List ℕ → List ℕ → Type 0
-TookF n us fs vs = (pack entry_bits fs ++ vs ≡ us) × (length fs ≡ n)
-
-same_facts : (n : ℕ) (us : List ℕ) → Holds (TookF n us) (read_list listed entry_bits n us)
-same_facts n us =
-    weaker (read_list listed entry_bits n us) (λ fs vs h. (ap (λ l. pack entry_bits l ++ vs) (sym (map-id fs)) ∙ h.were, h.long))
-    (same_list_lem (λ f. f) listed same_listed entry_bits 1 n us refl)
-
-abbrev TookE : ℕ → List ℕ → Consulted → List ℕ → Type 0
-TookE n us es vs = (pack entry_bits (map entry_field es) ++ vs ≡ us) × (length es ≡ n)
-
-same_entries : (n : ℕ) (us : List ℕ) → Holds (TookE n us) (read_list consulted entry_bits n us)
-same_entries n us =
-    weaker (read_list consulted entry_bits n us) (λ es vs h. (h.were, h.long)) (same_list_lem entry_field consulted same_consulted entry_bits 1 n us refl)
-
 -- ---- labels and reasons
 same_mark_at : (h : ℕ) (b : Bool) → ltb h 32768 ≡ b → Holds (λ l _. marked l ≡ h) (cond b (unless (eqb h 0) 8 (got none [])) (unless (ltb h 65536) 8 (got (some (h - 32768)) [])))
 same_mark_at h true e = if_holds (eqb h 0) 8 (got none []) (λ z. fine (sym (eqb-true h 0 z)))
@@ -90,11 +66,6 @@ same_mark_at h false e = if_holds (ltb h 65536) 8 (got (some (h - 32768)) []) (�
 
 same_mark : (h : ℕ) → Holds (λ l _. marked l ≡ h) (mark h)
 same_mark h = same_mark_at h (ltb h 32768) refl
-
-shape_same : (n : ℕ) → n ≤ 1 → shape_bit (shape_of n) ≡ n
-shape_same zero h = refl
-shape_same (suc zero) h = refl
-shape_same (suc (suc n)) h = let z : ⊥ = omega arith in absurd z
 
 -- the fields of a grant's, a 12 node's and a 13 node's first word
 parts_of : (r : ℕ) → r / 134217728 * 134217728 + r / 1048576 % 128 * 1048576 + r / 65536 % 16 * 65536 + r % 65536 ≡ r
@@ -111,14 +82,6 @@ parts_of_13 r =
 
 -- ---- policies
 module _ {O : Type 0} (number : O → ℕ) (value : ℕ → Option O) (only : (v : ℕ) → IfThere (λ o. number o ≡ v) (value v)) where
-  same_outcome : {B : Type 0} {R : B → List ℕ → Type 0} (v : ℕ) (x : Option O) (k : O → Parsed B) → IfThere (λ o. number o ≡ v) x → ((o : O) → number o ≡ v → Holds R (k o)) → Holds R (outcome_of value x k)
-  same_outcome v none k g f = nothing
-  same_outcome v (some o) k g f = f o g
-
-  another_is : {B : Type 0} {R : B → List ℕ → Type 0} (ws : List ℕ) (k : ℕ → List ℕ → Parsed B) → ((w : ℕ) (vs : List ℕ) → ws ≡ w ∷ vs → Holds R (k w vs)) → Holds R (another ws k)
-  another_is [] k f = nothing
-  another_is (w ∷ ws) k f = f w ws refl
-
   abbrev SameT : List ℕ → Policy O → List ℕ → Type 0
   SameT us t vs = encode number t ++ vs ≡ us
 
@@ -131,22 +94,22 @@ module _ {O : Type 0} (number : O → ℕ) (value : ℕ → Option O) (only : (v
       let n = r / 1048576 % 128 in
       let z = r / 65536 % 16 in
       let v = r % 65536 in
-      let sb = shape_same sh (omega arith) in
+      let sb = shape_again sh (omega arith) in
       let pr = parts_of r in
       if_holds (leb n most_obligations) 8 (unless (eqb z 0) 8 (outcome_of value (value v) (λ o. another us (λ w vs. grant_more value p sh n o (w / 65536) (w % 65536) vs)))) (λ _.
       if_holds (eqb z 0) 8 (outcome_of value (value v) (λ o. another us (λ w vs. grant_more value p sh n o (w / 65536) (w % 65536) vs))) (λ ez.
-      same_outcome v (value v) (λ o. another us (λ w vs. grant_more value p sh n o (w / 65536) (w % 65536) vs)) (only v) (λ o eo.
-      another_is us (λ w vs. grant_more value p sh n o (w / 65536) (w % 65536) vs) (λ w vs ew.
+      outcome_holds value (λ o. number o ≡ v) (value v) (λ o. another us (λ w vs. grant_more value p sh n o (w / 65536) (w % 65536) vs)) (only v) (λ o eo.
+      another_holds us (λ w vs. grant_more value p sh n o (w / 65536) (w % 65536) vs) (λ w vs ew.
       then_holds (mark (w / 65536)) (λ l _. next (mark (w % 65536)) (λ m _. next (read_list obligation obligation_bits n vs) (λ os ts. next (p ts) (λ c ss. got (grant (record { outcome = o; obligations = os; label = l; reason = m; shape = shape_of sh }) c) ss)))) (same_mark (w / 65536)) (λ l _ el.
       then_holds (mark (w % 65536)) (λ m _. next (read_list obligation obligation_bits n vs) (λ os ts. next (p ts) (λ c ss. got (grant (record { outcome = o; obligations = os; label = l; reason = m; shape = shape_of sh }) c) ss))) (same_mark (w % 65536)) (λ m _ em.
-      then_holds (read_list obligation obligation_bits n vs) (λ os ts. next (p ts) (λ c ss. got (grant (record { outcome = o; obligations = os; label = l; reason = m; shape = shape_of sh }) c) ss)) (same_obligations n vs) (λ os ts eos.
+      then_holds (read_list obligation obligation_bits n vs) (λ os ts. next (p ts) (λ c ss. got (grant (record { outcome = o; obligations = os; label = l; reason = m; shape = shape_of sh }) c) ss)) (read_obligations n vs) (λ os ts eos.
       then_holds (p ts) (λ c ss. got (grant (record { outcome = o; obligations = os; label = l; reason = m; shape = shape_of sh }) c) ss) (hp ts) (λ c ss ec.
       let z0 : z ≡ 0 = eqb-true z 0 ez in
-      let ln : length os ≡ n = eos.1 in
+      let ln : length os ≡ n = eos.long in
       let head : shape_bit (shape_of sh) * 134217728 + length os * 1048576 + number o ≡ r = omega arith in
       let second : marked l * 65536 + marked m ≡ w = omega arith in
       fine (ap₂ (λ x y. word 8 x ∷ y) head
-      (ap₂ (λ x y. x ∷ y) second (append_assoc (pack obligation_bits os) (encode_c c) ss ∙ ap (λ y. pack obligation_bits os ++ y) ec ∙ eos.0) ∙ sym ew))))))))))
+      (ap₂ (λ x y. x ∷ y) second (append_assoc (pack obligation_bits os) (encode_c c) ss ∙ ap (λ y. pack obligation_bits os ++ y) ec ∙ eos.were) ∙ sym ew))))))))))
 
   same_12 : (r : ℕ) → r < 268435456 → (us : List ℕ) → Holds (SameD (word 12 r ∷ us)) (at12 value r us)
   same_12 r hr us =
@@ -157,26 +120,26 @@ module _ {O : Type 0} (number : O → ℕ) (value : ℕ → Option O) (only : (v
       let pr = parts_of r in
       if_holds (eqb sh 0) 8 (unless (eqb z 0) 8 (outcome_of value (value v) (λ o. another us (λ w vs. more12 value n o (w / 65536) (w % 65536) vs)))) (λ es.
       if_holds (eqb z 0) 8 (outcome_of value (value v) (λ o. another us (λ w vs. more12 value n o (w / 65536) (w % 65536) vs))) (λ ez.
-      same_outcome v (value v) (λ o. another us (λ w vs. more12 value n o (w / 65536) (w % 65536) vs)) (only v) (λ o eo.
-      another_is us (λ w vs. more12 value n o (w / 65536) (w % 65536) vs) (λ w vs ew.
+      outcome_holds value (λ o. number o ≡ v) (value v) (λ o. another us (λ w vs. more12 value n o (w / 65536) (w % 65536) vs)) (only v) (λ o eo.
+      another_holds us (λ w vs. more12 value n o (w / 65536) (w % 65536) vs) (λ w vs ew.
       let m = w % 65536 in
       then_holds (mark (w / 65536)) (λ l _. unless (ltb m 4096) 8 (next (read_list obligation obligation_bits n vs) (λ os ts. next (read_list listed entry_bits m ts) (λ fs ss. got (permits (record { outcome = o; obligations = os; label = l; facts = fs })) ss)))) (same_mark (w / 65536)) (λ l _ el.
       if_holds (ltb m 4096) 8 (next (read_list obligation obligation_bits n vs) (λ os ts. next (read_list listed entry_bits m ts) (λ fs ss. got (permits (record { outcome = o; obligations = os; label = l; facts = fs })) ss))) (λ _.
-      then_holds (read_list obligation obligation_bits n vs) (λ os ts. next (read_list listed entry_bits m ts) (λ fs ss. got (permits (record { outcome = o; obligations = os; label = l; facts = fs })) ss)) (same_obligations n vs) (λ os ts eos.
-      then_holds (read_list listed entry_bits m ts) (λ fs ss. got (permits (record { outcome = o; obligations = os; label = l; facts = fs })) ss) (same_facts m ts) (λ fs ss efs.
+      then_holds (read_list obligation obligation_bits n vs) (λ os ts. next (read_list listed entry_bits m ts) (λ fs ss. got (permits (record { outcome = o; obligations = os; label = l; facts = fs })) ss)) (read_obligations n vs) (λ os ts eos.
+      then_holds (read_list listed entry_bits m ts) (λ fs ss. got (permits (record { outcome = o; obligations = os; label = l; facts = fs })) ss) (read_facts m ts) (λ fs ss efs.
       let s0 : sh ≡ 0 = eqb-true sh 0 es in
       let z0 : z ≡ 0 = eqb-true z 0 ez in
-      let ln : length os ≡ n = eos.1 in
-      let lf : length fs ≡ m = efs.1 in
+      let ln : length os ≡ n = eos.long in
+      let lf : length fs ≡ m = efs.long in
       let head : length os * 1048576 + number o ≡ r = omega arith in
       let second : marked l * 65536 + length fs ≡ w = omega arith in
       fine (ap₂ (λ x y. word 12 x ∷ y) head
-      (ap₂ (λ x y. x ∷ y) second (append_assoc (pack obligation_bits os) (pack entry_bits fs) ss ∙ ap (λ y. pack obligation_bits os ++ y) efs.0 ∙ eos.0) ∙ sym ew))))))))))
+      (ap₂ (λ x y. x ∷ y) second (append_assoc (pack obligation_bits os) (pack entry_bits fs) ss ∙ ap (λ y. pack obligation_bits os ++ y) efs.were ∙ eos.were) ∙ sym ew))))))))))
 
   -- a denied outcome of which the present bit is h
   same_denied : {B : Type 0} {R : B → List ℕ → Type 0} (h v : ℕ) (k : Option O → Parsed B) → h ≤ 1 → ((x : Option O) → denied_field number x ≡ h * 67108864 + v → Holds R (k x)) → Holds R (denied_of value h v k)
   same_denied zero v k l f = if_holds (eqb v 0) 8 (k none) (λ e. f none (let z : v ≡ 0 = eqb-true v 0 e in omega arith))
-  same_denied (suc zero) v k l f = same_outcome v (value v) (λ o. k (some o)) (only v) (λ o e. f (some o) (omega arith))
+  same_denied (suc zero) v k l f = outcome_holds value (λ o. number o ≡ v) (value v) (λ o. k (some o)) (only v) (λ o e. f (some o) (omega arith))
   same_denied (suc (suc h)) v k l f = let z : ⊥ = omega arith in absurd z
 
   same_13 : (r : ℕ) → r < 268435456 → (us : List ℕ) → Holds (SameD (word 13 r ∷ us)) (at13 value r us)
@@ -185,21 +148,21 @@ module _ {O : Type 0} (number : O → ℕ) (value : ℕ → Option O) (only : (v
       let h = r / 67108864 % 2 in
       let z = r / 65536 % 1024 in
       let v = r % 65536 in
-      let sb = shape_same sh (omega arith) in
+      let sb = shape_again sh (omega arith) in
       let pr = parts_of_13 r in
       if_holds (eqb z 0) 8 (denied_of value h v (λ den. another us (λ w vs. more13 value sh den (w / 65536) (w % 65536) vs))) (λ ez.
       same_denied h v (λ den. another us (λ w vs. more13 value sh den (w / 65536) (w % 65536) vs)) (omega arith) (λ den ed.
-      another_is us (λ w vs. more13 value sh den (w / 65536) (w % 65536) vs) (λ w vs ew.
+      another_holds us (λ w vs. more13 value sh den (w / 65536) (w % 65536) vs) (λ w vs ew.
       then_holds (mark (w / 65536)) (λ l _. next (mark (w % 65536)) (λ m _. another vs (λ n ts. unless (ltb n 4096) 8 (next (read_list listed entry_bits n ts) (λ fs ss. got (denies (record { denied = den; facts = fs; label = l; reason = m; shape = shape_of sh })) ss))))) (same_mark (w / 65536)) (λ l _ el.
       then_holds (mark (w % 65536)) (λ m _. another vs (λ n ts. unless (ltb n 4096) 8 (next (read_list listed entry_bits n ts) (λ fs ss. got (denies (record { denied = den; facts = fs; label = l; reason = m; shape = shape_of sh })) ss)))) (same_mark (w % 65536)) (λ m _ em.
-      another_is vs (λ n ts. unless (ltb n 4096) 8 (next (read_list listed entry_bits n ts) (λ fs ss. got (denies (record { denied = den; facts = fs; label = l; reason = m; shape = shape_of sh })) ss))) (λ n ts en.
+      another_holds vs (λ n ts. unless (ltb n 4096) 8 (next (read_list listed entry_bits n ts) (λ fs ss. got (denies (record { denied = den; facts = fs; label = l; reason = m; shape = shape_of sh })) ss))) (λ n ts en.
       if_holds (ltb n 4096) 8 (next (read_list listed entry_bits n ts) (λ fs ss. got (denies (record { denied = den; facts = fs; label = l; reason = m; shape = shape_of sh })) ss)) (λ _.
-      then_holds (read_list listed entry_bits n ts) (λ fs ss. got (denies (record { denied = den; facts = fs; label = l; reason = m; shape = shape_of sh })) ss) (same_facts n ts) (λ fs ss efs.
+      then_holds (read_list listed entry_bits n ts) (λ fs ss. got (denies (record { denied = den; facts = fs; label = l; reason = m; shape = shape_of sh })) ss) (read_facts n ts) (λ fs ss efs.
       let z0 : z ≡ 0 = eqb-true z 0 ez in
       let head : shape_bit (shape_of sh) * 134217728 + denied_field number den ≡ r = omega arith in
       let second : marked l * 65536 + marked m ≡ w = omega arith in
       fine (ap₂ (λ x y. word 13 x ∷ y) head
-      (ap₂ (λ x y. x ∷ y) second (ap₂ (λ x y. x ∷ y) efs.1 efs.0 ∙ sym en) ∙ sym ew))))))))))
+      (ap₂ (λ x y. x ∷ y) second (ap₂ (λ x y. x ∷ y) efs.long efs.were ∙ sym en) ∙ sym ew))))))))))
 
   abbrev SameTs : ℕ → List ℕ → Policies O → List ℕ → Type 0
   SameTs n us ts vs = (encodes number ts ++ vs ≡ us) × (count ts ≡ n)
@@ -219,7 +182,7 @@ module _ {O : Type 0} (number : O → ℕ) (value : ℕ → Option O) (only : (v
     same_node_p : (pc : List ℕ → Parsed Condition) → ((us : List ℕ) → Holds (SameC us) (pc us)) → (k r : ℕ) → r < 268435456 → (us : List ℕ) → Holds (SameT (word (6 + k) r ∷ us)) (node_p value res pc p k r us)
     same_node_p pc hc zero r hr us =
         if_holds (eqb (r / 65536) 0) 8 (outcome_of value (value (r % 65536)) (λ o. got (permit o) us)) (λ e.
-        same_outcome (r % 65536) (value (r % 65536)) (λ o. got (permit o) us) (only (r % 65536)) (λ o eo.
+        outcome_holds value (λ o. number o ≡ r % 65536) (value (r % 65536)) (λ o. got (permit o) us) (only (r % 65536)) (λ o eo.
         let z : r / 65536 ≡ 0 = eqb-true (r / 65536) 0 e in
         let k : number o ≡ r = omega arith in
         fine (ap (λ x. word 6 x ∷ us) k)))
@@ -264,7 +227,7 @@ module _ {O : Type 0} (number : O → ℕ) (value : ℕ → Option O) (only : (v
 
   same_14 : (us : List ℕ) → Holds (SameB 14 us) (parse14 value us)
   same_14 us =
-      another_is us (λ w vs. unless (leb 12 (w / 268435456)) 5 (node14 value (w / 268435456 - 12) (w % 268435456) vs)) (λ w vs ew.
+      another_holds us (λ w vs. unless (leb 12 (w / 268435456)) 5 (node14 value (w / 268435456 - 12) (w % 268435456) vs)) (λ w vs ew.
       let k = w / 268435456 in
       let r = w % 268435456 in
       if_holds (leb 12 k) 5 (node14 value (k - 12) r vs) (λ e.
@@ -277,12 +240,12 @@ module _ {O : Type 0} (number : O → ℕ) (value : ℕ → Option O) (only : (v
 
   same_rest : (k : ℕ) (p : List ℕ → Parsed (ReducedPolicy O)) → ((us : List ℕ) → Holds (SameB k us) (p us)) → (r : ℕ) (us : List ℕ) → Holds (SameR number (r / 4096) (word k r ∷ us)) (rest value p r us)
   same_rest k p hp r us =
-      then_holds (read_list consulted entry_bits (r % 4096) us) (λ es vs. next (p vs) (λ b ts. got (record { body = b; log = es }) ts)) (same_entries (r % 4096) us) (λ es vs h.
+      then_holds (read_list consulted entry_bits (r % 4096) us) (λ es vs. next (p vs) (λ b ts. got (record { body = b; log = es }) ts)) (read_entries (r % 4096) us) (λ es vs h.
       then_holds (p vs) (λ b ts. got (record { body = b; log = es }) ts) (hp vs) (λ b ts g.
-      let few : length es < 4096 = omega (arith, h.1) in
+      let few : length es < 4096 = omega (arith, h.long) in
       let k₁ : (lead_kind number b * 268435456 + length es) / 268435456 ≡ lead_kind number b = omega arith in
-      let c₁ : r / 4096 * 4096 + (lead_kind number b * 268435456 + length es) % 4096 ≡ r = omega (arith, h.1) in
-      fine ((λ i. word ((k₁ ∙ g.1) i) (c₁ i) ∷ ((pack entry_bits (map entry_field es) ++ encode number (as_residual b)) ++ ts)) ∙ ap (λ y. word k r ∷ y) (append_assoc (pack entry_bits (map entry_field es)) (encode number (as_residual b)) ts ∙ ap (λ y. pack entry_bits (map entry_field es) ++ y) g.0 ∙ h.0))))
+      let c₁ : r / 4096 * 4096 + (lead_kind number b * 268435456 + length es) % 4096 ≡ r = omega (arith, h.long) in
+      fine ((λ i. word ((k₁ ∙ g.1) i) (c₁ i) ∷ ((pack entry_bits (map entry_field es) ++ encode number (as_residual b)) ++ ts)) ∙ ap (λ y. word k r ∷ y) (append_assoc (pack entry_bits (map entry_field es)) (encode number (as_residual b)) ts ∙ ap (λ y. pack entry_bits (map entry_field es) ++ y) g.0 ∙ h.were))))
 
   same_leads : (k r : ℕ) (us : List ℕ) → Holds (SameR number (r / 4096) (word (14 + k) r ∷ us)) (leads value k r us)
   same_leads zero r us = same_rest 14 (parse14 value) same_14 r us
@@ -291,7 +254,7 @@ module _ {O : Type 0} (number : O → ℕ) (value : ℕ → Option O) (only : (v
 
   same_lead : (us : List ℕ) → Holds (SameR number (sheet_number us) us) (read_lead value us)
   same_lead us =
-      another_is us (λ w vs. unless (leb 14 (w / 268435456)) 5 (leads value (w / 268435456 - 14) (w % 268435456) vs)) (λ w vs ew.
+      another_holds us (λ w vs. unless (leb 14 (w / 268435456)) 5 (leads value (w / 268435456 - 14) (w % 268435456) vs)) (λ w vs ew.
       let k = w / 268435456 in
       let r = w % 268435456 in
       if_holds (leb 14 k) 5 (leads value (k - 14) r vs) (λ e.

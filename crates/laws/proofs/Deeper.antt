@@ -4,9 +4,9 @@ use Rattle.std.proofs.Common.{◌∙◌, ap, arith}
 use Rattle.std.proofs.Math.Option.{Option, none, some}
 use Rattle.model.specs.Fields.{bits}
 use Rattle.model.specs.Outcome.{outcome_bits}
-use Rattle.model.specs.Condition.{Condition, not_c, all_c, any_c, Conditions, cnil, ccons}
+use Rattle.model.specs.Condition.{Condition, not_c, all_c, any_c, cnil, ccons}
 use Rattle.model.specs.Decision.{Decision}
-use Rattle.model.specs.Policy.{Policy, deny, grant, all, any, or_else, Policies, pnil, pcons}
+use Rattle.model.specs.Policy.{Policy, deny, grant, all, any, or_else, pnil, pcons}
 use Rattle.model.specs.Writing.{count_bits, mark_bits, obligation_bits}
 use Rattle.model.specs.Reading.{Parsed, refuse, got, next, unless, another, read_list, obligation, few_obligations, kind_of, rest_of, plain, counted, many, node_c, read_condition, mark, shape_of, outcome_of, grant_more, grant_at, at12, at13, as_stored, in_residual, permit_at, node_p, last_kind, read_policy}
 
@@ -57,13 +57,14 @@ module _ {A B : Type 0} where
         follows_next' (refuse n) y a h = refused
         follows_next' (got b us) y a h = record { it = ap (λ z. next z (λ xs vs. got (cons a xs) vs)) h.it }
 
+pub follows_list : {A B C : Type 0} (nil : B) (cons : A → B → B) (p q : List ℕ → Parsed A) → ((ws : List ℕ) → Follows (p ws) (q ws)) → (make : B → C) (r : ℕ) (ws : List ℕ) →
+    Follows (counted r (next (many nil cons p r ws) (λ xs vs. got (make xs) vs))) (counted r (next (many nil cons q r ws) (λ xs vs. got (make xs) vs)))
+follows_list nil cons p q f make r ws =
+    follows_unless (ltb r (2 ^ count_bits)) 8 _ _
+    (follows_next (many nil cons p r ws) (many nil cons q r ws) (λ xs vs. got (make xs) vs) (λ xs vs. got (make xs) vs) (follows_many nil cons p q f r ws) (λ xs vs. equal (got (make xs) vs)))
+
 -- ---- conditions
 module _ (p q : List ℕ → Parsed Condition) (f : (ws : List ℕ) → Follows (p ws) (q ws)) where
-  list_c : (make : Conditions → Condition) (r : ℕ) (ws : List ℕ) → Follows (counted r (next (many cnil ccons p r ws) (λ cs vs. got (make cs) vs))) (counted r (next (many cnil ccons q r ws) (λ cs vs. got (make cs) vs)))
-  list_c make r ws =
-      follows_unless (ltb r (2 ^ count_bits)) 8 (next (many cnil ccons p r ws) (λ cs vs. got (make cs) vs)) (next (many cnil ccons q r ws) (λ cs vs. got (make cs) vs))
-      (follows_next (many cnil ccons p r ws) (many cnil ccons q r ws) (λ cs vs. got (make cs) vs) (λ cs vs. got (make cs) vs) (follows_many cnil ccons p q f r ws) (λ cs vs. equal (got (make cs) vs)))
-
   node_c_lem : (k r : ℕ) (ws : List ℕ) → Follows (node_c p k r ws) (node_c q k r ws)
   node_c_lem zero r ws = equal (node_c p 0 r ws)
   node_c_lem (suc zero) r ws = equal (node_c p 1 r ws)
@@ -71,8 +72,8 @@ module _ (p q : List ℕ → Parsed Condition) (f : (ws : List ℕ) → Follows 
   node_c_lem (suc (suc (suc zero))) r ws =
       follows_unless (eqb r 0) 8 (next (p ws) (λ c vs. got (not_c c) vs)) (next (q ws) (λ c vs. got (not_c c) vs))
       (follows_next (p ws) (q ws) (λ c vs. got (not_c c) vs) (λ c vs. got (not_c c) vs) (f ws) (λ c vs. equal (got (not_c c) vs)))
-  node_c_lem (suc (suc (suc (suc zero)))) r ws = list_c all_c r ws
-  node_c_lem (suc (suc (suc (suc (suc zero))))) r ws = list_c any_c r ws
+  node_c_lem (suc (suc (suc (suc zero)))) r ws = follows_list cnil ccons p q f all_c r ws
+  node_c_lem (suc (suc (suc (suc (suc zero))))) r ws = follows_list cnil ccons p q f any_c r ws
   node_c_lem (suc (suc (suc (suc (suc (suc k)))))) r ws = refused
 
 pub deeper_c : (d e : ℕ) (ws : List ℕ) → d ≤ e → Follows (read_condition d ws) (read_condition e ws)
@@ -107,11 +108,6 @@ module _ {O : Type 0} (value : ℕ → Option O) where
         follows_unless (few_obligations n) 8 _ _ (follows_unless (eqb (bits outcome_bits 4 r) 0) 8 _ _
         (outcome_follows (value (r % 2 ^ outcome_bits)) _ _ (λ o. another_follows ws _ _ (λ w vs. grant_more_lem sh n o (w / 2 ^ (1 + mark_bits)) (w % 2 ^ (1 + mark_bits)) vs))))
 
-    list_p : (make : Policies O → Policy O) (r : ℕ) (ws : List ℕ) → Follows (counted r (next (many pnil pcons p r ws) (λ ts vs. got (make ts) vs))) (counted r (next (many pnil pcons q r ws) (λ ts vs. got (make ts) vs)))
-    list_p make r ws =
-        follows_unless (ltb r (2 ^ count_bits)) 8 (next (many pnil pcons p r ws) (λ ts vs. got (make ts) vs)) (next (many pnil pcons q r ws) (λ ts vs. got (make ts) vs))
-        (follows_next (many pnil pcons p r ws) (many pnil pcons q r ws) (λ ts vs. got (make ts) vs) (λ ts vs. got (make ts) vs) (follows_many pnil pcons p q f r ws) (λ ts vs. equal (got (make ts) vs)))
-
     stored_p : (res : Bool) (x : Parsed (Decision O)) → Follows (in_residual value res (as_stored value x)) (as_stored value x)
     stored_p true x = equal (as_stored value x)
     stored_p false x = refused
@@ -120,8 +116,8 @@ module _ {O : Type 0} (value : ℕ → Option O) where
     node_p_lem res zero r ws = equal (permit_at value r ws)
     node_p_lem res (suc zero) r ws = equal (plain r (got deny ws))
     node_p_lem res (suc (suc zero)) r ws = grant_at_lem r ws
-    node_p_lem res (suc (suc (suc zero))) r ws = list_p all r ws
-    node_p_lem res (suc (suc (suc (suc zero)))) r ws = list_p any r ws
+    node_p_lem res (suc (suc (suc zero))) r ws = follows_list pnil pcons p q f all r ws
+    node_p_lem res (suc (suc (suc (suc zero)))) r ws = follows_list pnil pcons p q f any r ws
     node_p_lem res (suc (suc (suc (suc (suc zero))))) r ws =
         follows_unless (eqb r 0) 8 _ _ (follows_next (p ws) (q ws) _ _ (f ws) (λ a vs. follows_next (p vs) (q vs) _ _ (f vs) (λ b us. equal (got (or_else a b) us))))
     node_p_lem res (suc (suc (suc (suc (suc (suc zero)))))) r ws = stored_p res (at12 value r ws)

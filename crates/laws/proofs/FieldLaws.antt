@@ -1,6 +1,6 @@
 -- Lists of fields of any width: a list is read back from its words.
 use Rattle.std.specs.Prelude.{◌≡◌, refl, Bool, true, false, cond, List, [], ◌∷◌, ◌++◌, map, ℕ, zero, suc, ◌+◌, ◌-◌, ◌≤◌, min, eqb, length, take, drop}
-use Rattle.std.proofs.Common.{sym, ◌∙◌, ap, ap₂, subst, append_assoc, append-nil, arith, eqb-true, length-append, length-drop, take-append-drop, drop_of_length-le}
+use Rattle.std.proofs.Common.{sym, ◌∙◌, ap, ap₂, subst, append_assoc, append-nil, arith, eqb-true, length-append, length-drop, take-append-drop, drop_of_length-le, drop_at}
 use Rattle.std.proofs.lemmas.List.{map-append, length-map}
 use Rattle.std.proofs.Math.Seq.{take-nil, drop-nil, drop-append_seam}
 use Rattle.model.specs.Fields.{split, joined, packed, words_for, per_word, pack}
@@ -98,6 +98,18 @@ module _ {A B : Type 0} {Q : A → List ℕ → Type 0} {R : B → List ℕ → 
 pub both_hold : {A : Type 0} {Q R : A → List ℕ → Type 0} (p : Parsed A) → Holds Q p → Holds R p → Holds (λ a ws. Q a ws × R a ws) p
 both_hold (refuse n) h k = nothing
 both_hold (got a ws) h k = fine (h.it, k.it)
+
+-- What was read is what it was read as; and anything at all.
+pub itself : {A : Type 0} (q : Parsed A) → Holds (λ a ws. q ≡ got a ws) q
+itself (refuse n) = nothing
+itself (got a ws) = fine refl
+
+pub anything : {A : Type 0} (q : Parsed A) → Holds (λ _ _. Unit {0}) q
+anything (refuse n) = nothing
+anything (got a ws) = fine tt
+
+pub held_at : {A : Type 0} {Q : A → List ℕ → Type 0} {q : Parsed A} {a : A} {ws : List ℕ} → Holds Q q → q ≡ got a ws → Q a ws
+held_at {Q = Q} h e = (subst (Holds Q) e h).it
 
 -- What is refused stays so.
 module _ {A : Type 0} (chk : List A → ℕ → Parsed A) where
@@ -245,11 +257,12 @@ module _ {A : Type 0} (e : A → ℕ) (chk : List A → ℕ → Parsed A) (same 
     same_words_lem (w ∷ us) s (suc k) =
         same_rest us w s k (take_fields chk (ok s (suc k)) (split width (suc n) w)) (took (split width (suc n) w) s (suc k)) (λ xs m. same_words_lem us xs m)
 
-  -- A list of k fields that was read: its length, the words that it took, and that they are its own.
+  -- A list of k fields that was read: its length, the words that it took, that they are its own, and what it left.
   pub record ReadList (width k : ℕ) (us : List ℕ) (xs : List A) (vs : List ℕ) : Type 0 where
     pub long : length xs ≡ k
     pub were : pack width (map e xs) ++ vs ≡ us
     pub took_words : words_for (per_word width) k + length vs ≡ length us
+    pub left : drop (words_for (per_word width) k) us ≡ vs
 
   pub same_list_lem : (width n k : ℕ) (us : List ℕ) → per_word width ≡ suc n → Holds (ReadList width k us) (read_list chk width k us)
   same_list_lem width n k us h =
@@ -262,7 +275,9 @@ module _ {A : Type 0} (e : A → ℕ) (chk : List A → ℕ → Parsed A) (same 
       ∙ ap (λ x. x + length vs) (sym (length_packed width (suc n) (words_for (suc n) k) (map e r.new)))
       ∙ sym (length-append (packed width (suc n) (words_for (suc n) k) (map e r.new)) vs)
       ∙ ap length r.were in
-      record { long = e₁; were = e₂; took_words = e₃ })
+      let e₄ : length (pack width (map e xs)) ≡ words_for (per_word width) k =
+      length_packed width (per_word width) (words_for (per_word width) (length (map e xs))) (map e xs) ∙ ap (words_for (per_word width)) (length-map xs e ∙ e₁) in
+      record { long = e₁; were = e₂; took_words = e₃; left = ap (drop (words_for (per_word width) k)) (sym e₂) ∙ drop_at (pack width (map e xs)) vs (words_for (per_word width) k) e₄ })
       (same_words_lem width n us [] k))
 
 -- What holds of the fields so far and is kept by each check holds of the list that was read.

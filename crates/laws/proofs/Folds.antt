@@ -10,7 +10,8 @@ use Rattle.model.specs.Outcome.{Outcomes, outcome_bits, all_products, product_se
 use Rattle.model.specs.Decision.{Permit, Denial, Decision, permits, denies, combined, products, union_obligations, meet_permit, join_permit}
 use Rattle.model.specs.Policy.{all, any, Policies}
 use Rattle.model.specs.Evaluate.{first_deny, all_from, any_from, eval_policy, eval_policies}
-use Rattle.laws.specs.Products.{Lawful, lawful_products, InRange, written_products}
+use Rattle.laws.specs.Products.{Lawful, InRange}
+use Rattle.laws.proofs.ProductLaws.{lawful_products, written_products}
 
 -- A choice has a value that both branches have, where the first has it if the test is true.
 pick_value : {A B : Type 0} (f : A → B) (v : B) (b : Bool) (x y : A) → (b ≡ true → f x ≡ v) → f y ≡ v → f (cond b x y) ≡ v

@@ -4,7 +4,7 @@ use Rattle.std.proofs.Common.{arith}
 use Rattle.model.specs.Decision.{permits, denies}
 use Rattle.model.specs.Policy.{Policy, permit, deny, grant, all, any, or_else, stored, Policies, pnil, pcons}
 use Rattle.model.specs.Reading.{obligation_count}
-use Rattle.laws.specs.Lists.{most_repeated}
+use Rattle.laws.proofs.ListLaws.{most_repeated}
 use Rattle.laws.specs.Form.{FormO, Countable, FewRepeats, FormOf, FormsOf, Few, Form, Forms}
 
 -- Fewer than 64 stand again, and at most 64 others.

@@ -3,14 +3,11 @@ use Rattle.std.specs.Prelude.{◌≡◌, refl, ◌⊎◌, Bool, true, false, con
 use Rattle.std.proofs.Common.{sym, ◌∙◌, ap, ap₂, subst, inl, inr, arith, length-append, ltb-true, ltb-false, eqb-true, eq-eqb}
 use Rattle.std.proofs.Math.Bool.{and-false}
 use Rattle.std.proofs.Math.Option.{Option, none, some}
-use Rattle.std.proofs.lemmas.Bool.{eqb-false}
+use Rattle.std.proofs.lemmas.Bool.{eqb-false, true≢false}
 use Rattle.model.specs.Writing.{sheet_bits}
 use Rattle.model.specs.Register.{Entry, entry_of, entries_of, register_words, same_sheet, is_among, faultless, is_register, qualifies, supersedes, later, in_force_from, in_force, refusal, sheet, sheet_of, sheet_in_force}
-use Rattle.laws.specs.Lists.{eqb_sym}
+use Rattle.laws.proofs.ListLaws.{eqb_sym}
 use Rattle.laws.specs.InForce.{IsIn, NoLater, NoneOf, Found, SameEntries, Told}
-
-apart : true ≡ false → ⊥
-apart z = let n : ◌≡◌ {A = ℕ} 0 1 = cc in omega arith
 
 -- ---- the order: of two entries one supersedes, or doesn't and comes no later
 by_order :
@@ -76,7 +73,7 @@ module _ (group day : ℕ) where
   more es fs none to back h = record { none_qualifies = λ e i. by_test e (qualifies group day e) refl (λ q. never e (back e i q)) }
     where
       never : (e : Entry) → NotAfter es e → ⊥
-      never e n = apart (sym n.qualified ∙ h.none_qualifies n.it n.listed)
+      never e n = true≢false (sym n.qualified ∙ h.none_qualifies n.it n.listed)
   more es fs (some b) to back h =
       record {
         listed = to b h.listed;
@@ -97,7 +94,7 @@ module _ (group day : ℕ) where
   passed e es r q h = more es (e ∷ es) r (λ x i. inr i) back h
     where
       back : (x : Entry) → IsIn x (e ∷ es) → qualifies group day x ≡ true → NotAfter es x
-      back x (inl k) y = absurd (apart (sym y ∙ ap (qualifies group day) k ∙ q))
+      back x (inl k) y = absurd (true≢false (sym y ∙ ap (qualifies group day) k ∙ q))
       back x (inr i) y = self es x i y
 
   -- Of two that qualify the one that comes no later may go.
@@ -150,7 +147,7 @@ module _ (group day : ℕ) where
     where
       by : (r : Option Entry) → Found group day es r → r ≡ none
       by none f = refl
-      by (some b) f = absurd (apart (sym f.qualified ∙ h.none_qualifies b f.listed))
+      by (some b) f = absurd (true≢false (sym f.qualified ∙ h.none_qualifies b f.listed))
 
   pub only_if : (es : List Entry) → in_force group day es ≡ none → NoneOf group day es
   only_if es e = subst (Found group day es) e (in_force_lem es)
@@ -158,8 +155,8 @@ module _ (group day : ℕ) where
   -- ---- the order of the entries never matters
   one_sheet : (es : List Entry) (r s : Option Entry) → Found group day es r → Found group day es s → sheet_of r ≡ sheet_of s
   one_sheet es none none f g = refl
-  one_sheet es none (some b) f g = absurd (apart (sym g.qualified ∙ f.none_qualifies b g.listed))
-  one_sheet es (some a) none f g = absurd (apart (sym f.qualified ∙ g.none_qualifies a f.listed))
+  one_sheet es none (some b) f g = absurd (true≢false (sym g.qualified ∙ f.none_qualifies b g.listed))
+  one_sheet es (some a) none f g = absurd (true≢false (sym f.qualified ∙ g.none_qualifies a f.listed))
   one_sheet es (some a) (some b) f g =
       ap sheet (same_number a b (g.latest a f.listed f.qualified) (f.latest b g.listed g.qualified))
 

@@ -6,7 +6,8 @@ use Rattle.std.proofs.Math.Bool.{or-true}
 use Rattle.std.proofs.Math.Option.{none}
 use Rattle.model.specs.Facts.{Presence, absent, present, partial_facts, table_fields, first_fault, presence}
 use Rattle.model.specs.Join.{join_field, join_fields, clashes, joined_bytes}
-use Rattle.laws.specs.Lists.{Below, eqb_self, eqb_sym}
+use Rattle.laws.specs.Lists.{Below}
+use Rattle.laws.proofs.ListLaws.{eqb_self, eqb_sym}
 use Rattle.laws.specs.FieldAt.{Narrow}
 use Rattle.laws.proofs.UnpackedLaws.{fields_packed, length_fields}
 

@@ -1,5 +1,5 @@
 -- The words that a tree or a record takes are as many as `words` and `words_r` say.
-use Rattle.std.specs.Prelude.{◌≡◌, refl, List, [], ◌∷◌, map, ℕ, length}
+use Rattle.std.specs.Prelude.{◌≡◌, refl, List, [], ◌∷◌, map, ℕ, ◌≤◌, length}
 use Rattle.std.proofs.Common.{arith, length-append}
 use Rattle.std.proofs.lemmas.List.{length-map}
 use Rattle.model.specs.Fields.{words_for, per_word, pack}
@@ -10,6 +10,17 @@ use Rattle.model.specs.Record.{Record, tree}
 use Rattle.model.specs.Writing.{obligation_bits, entry_bits, entry_field, encode_c, encode_cs, encode_d, encode, encodes, encode_r, numbered}
 use Rattle.laws.proofs.WordLaws.{length_packed}
 use Rattle.laws.specs.Size.{words_c, words_cs, words_d, words, wordss, words_r}
+
+-- Every policy takes a word.
+pub some_words : {O : Type 0} (t : Policy O) → 1 ≤ words t
+some_words (permit o) = omega arith
+some_words deny = omega arith
+some_words (grant g c) = omega arith
+some_words (all ts) = omega arith
+some_words (any ts) = omega arith
+some_words (or_else a b) = omega arith
+some_words (stored (permits p)) = omega arith
+some_words (stored (denies d)) = omega arith
 
 pub length_pack : (width : ℕ) (vs : List ℕ) → length (pack width vs) ≡ words_for (per_word width) (length vs)
 length_pack width vs = length_packed width (per_word width) (words_for (per_word width) (length vs)) vs

@@ -3,54 +3,34 @@
 use Rattle.std.specs.Prelude.{◌≡◌, refl, Bool, true, false, cond, ◌&&◌, List, [], ◌∷◌, ℕ, zero, suc, ◌+◌, ◌-◌, ◌*◌, ◌/◌, ◌%◌, ◌^◌, ◌≤◌, ◌<◌, eqb, ltb, leb, length, get_or}
 use Rattle.std.proofs.Common.{sym, ◌∙◌, ap, subst, arith, mul-le-mul_right, suc-mul, mod-lt, div-add-mod', div-lt_iff_lt-mul, eqb-true, eq-eqb, leb-true, le-leb, ltb-true, ltb-false, lt-ltb, le-ltb}
 use Rattle.std.proofs.Math.Option.{Option, none, some}
-use Rattle.std.proofs.lemmas.Bool.{eqb-false}
+use Rattle.std.proofs.lemmas.Bool.{eqb-false, and_parts, and_from}
 use Rattle.model.specs.Outcome.{Outcomes, outcome_bits, product_sets}
 use Rattle.model.specs.Calls.{Answer, refusal, wrote}
 use Rattle.model.specs.Levels.{OutcomeTable, entry_from, meet_by, join_by, meet_of, join_of, outcome_count, outcomes_of, every_below, every_byte, pairwise, commutes, associate, associates, absorbs, sized, closed, lawful_pair, accepts, acceptable, by_table}
-use Rattle.laws.specs.Products.{Lawful, Written, lawful_products, written_products, below_again, below_at}
+use Rattle.laws.specs.Products.{Lawful, Written}
+use Rattle.laws.proofs.ListLaws.{true_or_false}
+use Rattle.laws.proofs.ProductLaws.{lawful_products, written_products, below_again, below_at}
 use Rattle.laws.specs.Lattice.{Lattice, Good, InTable}
 
 -- ---- tests
-and_left : (a b : Bool) → (a && b) ≡ true → a ≡ true
-and_left true b e = refl
-and_left false b e = e
-
-and_right : (a b : Bool) → (a && b) ≡ true → b ≡ true
-and_right true b e = e
-and_right false b e = cc
-
-and_is : (a b : Bool) → a ≡ true → b ≡ true → (a && b) ≡ true
-and_is a b p q = rw (p, q)
-
-by_test : (b : Bool) {G : Type 0} → (b ≡ true → G) → (b ≡ false → G) → G
-by_test true f g = f refl
-by_test false f g = g refl
-
 less : (a n : ℕ) → a < suc n → (a ≡ n → ⊥) → a < n
-less a n h k = by_test (ltb a n) (λ e. ltb-true a n e) (λ e. let m : n ≤ a = ltb-false a n e in absurd (k (omega arith)))
+less a n h k = true_or_false (ltb a n) (λ e. ltb-true a n e) (λ e. let m : n ≤ a = ltb-false a n e in absurd (k (omega arith)))
 
 pub below_passes : (n : ℕ) (p : ℕ → Bool) → every_below n p ≡ true → (a : ℕ) → a < n → p a ≡ true
 below_passes zero p e a h = absurd (omega arith)
 below_passes (suc n) p e a h =
-    by_test (eqb a n)
-    (λ k. ap p (eqb-true a n k) ∙ and_right (every_below n p) (p n) e)
-    (λ k. below_passes n p (and_left (every_below n p) (p n) e) a (less a n h (eqb-false a n k)))
-
--- One that does not pass is enough.
-pub fails_below : (n : ℕ) (p : ℕ → Bool) (a : ℕ) → a < n → p a ≡ false → every_below n p ≡ false
-fails_below n p a h no-pass =
-    by_test (every_below n p)
-    (λ e. let passes : p a ≡ true = below_passes n p e a h in cc)
-    (λ e. e)
+    true_or_false (eqb a n)
+    (λ k. ap p (eqb-true a n k) ∙ (and_parts (every_below n p) (p n) e).1)
+    (λ k. below_passes n p (and_parts (every_below n p) (p n) e).0 a (less a n h (eqb-false a n k)))
 
 pub passes_below : (n : ℕ) (p : ℕ → Bool) → ((a : ℕ) → a < n → p a ≡ true) → every_below n p ≡ true
 passes_below zero p f = refl
-passes_below (suc n) p f = and_is (every_below n p) (p n) (passes_below n p (λ a h. f a (omega arith))) (f n (omega arith))
+passes_below (suc n) p f = and_from (every_below n p) (p n) (passes_below n p (λ a h. f a (omega arith))) (f n (omega arith))
 
 pub byte_passes : (p : ℕ → Bool) (bs : List ℕ) (i d : ℕ) → every_byte p bs ≡ true → i < length bs → p (get_or bs i d) ≡ true
 byte_passes p [] i d e h = absurd (omega arith)
-byte_passes p (b ∷ bs) zero d e h = and_left (p b) (every_byte p bs) e
-byte_passes p (b ∷ bs) (suc i) d e h = byte_passes p bs i d (and_right (p b) (every_byte p bs) e) (omega arith)
+byte_passes p (b ∷ bs) zero d e h = (and_parts (p b) (every_byte p bs) e).0
+byte_passes p (b ∷ bs) (suc i) d e h = byte_passes p bs i d (and_parts (p b) (every_byte p bs) e).1 (omega arith)
 
 -- The place of a pair is within its half.
 place : (n a b : ℕ) → a < n → b < n → a * n + b < n * n
@@ -78,31 +58,31 @@ module _ (t : OutcomeTable) where
   module _ (ok : accepts t ≡ true) where
     is_sized : sized t ≡ true
     unfolding accepts
-    is_sized = and_left (sized t) (closed t && pairwise t.levels (lawful_pair t)) ok
+    is_sized = (and_parts (sized t) (closed t && pairwise t.levels (lawful_pair t)) ok).0
 
     rest_is : (closed t && pairwise t.levels (lawful_pair t)) ≡ true
     unfolding accepts
-    rest_is = and_right (sized t) (closed t && pairwise t.levels (lawful_pair t)) ok
+    rest_is = (and_parts (sized t) (closed t && pairwise t.levels (lawful_pair t)) ok).1
 
     is_closed : closed t ≡ true
-    is_closed = and_left (closed t) (pairwise t.levels (lawful_pair t)) rest_is
+    is_closed = (and_parts (closed t) (pairwise t.levels (lawful_pair t)) rest_is).0
 
     one : 1 ≤ t.levels
-    one = leb-true 1 t.levels (and_left (leb 1 t.levels) _ is_sized)
+    one = leb-true 1 t.levels ((and_parts (leb 1 t.levels) _ is_sized).0)
 
     sized_rest : (leb t.levels 16 && eqb (length t.bytes) (2 * (t.levels * t.levels))) ≡ true
-    sized_rest = and_right (leb 1 t.levels) _ is_sized
+    sized_rest = (and_parts (leb 1 t.levels) _ is_sized).1
 
     few : t.levels ≤ 16
-    few = leb-true t.levels 16 (and_left (leb t.levels 16) _ sized_rest)
+    few = leb-true t.levels 16 ((and_parts (leb t.levels 16) _ sized_rest).0)
 
     long_is : length t.bytes ≡ 2 * (t.levels * t.levels)
-    long_is = eqb-true _ _ (and_right (leb t.levels 16) _ sized_rest)
+    long_is = eqb-true _ _ ((and_parts (leb t.levels 16) _ sized_rest).1)
 
     pair : (a b : ℕ) → a < t.levels → b < t.levels → lawful_pair t a b ≡ true
     pair a b h k =
         below_passes t.levels (λ b. lawful_pair t a b)
-        (below_passes t.levels (λ a. every_below t.levels (λ b. lawful_pair t a b)) (and_right (closed t) (pairwise t.levels (lawful_pair t)) rest_is) a h) b k
+        (below_passes t.levels (λ a. every_below t.levels (λ b. lawful_pair t a b)) (and_parts (closed t) (pairwise t.levels (lawful_pair t)) rest_is).1 a h) b k
 
     stays_from : (from a b : ℕ) → from ≤ t.levels * t.levels → a < t.levels → b < t.levels → entry_from t from a b < t.levels
     stays_from from a b f h k =
@@ -120,13 +100,13 @@ module _ (t : OutcomeTable) where
     Assoc a b = associates t.levels (meet_by t) a b && associates t.levels (join_by t) a b
 
     comm_at : (a b : ℕ) → a < t.levels → b < t.levels → Comm a b ≡ true
-    comm_at a b h k = and_left (Comm a b) (Absorb a b && Assoc a b) (pair a b h k)
+    comm_at a b h k = (and_parts (Comm a b) (Absorb a b && Assoc a b) (pair a b h k)).0
 
     absorb_at : (a b : ℕ) → a < t.levels → b < t.levels → Absorb a b ≡ true
-    absorb_at a b h k = and_left (Absorb a b) (Assoc a b) (and_right (Comm a b) (Absorb a b && Assoc a b) (pair a b h k))
+    absorb_at a b h k = (and_parts (Absorb a b) (Assoc a b) ((and_parts (Comm a b) (Absorb a b && Assoc a b) (pair a b h k)).1)).0
 
     assoc_at : (a b : ℕ) → a < t.levels → b < t.levels → Assoc a b ≡ true
-    assoc_at a b h k = and_right (Absorb a b) (Assoc a b) (and_right (Comm a b) (Absorb a b && Assoc a b) (pair a b h k))
+    assoc_at a b h k = (and_parts (Absorb a b) (Assoc a b) ((and_parts (Comm a b) (Absorb a b && Assoc a b) (pair a b h k)).1)).1
 
     pub good : Good t
     good = record {
@@ -136,12 +116,12 @@ module _ (t : OutcomeTable) where
       laws = record {
         meet_stays = λ a b h k. stays_from 0 a b (omega arith) h k;
         join_stays = λ a b h k. stays_from (t.levels * t.levels) a b (omega arith) h k;
-        meet_commutes = λ a b h k. eqb-true _ _ (and_left (commutes (meet_by t) a b) _ (comm_at a b h k));
-        join_commutes = λ a b h k. eqb-true _ _ (and_right (commutes (meet_by t) a b) _ (comm_at a b h k));
-        meet_associates = λ a b c h k l. eqb-true _ _ (below_passes t.levels (associate (meet_by t) a b) (and_left (associates t.levels (meet_by t) a b) _ (assoc_at a b h k)) c l);
-        join_associates = λ a b c h k l. eqb-true _ _ (below_passes t.levels (associate (join_by t) a b) (and_right (associates t.levels (meet_by t) a b) _ (assoc_at a b h k)) c l);
-        meet_absorbs = λ a b h k. eqb-true _ _ (and_left (absorbs (meet_by t) (join_by t) a b) _ (absorb_at a b h k));
-        join_absorbs = λ a b h k. eqb-true _ _ (and_right (absorbs (meet_by t) (join_by t) a b) _ (absorb_at a b h k));
+        meet_commutes = λ a b h k. eqb-true _ _ ((and_parts (commutes (meet_by t) a b) _ (comm_at a b h k)).0);
+        join_commutes = λ a b h k. eqb-true _ _ ((and_parts (commutes (meet_by t) a b) _ (comm_at a b h k)).1);
+        meet_associates = λ a b c h k l. eqb-true _ _ (below_passes t.levels (associate (meet_by t) a b) ((and_parts (associates t.levels (meet_by t) a b) _ (assoc_at a b h k)).0) c l);
+        join_associates = λ a b c h k l. eqb-true _ _ (below_passes t.levels (associate (join_by t) a b) ((and_parts (associates t.levels (meet_by t) a b) _ (assoc_at a b h k)).1) c l);
+        meet_absorbs = λ a b h k. eqb-true _ _ ((and_parts (absorbs (meet_by t) (join_by t) a b) _ (absorb_at a b h k)).0);
+        join_absorbs = λ a b h k. eqb-true _ _ ((and_parts (absorbs (meet_by t) (join_by t) a b) _ (absorb_at a b h k)).1);
       };
     }
 
@@ -149,7 +129,7 @@ module _ (t : OutcomeTable) where
   -- Every byte stands for a pair, of a meet or of a join.
   byte_all : (p : ℕ → Bool) (bs : List ℕ) → ((i : ℕ) → i < length bs → p (get_or bs i 0) ≡ true) → every_byte p bs ≡ true
   byte_all p [] f = refl
-  byte_all p (b ∷ bs) f = and_is (p b) (every_byte p bs) (f 0 (omega arith)) (byte_all p bs (λ i h. f (suc i) (omega arith)))
+  byte_all p (b ∷ bs) f = and_from (p b) (every_byte p bs) (f 0 (omega arith)) (byte_all p bs (λ i h. f (suc i) (omega arith)))
 
   module _ (g : Good t) where
     abbrev M : ℕ
@@ -166,7 +146,7 @@ module _ (t : OutcomeTable) where
 
     closes : closed t ≡ true
     closes = byte_all (λ b. ltb b M) t.bytes (λ i h.
-        by_test (ltb i (M * M))
+        true_or_false (ltb i (M * M))
         (λ e. let is : 0 + i ≡ i = omega arith in ap (λ x. ltb (get_or t.bytes x 0) M) (sym is) ∙ half 0 i g.laws.meet_stays (ltb-true i (M * M) e))
         (λ e.
         let from : M * M ≤ i = ltb-false i (M * M) e in
@@ -176,15 +156,15 @@ module _ (t : OutcomeTable) where
     pair_good : (a b : ℕ) → a < M → b < M → lawful_pair t a b ≡ true
     pair_good a b h k =
         let l = g.laws in
-        and_is _ _ (and_is _ _ (eq-eqb _ _ (l.meet_commutes a b h k)) (eq-eqb _ _ (l.join_commutes a b h k)))
-        (and_is _ _ (and_is _ _ (eq-eqb _ _ (l.meet_absorbs a b h k)) (eq-eqb _ _ (l.join_absorbs a b h k)))
-        (and_is _ _ (passes_below M _ (λ c x. eq-eqb _ _ (l.meet_associates a b c h k x))) (passes_below M _ (λ c x. eq-eqb _ _ (l.join_associates a b c h k x)))))
+        and_from _ _ (and_from _ _ (eq-eqb _ _ (l.meet_commutes a b h k)) (eq-eqb _ _ (l.join_commutes a b h k)))
+        (and_from _ _ (and_from _ _ (eq-eqb _ _ (l.meet_absorbs a b h k)) (eq-eqb _ _ (l.join_absorbs a b h k)))
+        (and_from _ _ (passes_below M _ (λ c x. eq-eqb _ _ (l.meet_associates a b c h k x))) (passes_below M _ (λ c x. eq-eqb _ _ (l.join_associates a b c h k x)))))
 
     pub good_accepted : accepts t ≡ true
     unfolding accepts
     good_accepted =
-        and_is (sized t) _ (and_is (leb 1 M) _ (le-leb 1 M g.some_levels) (and_is (leb M 16) _ (le-leb M 16 g.few_levels) (eq-eqb _ _ g.long)))
-        (and_is (closed t) _ closes (passes_below M (λ a. every_below M (λ b. lawful_pair t a b)) (λ a h. passes_below M (λ b. lawful_pair t a b) (λ b k. pair_good a b h k))))
+        and_from (sized t) _ (and_from (leb 1 M) _ (le-leb 1 M g.some_levels) (and_from (leb M 16) _ (le-leb M 16 g.few_levels) (eq-eqb _ _ g.long)))
+        (and_from (closed t) _ closes (passes_below M (λ a. every_below M (λ b. lawful_pair t a b)) (λ a h. passes_below M (λ b. lawful_pair t a b) (λ b k. pair_good a b h k))))
 
 -- ---- every number, level or not: what is no level absorbs
 module _ (t : OutcomeTable) (g : Good t) where
@@ -201,8 +181,8 @@ module _ (t : OutcomeTable) (g : Good t) where
 
     comm_all : ((a b : ℕ) → a < N → b < N → op a b ≡ op b a) → (a b : ℕ) → op a b ≡ op b a
     comm_all law a b =
-        by_test (ltb a N)
-        (λ h. by_test (ltb b N)
+        true_or_false (ltb a N)
+        (λ h. true_or_false (ltb b N)
         (λ k. law a b (ltb-true a N h) (ltb-true b N k))
         (λ k. entry_right t from a b (ltb-false b N k) ∙ sym (entry_left t from b a (ltb-false b N k))))
         (λ h. entry_left t from a b (ltb-false a N h) ∙ sym (entry_right t from b a (ltb-false a N h)))
@@ -216,9 +196,9 @@ module _ (t : OutcomeTable) (g : Good t) where
 
     assoc_all : ((a b c : ℕ) → a < N → b < N → c < N → op (op a b) c ≡ op a (op b c)) → (a b c : ℕ) → op (op a b) c ≡ op a (op b c)
     assoc_all law a b c =
-        by_test (ltb a N)
-        (λ h. by_test (ltb b N)
-        (λ k. by_test (ltb c N)
+        true_or_false (ltb a N)
+        (λ h. true_or_false (ltb b N)
+        (λ k. true_or_false (ltb c N)
         (λ l. law a b c (ltb-true a N h) (ltb-true b N k) (ltb-true c N l))
         (λ l. entry_right t from (op a b) c (ltb-false c N l) ∙ sym (none_right a (op b c) (entry_right t from b c (ltb-false c N l)))))
         (λ k. none_left (op a b) c (entry_right t from a b (ltb-false b N k)) ∙ sym (none_right a (op b c) (entry_left t from b c (ltb-false b N k)))))

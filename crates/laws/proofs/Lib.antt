@@ -1,11 +1,18 @@
 -- Laws about the definitions, each by itself.
+pub mod ListLaws
+pub mod NameLaws
+pub mod ProductLaws
 pub mod FieldLaws
 pub mod FormLaws
 pub mod Lengths
+pub mod SheetIfLaws
+pub mod NodeLaws
 pub mod ReadForm
+pub mod GrantLaws
 pub mod FieldAtLaws
 pub mod ReadBack
 pub mod Canon
+pub mod TruthLaws
 pub mod Folds
 pub mod Deeper
 pub mod Wider

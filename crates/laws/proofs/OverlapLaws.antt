@@ -23,7 +23,7 @@ length_swapped (suc n) [] = refl
 length_swapped (suc n) (a ∷ []) = refl
 length_swapped (suc n) (a ∷ b ∷ rest) = ap (λ m. suc (suc m)) (length_swapped n rest)
 
-both_exchanged : (a b c : Bool) → (a && (b && c)) ≡ (b && (a && c))
+pub both_exchanged : (a b c : Bool) → (a && (b && c)) ≡ (b && (a && c))
 both_exchanged true b c = refl
 both_exchanged false true c = refl
 both_exchanged false false c = refl

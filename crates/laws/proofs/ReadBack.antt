@@ -1,11 +1,12 @@
 -- What is written is read back: for a tree or record of good form, reading the words that it was written as gives it again.
-use Rattle.std.specs.Prelude.{◌≡◌, refl, Bool, true, false, cond, ◌&&◌, List, [], ◌∷◌, ◌++◌, map, ℕ, zero, suc, ◌+◌, ◌-◌, ◌*◌, ◌/◌, ◌%◌, ◌^◌, ◌≤◌, ◌<◌, eqb, ltb, leb, length}
+use Rattle.std.specs.Prelude.{◌≡◌, refl, Bool, true, false, cond, List, [], ◌∷◌, ◌++◌, map, ℕ, zero, suc, ◌+◌, ◌-◌, ◌*◌, ◌/◌, ◌%◌, ◌^◌, ◌≤◌, ◌<◌, eqb, ltb, leb, length}
 use Rattle.std.proofs.Common.{sym, ◌∙◌, ap, subst, append_assoc, append-nil, map-id, arith, lt-ltb, le-ltb, le-leb}
 use Rattle.std.proofs.Math.Option.{Option, none, some}
+use Rattle.std.proofs.lemmas.Bool.{and_from}
 use Rattle.model.specs.Fields.{pack}
 use Rattle.model.specs.Facts.{Presence}
 use Rattle.model.specs.Condition.{Condition, always, never, has, not_c, all_c, any_c, Conditions, cnil, ccons}
-use Rattle.model.specs.Decision.{Shape, forbidden, hidden, Permit, Denial, Decision, permits, denies}
+use Rattle.model.specs.Decision.{Permit, Denial, Decision, permits, denies}
 use Rattle.model.specs.Policy.{Grant, Policy, permit, deny, grant, all, any, or_else, stored, Policies, pnil, pcons}
 use Rattle.model.specs.Partial.{ReducedPolicy, resolved, pending, as_residual}
 use Rattle.model.specs.Consulted.{Entry, Consulted}
@@ -19,13 +20,8 @@ use Rattle.laws.proofs.FieldAtLaws.{narrow_below, presence_few, seen_back, narro
 use Rattle.laws.specs.Size.{IsSheet, SheetIf, SheetsIf}
 use Rattle.laws.specs.Form.{FormC, FormCs, IfThere, FormL, Countable, FormP, FormN, FormD, FormG, FormOf, FormsOf, depth_c, depth_cs, depth, depths}
 use Rattle.laws.proofs.ReadForm.{Named}
-
--- ---- tests
-unless_is : {A : Type 0} {b : Bool} (n : ℕ) (p : Parsed A) → b ≡ true → unless b n p ≡ p
-unless_is n p e = ap (λ x. unless x n p) e
-
-pub both_is : (a b : Bool) → a ≡ true → b ≡ true → (a && b) ≡ true
-both_is a b p q = rw (p, q)
+use Rattle.laws.proofs.NodeLaws.{unless_is, shape_back, shape_small, marked_small, outcome_is}
+use Rattle.laws.proofs.SheetIfLaws.{arms_if_all, arms_if_any, primary_if, fallback_if, first_if, rest_if}
 
 -- ---- a word's kind and its other number
 word_kind : (k r : ℕ) → r < 268435456 → word k r / 268435456 ≡ k
@@ -115,24 +111,9 @@ mark_back (some n) f =
     ∙ unless_is 8 (got (some (32768 + n - 32768)) []) (lt-ltb (32768 + n) 65536 (omega arith))
     ∙ ap (λ x. got (some x) []) e
 
-marked_small : (l : Option ℕ) → FormL l → marked l < 65536
-marked_small none f = omega arith
-marked_small (some n) f = omega arith
-
-pub shape_back : (s : Shape) → shape_of (shape_bit s) ≡ s
-shape_back forbidden = refl
-shape_back hidden = refl
-
-pub shape_small : (s : Shape) → shape_bit s ≤ 1
-shape_small forbidden = omega arith
-shape_small hidden = omega arith
-
 -- ---- policies. `number` writes an outcome in 16 bits, `value` reads it; B says what is asked of a grant's condition, and nothing here needs it.
 module _ {O : Type 0} (G : O → Type 0) (B : Condition → Type 0) (number : O → ℕ) (value : ℕ → Option O)
     (small : (o : O) → G o → number o < 65536) (again : (o : O) → G o → value (number o) ≡ some o) where
-  outcome_back : {A : Type 0} (o : O) → G o → (k : O → Parsed A) → outcome_of value (value (number o)) k ≡ k o
-  outcome_back o h k = ap (λ x. outcome_of value x k) (again o h)
-
   back_grant_more : (p : List ℕ → Parsed Condition) (g : Grant O) (c : Condition) (ws : List ℕ) → FormG G g → p (encode_c c ++ ws) ≡ got c ws
       → grant_more value p (shape_bit g.shape) (length g.obligations) g.outcome (marked g.label) (marked g.reason) (pack obligation_bits g.obligations ++ (encode_c c ++ ws)) ≡ got (grant g c) ws
   back_grant_more p g c ws f h =
@@ -164,7 +145,7 @@ module _ {O : Type 0} (G : O → Type 0) (B : Condition → Type 0) (number : O 
       let e₆ : w % 65536 ≡ marked g.reason = omega arith in
       (λ i. parse_grant value p (e₁ i) (e₂ i) (e₃ i) (e₄ i) (w ∷ vs))
       ∙ unless_is 8 (outcome_of value (value o) (λ x. grant_more value p sb n x (w / 65536) (w % 65536) vs)) (le-leb n most_obligations few)
-      ∙ outcome_back g.outcome f.0 (λ x. grant_more value p sb n x (w / 65536) (w % 65536) vs)
+      ∙ outcome_is value (λ x. grant_more value p sb n x (w / 65536) (w % 65536) vs) (again g.outcome f.0)
       ∙ (λ i. grant_more value p sb n g.outcome (e₅ i) (e₆ i) vs)
       ∙ back_grant_more p g c ws f h
 
@@ -190,7 +171,7 @@ module _ {O : Type 0} (G : O → Type 0) (B : Condition → Type 0) (number : O 
       let e₆ : w % 65536 ≡ m = omega arith in
       let mk : Option ℕ → List ℕ → List ℕ → List ℕ → Parsed (Decision O) = λ l os fs us. got (permits (record { outcome = q.outcome; obligations = os; label = l; facts = fs })) us in
       (λ i. parse12 value (e₁ i) (e₂ i) (e₃ i) (e₄ i) (w ∷ vs))
-      ∙ outcome_back q.outcome f.0 (λ x. more12 value n x (w / 65536) (w % 65536) vs)
+      ∙ outcome_is value (λ x. more12 value n x (w / 65536) (w % 65536) vs) (again q.outcome f.0)
       ∙ (λ i. more12 value n q.outcome (e₅ i) (e₆ i) (append_assoc (pack obligation_bits q.obligations) (pack entry_bits q.facts) ws i))
       ∙ ap (λ x. next x (λ l _. unless (ltb m 4096) 8 (next (read_list obligation obligation_bits n vs') (λ os us. next (read_list listed entry_bits m us) (λ fs ts. mk l os fs ts))))) (mark_back q.label f.2)
       ∙ unless_is 8 (next (read_list obligation obligation_bits n vs') (λ os us. next (read_list listed entry_bits m us) (λ fs ts. mk q.label os fs ts))) (lt-ltb m 4096 (omega arith))
@@ -220,7 +201,7 @@ module _ {O : Type 0} (G : O → Type 0) (B : Condition → Type 0) (number : O 
 
   denied_back : {A : Type 0} (x : Option O) → IfThere G x → (k : Option O → Parsed A) → denied_of value (here_bit x) (here_bits x) k ≡ k x
   denied_back none h k = refl
-  denied_back (some o) h k = outcome_back o h (λ y. k (some y))
+  denied_back (some o) h k = outcome_is value (λ y. k (some y)) (again o h)
 
   back_13 : (q : Denial O) (ws : List ℕ) → FormN G q
       → at13 value (shape_bit q.shape * 134217728 + denied_field number q.denied) ((marked q.label * 65536 + marked q.reason) ∷ length q.facts ∷ (pack entry_bits q.facts ++ ws)) ≡ got (denies q) ws
@@ -273,31 +254,6 @@ module _ {O : Type 0} (G : O → Type 0) (B : Condition → Type 0) (number : O 
       parse_word true d 13 (shape_bit q.shape * 134217728 + denied_field number q.denied) ((marked q.label * 65536 + marked q.reason) ∷ length q.facts ∷ (pack entry_bits q.facts ++ ws)) (omega arith)
       ∙ ap (as_stored value) (back_13 q ws f)
 
-  -- what a list and an OrElse ask of their parts
-  arms_if_all : (res : Bool) (ts : Policies O) → SheetIf res (all ts) → SheetsIf res ts
-  arms_if_all true ts s = tt
-  arms_if_all false ts s = s
-
-  arms_if_any : (res : Bool) (ts : Policies O) → SheetIf res (any ts) → SheetsIf res ts
-  arms_if_any true ts s = tt
-  arms_if_any false ts s = s
-
-  primary_if : (res : Bool) (a b : Policy O) → SheetIf res (or_else a b) → SheetIf res a
-  primary_if true a b s = tt
-  primary_if false a b s = s.0
-
-  fallback_if : (res : Bool) (a b : Policy O) → SheetIf res (or_else a b) → SheetIf res b
-  fallback_if true a b s = tt
-  fallback_if false a b s = s.1
-
-  first_if : (res : Bool) (t : Policy O) (ts : Policies O) → SheetsIf res (pcons t ts) → SheetIf res t
-  first_if true t ts s = tt
-  first_if false t ts s = s.0
-
-  rest_if : (res : Bool) (t : Policy O) (ts : Policies O) → SheetsIf res (pcons t ts) → SheetsIf res ts
-  rest_if true t ts s = tt
-  rest_if false t ts s = s.1
-
   mutual
     pub back_t : (t : Policy O) (res : Bool) (d : ℕ) (ws : List ℕ) → depth t ≤ d → FormOf G B Countable t → SheetIf res t → read_policy value res d (encode number t ++ ws) ≡ got t ws
     back_t (permit o) res zero ws h f s = let z : ⊥ = omega arith in absurd z
@@ -307,7 +263,7 @@ module _ {O : Type 0} (G : O → Type 0) (B : Condition → Type 0) (number : O 
         let e₂ : number o % 65536 ≡ number o = omega arith in
         parse_word res d 6 (number o) ws (omega arith)
         ∙ (λ i. unless (eqb (e₁ i) 0) 8 (outcome_of value (value (e₂ i)) (λ x. got (permit x) ws)))
-        ∙ outcome_back o f (λ x. got (permit x) ws)
+        ∙ outcome_is value (λ x. got (permit x) ws) (again o f)
     back_t deny res zero ws h f s = let z : ⊥ = omega arith in absurd z
     back_t deny res (suc d) ws h f s = parse_word res d 7 0 ws (omega arith)
     back_t (grant g c) res zero ws h f s = let z : ⊥ = omega arith in absurd z
@@ -350,7 +306,7 @@ module _ {O : Type 0} (G : O → Type 0) (B : Condition → Type 0) (number : O 
   -- A sheet of good form is read back from its words.
   pub back_sheet : (t : Policy O) → IsSheet t → FormOf G B Countable t → depth t ≤ 32 → length (encode number t) ≤ 4096 → 1 ≤ length (encode number t) → read_sheet value (encode number t) ≡ got t []
   back_sheet t s f d k m =
-      unless_is 1 (whole (read_policy value false 32 (encode number t))) (both_is (leb 1 (length (encode number t))) (leb (length (encode number t)) 4096) (le-leb 1 (length (encode number t)) m) (le-leb (length (encode number t)) 4096 k))
+      unless_is 1 (whole (read_policy value false 32 (encode number t))) (and_from (leb 1 (length (encode number t))) (leb (length (encode number t)) 4096) (le-leb 1 (length (encode number t)) m) (le-leb (length (encode number t)) 4096 k))
       ∙ ap (λ us. whole (read_policy value false 32 us)) (sym (append-nil (encode number t)))
       ∙ ap whole (back_t t false 32 [] d f s)
 
@@ -410,7 +366,7 @@ module _ {O : Type 0} (G : O → Type 0) (B : Condition → Type 0) (number : O 
       → read_record value (numbered sheet (encode_r number r)) ≡ got r []
   back_r sheet s r n f g h k =
       let ws = numbered sheet (encode_r number r) in
-      unless_is 1 (whole (read_lead value ws)) (both_is (leb 1 (length ws)) (leb (length ws) 16384) (le-leb 1 (length ws) (omega arith)) (le-leb (length ws) 16384 (omega arith)))
+      unless_is 1 (whole (read_lead value ws)) (and_from (leb 1 (length ws)) (leb (length ws) 16384) (le-leb 1 (length ws) (omega arith)) (le-leb (length ws) 16384 (omega arith)))
       ∙ ap (λ us. whole (read_lead value us)) (numbered_is sheet r.body r.log n ∙ sym (append-nil (word (lead_kind number r.body) (sheet * 4096 + length r.log) ∷ (pack entry_bits (map entry_field r.log) ++ encode number (tree r)))))
       ∙ ap whole (back_lead sheet s r.body r.log [] n f g h)
 

@@ -1,10 +1,10 @@
 -- What is read is of good form: a sheet or record that is accepted has fields that fit,
 -- the nesting that was allowed, and as many words as were read.
-use Rattle.std.specs.Prelude.{◌≡◌, refl, Bool, true, false, cond, ◌&&◌, List, [], ◌∷◌, ◌++◌, ℕ, zero, suc, ◌+◌, ◌-◌, ◌/◌, ◌%◌, ◌≤◌, ◌<◌, eqb, ltb, leb, length}
-use Rattle.std.proofs.Common.{sym, ◌∙◌, ap, ap₂, subst, arith, ltb-true, leb-true}
+use Rattle.std.specs.Prelude.{◌≡◌, refl, Bool, true, false, cond, ◌&&◌, List, [], ◌∷◌, ◌++◌, ℕ, zero, suc, ◌+◌, ◌-◌, ◌/◌, ◌%◌, ◌≤◌, ◌<◌, eqb, ltb, leb, length, map}
+use Rattle.std.proofs.Common.{sym, ◌∙◌, ap, ap₂, subst, arith, ltb-true, leb-true, map-id, drop}
 use Rattle.std.proofs.Math.Bool.{and-eq-true_iff}
 use Rattle.std.proofs.Math.Option.{Option, none, some}
-use Rattle.model.specs.Fields.{words_for, per_word}
+use Rattle.model.specs.Fields.{words_for, per_word, pack}
 use Rattle.model.specs.Facts.{fact_count}
 use Rattle.model.specs.Condition.{Condition, always, never, has, not_c, all_c, any_c, Conditions, cnil, ccons}
 use Rattle.model.specs.Decision.{Decision, permits, denies}
@@ -14,8 +14,11 @@ use Rattle.model.specs.Consulted.{Entry, Consulted}
 use Rattle.model.specs.Record.{Record, tree}
 use Rattle.model.specs.Writing.{obligation_bits, entry_bits, presence_field, seen_in, entry_field, count_c, count, most_listed}
 use Rattle.model.specs.Reading.{Parsed, refuse, got, next, unless, another, read_list, obligation, listed, presence_count, consulted, kind_of, rest_of, counted, many, node_c, read_condition, record_length, whole, mark, shape_of, outcome_of, denied_of, grant_more, parse_grant, more12, at12, more13, at13, as_stored, in_residual, node_p, last_kind, read_policy, read_sheet, node14, parse14, parse15, rest, leads, read_lead, read_record, obligation_count, most_obligations}
-use Rattle.laws.specs.Lists.{Below, every_end}
+use Rattle.laws.specs.Lists.{Below}
+use Rattle.laws.proofs.ListLaws.{every_end}
 use Rattle.laws.proofs.FieldLaws.{Holds, fine, nothing, if_holds, weaker, then_holds, both_hold, same_list_lem, kept_list}
+use Rattle.laws.proofs.NodeLaws.{outcome_holds, another_holds}
+use Rattle.laws.proofs.SheetIfLaws.{sheet_if, nil_if, cons_if, all_if, any_if, else_if}
 use Rattle.laws.specs.Size.{words_c, words_cs, words_d, words, wordss, words_r, IsSheet, AreSheets, SheetIf, SheetsIf}
 use Rattle.laws.specs.Form.{FormC, FormCs, IfThere, FormL, Countable, FewRepeats, FormD, FormOf, FormsOf, Few, Free, Form, depth_c, depth_cs, depth, depths}
 
@@ -67,23 +70,26 @@ obligation_keeps os b f = if_holds (ltb b obligation_count) 8 (got b []) (λ e. 
 listed_keeps : (fs : List ℕ) (b : ℕ) → Below 1024 fs → Holds (λ a _. Below 1024 (fs ++ a ∷ [])) (listed fs b)
 listed_keeps fs b f = if_holds (ltb b 1024) 8 (got b []) (λ e. fine (every_end (λ o. o < 1024) fs b f (ltb-true b 1024 e)))
 
-abbrev pub OkOs : ℕ → ℕ → List ℕ → List ℕ → Type 0
-OkOs n l os vs = Below obligation_count os × (length os ≡ n) × (words_for (per_word obligation_bits) n + length vs ≡ l)
+-- A list of n numbers that was read, each below the bound; and what it left.
+pub record ReadNumbers (width bound n : ℕ) (us xs vs : List ℕ) : Type 0 where
+  pub below : Below bound xs
+  pub long : length xs ≡ n
+  pub were : pack width xs ++ vs ≡ us
+  pub took_words : words_for (per_word width) n + length vs ≡ length us
+  pub left : drop (words_for (per_word width) n) us ≡ vs
 
-pub ok_obligations : (n : ℕ) (ws : List ℕ) → Holds (OkOs n (length ws)) (read_list obligation obligation_bits n ws)
-ok_obligations n ws =
-    weaker (read_list obligation obligation_bits n ws) (λ os vs h. (h.0, h.1.long, h.1.took_words))
-    (both_hold (read_list obligation obligation_bits n ws) (kept_list obligation (Below obligation_count) obligation_keeps obligation_bits n ws tt)
-    (same_list_lem (λ o. o) obligation same_obligation obligation_bits 3 n ws refl))
+read_numbers : (bound : ℕ) (chk : List ℕ → ℕ → Parsed ℕ) → ((xs : List ℕ) (b : ℕ) → Below bound xs → Holds (λ a _. Below bound (xs ++ a ∷ [])) (chk xs b)) → ((xs : List ℕ) (b : ℕ) → Holds (λ a _. a ≡ b) (chk xs b)) →
+    (width m n : ℕ) (us : List ℕ) → per_word width ≡ suc m → Holds (ReadNumbers width bound n us) (read_list chk width n us)
+read_numbers bound chk keeps same width m n us whole =
+    weaker (read_list chk width n us)
+    (λ xs vs h. record { below = h.0; long = h.1.long; were = ap (λ l. pack width l ++ vs) (sym (map-id xs)) ∙ h.1.were; took_words = h.1.took_words; left = h.1.left })
+    (both_hold (read_list chk width n us) (kept_list chk (Below bound) keeps width n us tt) (same_list_lem (λ x. x) chk same width m n us whole))
 
-abbrev pub OkFs : ℕ → ℕ → List ℕ → List ℕ → Type 0
-OkFs n l fs vs = Below 1024 fs × (length fs ≡ n) × (words_for (per_word entry_bits) n + length vs ≡ l)
+pub read_obligations : (n : ℕ) (us : List ℕ) → Holds (ReadNumbers obligation_bits obligation_count n us) (read_list obligation obligation_bits n us)
+read_obligations n us = read_numbers obligation_count obligation obligation_keeps same_obligation obligation_bits 3 n us refl
 
-pub ok_facts : (n : ℕ) (ws : List ℕ) → Holds (OkFs n (length ws)) (read_list listed entry_bits n ws)
-ok_facts n ws =
-    weaker (read_list listed entry_bits n ws) (λ fs vs h. (h.0, h.1.long, h.1.took_words))
-    (both_hold (read_list listed entry_bits n ws) (kept_list listed (Below 1024) listed_keeps entry_bits n ws tt)
-    (same_list_lem (λ f. f) listed same_listed entry_bits 1 n ws refl))
+pub read_facts : (n : ℕ) (us : List ℕ) → Holds (ReadNumbers entry_bits fact_count n us) (read_list listed entry_bits n us)
+read_facts n us = read_numbers fact_count listed listed_keeps same_listed entry_bits 1 n us refl
 
 -- Entries name facts.
 abbrev pub Named : Consulted → Type 0
@@ -115,14 +121,17 @@ module _ (es : Consulted) (b : ℕ) where
   pub same_consulted : Holds (λ a _. entry_field a ≡ b) (consulted es b)
   same_consulted = if_holds in_range 8 (got it []) (λ e. fine (omega (arith, seen_field (b / 16384) (ltb-true (b / 16384) 4 ((and-eq-true_iff (ltb (b / 16384) 4) (ltb (b % 16384) 1024)).0 e).0))))
 
-abbrev OkEs : ℕ → ℕ → Consulted → List ℕ → Type 0
-OkEs n l es vs = Named es × (length es ≡ n) × (words_for (per_word entry_bits) n + length vs ≡ l)
+pub record ReadEntries (n : ℕ) (us : List ℕ) (es : Consulted) (vs : List ℕ) : Type 0 where
+  pub named : Named es
+  pub long : length es ≡ n
+  pub were : pack entry_bits (map entry_field es) ++ vs ≡ us
+  pub took_words : words_for (per_word entry_bits) n + length vs ≡ length us
+  pub left : drop (words_for (per_word entry_bits) n) us ≡ vs
 
-ok_entries : (n : ℕ) (ws : List ℕ) → Holds (OkEs n (length ws)) (read_list consulted entry_bits n ws)
-ok_entries n ws =
-    weaker (read_list consulted entry_bits n ws) (λ es vs h. (h.0, h.1.long, h.1.took_words))
-    (both_hold (read_list consulted entry_bits n ws) (kept_list consulted Named consulted_keeps entry_bits n ws tt)
-    (same_list_lem entry_field consulted same_consulted entry_bits 1 n ws refl))
+pub read_entries : (n : ℕ) (us : List ℕ) → Holds (ReadEntries n us) (read_list consulted entry_bits n us)
+read_entries n us =
+    weaker (read_list consulted entry_bits n us) (λ es vs h. record { named = h.0; long = h.1.long; were = h.1.were; took_words = h.1.took_words; left = h.1.left })
+    (both_hold (read_list consulted entry_bits n us) (kept_list consulted Named consulted_keeps entry_bits n us tt) (same_list_lem entry_field consulted same_consulted entry_bits 1 n us refl))
 
 -- ---- labels and reasons
 mark_at : (h : ℕ) (b : Bool) → ltb h 32768 ≡ b → Holds (λ l _. FormL l) (cond b (unless (eqb h 0) 8 (got none [])) (unless (ltb h 65536) 8 (got (some (h - 32768)) [])))
@@ -134,17 +143,9 @@ ok_mark h = mark_at h (ltb h 32768) refl
 
 -- ---- policies
 module _ {O : Type 0} (G : O → Type 0) (value : ℕ → Option O) (sound : (n : ℕ) → IfThere G (value n)) where
-  outcome_holds : {B : Type 0} {R : B → List ℕ → Type 0} (x : Option O) (k : O → Parsed B) → IfThere G x → ((o : O) → G o → Holds R (k o)) → Holds R (outcome_of value x k)
-  outcome_holds none k g f = nothing
-  outcome_holds (some o) k g f = f o g
-
   denied_holds : {B : Type 0} {R : B → List ℕ → Type 0} (h v : ℕ) (k : Option O → Parsed B) → ((x : Option O) → IfThere G x → Holds R (k x)) → Holds R (denied_of value h v k)
   denied_holds zero v k f = if_holds (eqb v 0) 8 (k none) (λ e. f none tt)
-  denied_holds (suc n) v k f = outcome_holds (value v) (λ o. k (some o)) (sound v) (λ o g. f (some o) g)
-
-  another_holds : {B : Type 0} {R : B → List ℕ → Type 0} (ws : List ℕ) (k : ℕ → List ℕ → Parsed B) → ((w : ℕ) (vs : List ℕ) → length ws ≡ suc (length vs) → Holds R (k w vs)) → Holds R (another ws k)
-  another_holds [] k f = nothing
-  another_holds (w ∷ ws) k f = f w ws refl
+  denied_holds (suc n) v k f = outcome_holds value G (value v) (λ o. k (some o)) (sound v) (λ o g. f (some o) g)
 
   -- ---- nodes 12 and 13
   abbrev OkD : ℕ → Decision O → List ℕ → Type 0
@@ -155,14 +156,14 @@ module _ {O : Type 0} (G : O → Type 0) (value : ℕ → Option O) (sound : (n 
       let made : Option ℕ → List ℕ → List ℕ → List ℕ → Parsed (Decision O) = λ l os fs us. got (permits (record { outcome = o; obligations = os; label = l; facts = fs })) us in
       then_holds (mark lab) (λ l _. counted m (next (read_list obligation obligation_bits n ws) (λ os vs. next (read_list listed entry_bits m vs) (made l os)))) (ok_mark lab) (λ l _ fl.
       if_holds (ltb m 4096) 8 (next (read_list obligation obligation_bits n ws) (λ os vs. next (read_list listed entry_bits m vs) (made l os))) (λ e.
-      then_holds (read_list obligation obligation_bits n ws) (λ os vs. next (read_list listed entry_bits m vs) (made l os)) (ok_obligations n ws) (λ os vs fo.
-      then_holds (read_list listed entry_bits m vs) (made l os) (ok_facts m vs) (λ fs us ff.
+      then_holds (read_list obligation obligation_bits n ws) (λ os vs. next (read_list listed entry_bits m vs) (made l os)) (read_obligations n ws) (λ os vs fo.
+      then_holds (read_list listed entry_bits m vs) (made l os) (read_facts m vs) (λ fs us ff.
       let h : m < 4096 = ltb-true m 4096 e in
-      let k : length os ≡ n = fo.1 in
-      let j : length fs ≡ m = ff.1 in
-      let u = fo.2 in
-      let v = ff.2 in
-      fine ((g, (omega arith, fo.0), fl, (omega arith, ff.0)), ap₂ (λ x y. 2 + words_for (per_word obligation_bits) x + words_for (per_word entry_bits) y + length us) k j ∙ omega arith)))))
+      let k : length os ≡ n = fo.long in
+      let j : length fs ≡ m = ff.long in
+      let u = fo.took_words in
+      let v = ff.took_words in
+      fine ((g, (omega arith, fo.below), fl, (omega arith, ff.below)), ap₂ (λ x y. 2 + words_for (per_word obligation_bits) x + words_for (per_word entry_bits) y + length us) k j ∙ omega arith)))))
 
   ok_12 : (r : ℕ) (ws : List ℕ) → Holds (OkD (suc (length ws))) (at12 value r ws)
   ok_12 r ws =
@@ -171,8 +172,9 @@ module _ {O : Type 0} (G : O → Type 0) (value : ℕ → Option O) (sound : (n 
       let more : O → ℕ → List ℕ → Parsed (Decision O) = λ o w vs. more12 value n o (w / 65536) (w % 65536) vs in
       if_holds (eqb sh 0) 8 (unless (eqb (r / 65536 % 16) 0) 8 (outcome_of value (value (r % 65536)) (λ o. another ws (more o)))) (λ _.
       if_holds (eqb (r / 65536 % 16) 0) 8 (outcome_of value (value (r % 65536)) (λ o. another ws (more o))) (λ _.
-      outcome_holds (value (r % 65536)) (λ o. another ws (more o)) (sound (r % 65536)) (λ o g.
+      outcome_holds value G (value (r % 65536)) (λ o. another ws (more o)) (sound (r % 65536)) (λ o g.
       another_holds ws (more o) (λ w vs e.
+      let long = ap length e in
       weaker (more o w vs) (λ d us h. (h.0, h.1 ∙ omega arith)) (ok_more12 n o (w / 65536) (w % 65536) vs g (omega arith))))))
 
   ok_more13 : (sh : ℕ) (den : Option O) (lab rea : ℕ) (ws : List ℕ) → IfThere G den → Holds (OkD (2 + length ws)) (more13 value sh den lab rea ws)
@@ -181,12 +183,13 @@ module _ {O : Type 0} (G : O → Type 0) (value : ℕ → Option O) (sound : (n 
       then_holds (mark lab) (λ l _. next (mark rea) (λ e _. another ws (λ n vs. counted n (next (read_list listed entry_bits n vs) (made l e))))) (ok_mark lab) (λ l _ fl.
       then_holds (mark rea) (λ e _. another ws (λ n vs. counted n (next (read_list listed entry_bits n vs) (made l e)))) (ok_mark rea) (λ e _ fm.
       another_holds ws (λ n vs. counted n (next (read_list listed entry_bits n vs) (made l e))) (λ n vs more.
+      let long = ap length more in
       if_holds (ltb n 4096) 8 (next (read_list listed entry_bits n vs) (made l e)) (λ fits.
-      then_holds (read_list listed entry_bits n vs) (made l e) (ok_facts n vs) (λ fs us ff.
+      then_holds (read_list listed entry_bits n vs) (made l e) (read_facts n vs) (λ fs us ff.
       let h : n < 4096 = ltb-true n 4096 fits in
-      let j : length fs ≡ n = ff.1 in
-      let v = ff.2 in
-      fine ((g, (omega arith, ff.0), fl, fm), ap (λ y. 3 + words_for (per_word entry_bits) y + length us) j ∙ omega arith))))))
+      let j : length fs ≡ n = ff.long in
+      let v = ff.took_words in
+      fine ((g, (omega arith, ff.below), fl, fm), ap (λ y. 3 + words_for (per_word entry_bits) y + length us) j ∙ omega arith))))))
 
   ok_13 : (r : ℕ) (ws : List ℕ) → Holds (OkD (suc (length ws))) (at13 value r ws)
   ok_13 r ws =
@@ -195,33 +198,10 @@ module _ {O : Type 0} (G : O → Type 0) (value : ℕ → Option O) (sound : (n 
       if_holds (eqb (r / 65536 % 1024) 0) 8 (denied_of value (r / 67108864 % 2) (r % 65536) (λ den. another ws (more den))) (λ _.
       denied_holds (r / 67108864 % 2) (r % 65536) (λ den. another ws (more den)) (λ den g.
       another_holds ws (more den) (λ w vs e.
+      let long = ap length e in
       weaker (more den w vs) (λ d us h. (h.0, h.1 ∙ omega arith)) (ok_more13 sh den (w / 65536) (w % 65536) vs g))))
 
   -- ---- trees
-  sheet_if : (res : Bool) (t : Policy O) → IsSheet t → SheetIf res t
-  sheet_if true t h = tt
-  sheet_if false t h = h
-
-  nil_if : (res : Bool) → SheetsIf {O = O} res pnil
-  nil_if true = tt
-  nil_if false = tt
-
-  cons_if : (res : Bool) (t : Policy O) (ts : Policies O) → SheetIf res t → SheetsIf res ts → SheetsIf res (pcons t ts)
-  cons_if true t ts h k = tt
-  cons_if false t ts h k = (h, k)
-
-  all_if : (res : Bool) (ts : Policies O) → SheetsIf res ts → SheetIf res (all ts)
-  all_if true ts h = tt
-  all_if false ts h = h
-
-  any_if : (res : Bool) (ts : Policies O) → SheetsIf res ts → SheetIf res (any ts)
-  any_if true ts h = tt
-  any_if false ts h = h
-
-  else_if : (res : Bool) (a b : Policy O) → SheetIf res a → SheetIf res b → SheetIf res (or_else a b)
-  else_if true a b h k = tt
-  else_if false a b h k = (h, k)
-
   -- What is asked of a grant's condition holds of one of at most m words.
   module _ (res : Bool) (B : Condition → Type 0) (m : ℕ) (bound : (c : Condition) → words_c c ≤ m → B c) where
     -- the form, the levels, the words there were
@@ -237,12 +217,12 @@ module _ {O : Type 0} (G : O → Type 0) (value : ℕ → Option O) (sound : (n 
         let made : Option ℕ → Option ℕ → List ℕ → Condition → List ℕ → Parsed (Policy O) = λ l e os c us. got (grant (record { outcome = o; obligations = os; label = l; reason = e; shape = shape_of sh }) c) us in
         then_holds (mark lab) (λ l _. next (mark rea) (λ e _. next (read_list obligation obligation_bits n ws) (λ os vs. next (p vs) (made l e os)))) (ok_mark lab) (λ l _ fl.
         then_holds (mark rea) (λ e _. next (read_list obligation obligation_bits n ws) (λ os vs. next (p vs) (made l e os))) (ok_mark rea) (λ e _ fm.
-        then_holds (read_list obligation obligation_bits n ws) (λ os vs. next (p vs) (made l e os)) (ok_obligations n ws) (λ os vs fo.
+        then_holds (read_list obligation obligation_bits n ws) (λ os vs. next (p vs) (made l e os)) (read_obligations n ws) (λ os vs fo.
         then_holds (p vs) (made l e os) (hp vs) (λ c us fc.
-        let k : length os ≡ n = fo.1 in
-        let u = fo.2 in
+        let k : length os ≡ n = fo.long in
+        let u = fo.took_words in
         let v = fc.2 in
-        fine (((g, (omega arith, fo.0), fl, fm), fc.0, bound c (omega arith)), omega arith, ap (λ x. 2 + words_for (per_word obligation_bits) x + words_c c + length us) k ∙ omega arith, sheet_if res (grant (record { outcome = o; obligations = os; label = l; reason = e; shape = shape_of sh }) c) tt)))))
+        fine (((g, (omega arith, fo.below), fl, fm), fc.0, bound c (omega arith)), omega arith, ap (λ x. 2 + words_for (per_word obligation_bits) x + words_c c + length us) k ∙ omega arith, sheet_if res (grant (record { outcome = o; obligations = os; label = l; reason = e; shape = shape_of sh }) c) tt)))))
 
     ok_grant : (d : ℕ) (p : List ℕ → Parsed Condition) → ((ws : List ℕ) → Holds (OkC d (length ws)) (p ws)) → (sh n z v : ℕ) (ws : List ℕ) → length ws ≤ m
         → Holds (OkT (suc d) (suc (length ws))) (parse_grant value p sh n z v ws)
@@ -250,14 +230,15 @@ module _ {O : Type 0} (G : O → Type 0) (value : ℕ → Option O) (sound : (n 
         let more : O → ℕ → List ℕ → Parsed (Policy O) = λ o w vs. grant_more value p sh n o (w / 65536) (w % 65536) vs in
         if_holds (leb n most_obligations) 8 (unless (eqb z 0) 8 (outcome_of value (value v) (λ o. another ws (more o)))) (λ few.
         if_holds (eqb z 0) 8 (outcome_of value (value v) (λ o. another ws (more o))) (λ _.
-        outcome_holds (value v) (λ o. another ws (more o)) (sound v) (λ o g.
+        outcome_holds value G (value v) (λ o. another ws (more o)) (sound v) (λ o g.
         another_holds ws (more o) (λ w vs e.
-        weaker (more o w vs) (λ t us h. (h.0, h.1, h.2 ∙ ap suc (sym e), h.3))
+        let long = ap length e in
+        weaker (more o w vs) (λ t us h. (h.0, h.1, h.2 ∙ ap suc (sym long), h.3))
         (ok_grant_more d p hp sh n o (w / 65536) (w % 65536) vs g (leb-true n most_obligations few) (omega arith))))))
 
     module _ (d : ℕ) (p : List ℕ → Parsed (Policy O)) (hp : (ws : List ℕ) → length ws ≤ suc m → Holds (OkT d (length ws)) (p ws)) where
       many_t : (k : ℕ) (ws : List ℕ) → length ws ≤ suc m → Holds (OkTs d (length ws) k) (many pnil pcons p k ws)
-      many_t zero ws room = fine (tt, omega arith, omega arith, omega arith, nil_if res)
+      many_t zero ws room = fine (tt, omega arith, omega arith, omega arith, nil_if O res)
       many_t (suc k) ws room =
           then_holds (p ws) (λ a vs. next (many pnil pcons p k vs) (λ xs us. got (pcons a xs) us)) (hp ws room)
           (λ a vs h. then_holds (many pnil pcons p k vs) (λ xs us. got (pcons a xs) us) (many_t k vs (omega arith))
@@ -274,7 +255,7 @@ module _ {O : Type 0} (G : O → Type 0) (value : ℕ → Option O) (sound : (n 
           → Holds (OkT (suc d) (suc (length ws))) (node_p value res pc p k r ws)
       node_t pc hc zero r ws room =
           if_holds (eqb (r / 65536) 0) 8 (outcome_of value (value (r % 65536)) (λ o. got (permit o) ws)) (λ _.
-          outcome_holds (value (r % 65536)) (λ o. got (permit o) ws) (sound (r % 65536)) (λ o g. fine (g, omega arith, omega arith, sheet_if res (permit o) tt)))
+          outcome_holds value G (value (r % 65536)) (λ o. got (permit o) ws) (sound (r % 65536)) (λ o g. fine (g, omega arith, omega arith, sheet_if res (permit o) tt)))
       node_t pc hc (suc zero) r ws room = if_holds (eqb r 0) 8 (got deny ws) (λ _. fine (tt, omega arith, omega arith, sheet_if res deny tt))
       node_t pc hc (suc (suc zero)) r ws room = ok_grant d pc hc (r / 134217728) (r / 1048576 % 128) (r / 65536 % 16) (r % 65536) ws room
       node_t pc hc (suc (suc (suc zero))) r ws room =
@@ -349,6 +330,7 @@ module _ {O : Type 0} (G : O → Type 0) (value : ℕ → Option O) (sound : (n 
   ok_14 : (ws : List ℕ) → Holds (OkB (length ws)) (parse14 value ws)
   ok_14 ws =
       another_holds ws (λ w vs. unless (leb 12 (kind_of w)) 5 (node14 value (kind_of w - 12) (rest_of w) vs)) (λ w vs e.
+      let long = ap length e in
       if_holds (leb 12 (kind_of w)) 5 (node14 value (kind_of w - 12) (rest_of w) vs) (λ _.
       weaker (node14 value (kind_of w - 12) (rest_of w) vs) (λ b us h. (h.0, h.1, h.2 ∙ omega arith)) (ok_node14 (kind_of w - 12) (rest_of w) vs)))
 
@@ -357,15 +339,15 @@ module _ {O : Type 0} (G : O → Type 0) (value : ℕ → Option O) (sound : (n 
 
   ok_rest : (p : List ℕ → Parsed (ReducedPolicy O)) → ((ws : List ℕ) → Holds (OkB (length ws)) (p ws)) → (r : ℕ) (ws : List ℕ) → Holds (λ x vs. (vs ≡ [] → OkRecord (suc (length ws)) x)) (rest value p r ws)
   ok_rest p hp r ws =
-      then_holds (read_list consulted entry_bits (r % 4096) ws) (λ es vs. next (p vs) (λ b us. got (record { body = b; log = es }) us)) (ok_entries (r % 4096) ws) (λ es vs he.
+      then_holds (read_list consulted entry_bits (r % 4096) ws) (λ es vs. next (p vs) (λ b us. got (record { body = b; log = es }) us)) (read_entries (r % 4096) ws) (λ es vs he.
       then_holds (p vs) (λ b us. got (record { body = b; log = es }) us) (hp vs) (λ b us hb.
-      let n : length es ≡ r % 4096 = he.1 in
-      let u = he.2 in
+      let n : length es ≡ r % 4096 = he.long in
+      let u = he.took_words in
       let v = hb.2 in
       fine (λ none. record {
         form = hb.0;
         deep = hb.1;
-        entries = he.0;
+        entries = he.named;
         few = omega arith;
         long = ap (λ x. 1 + words_for (per_word entry_bits) x + words (as_residual b)) n ∙ omega (arith, ap length none);
       })))
@@ -378,8 +360,9 @@ module _ {O : Type 0} (G : O → Type 0) (value : ℕ → Option O) (sound : (n 
   ok_lead : (ws : List ℕ) → Holds (λ x vs. (vs ≡ [] → OkRecord (length ws) x)) (read_lead value ws)
   ok_lead ws =
       another_holds ws (λ w vs. unless (leb 14 (kind_of w)) 5 (leads value (kind_of w - 14) (rest_of w) vs)) (λ w vs e.
+      let long = ap length e in
       if_holds (leb 14 (kind_of w)) 5 (leads value (kind_of w - 14) (rest_of w) vs) (λ _.
-      weaker (leads value (kind_of w - 14) (rest_of w) vs) (λ x us h none. subst (λ n. OkRecord n x) (sym e) (h none)) (ok_leads (kind_of w - 14) (rest_of w) vs)))
+      weaker (leads value (kind_of w - 14) (rest_of w) vs) (λ x us h none. subst (λ n. OkRecord n x) (sym long) (h none)) (ok_leads (kind_of w - 14) (rest_of w) vs)))
 
   pub ok_record : (ws : List ℕ) → Holds (λ r _. OkRecord (length ws) r) (read_record value ws)
   ok_record ws = if_holds (record_length ws) 1 (whole (read_lead value ws)) (λ _. whole_holds (read_lead value ws) (λ r h. h refl) (ok_lead ws))

@@ -4,8 +4,8 @@ use Rattle.model.specs.Outcome.{product_sets}
 use Rattle.model.specs.Calls.{wrote}
 use Rattle.model.specs.Tight.{pack_sheet, pack_record, unpack_sheet, unpack_record}
 use Rattle.laws.specs.FieldAt.{Narrow}
-use Rattle.laws.proofs.ReadBack as words_back
-use Rattle.laws.specs.Products.{InRange, written_products}
+use Rattle.laws.specs.Products.{InRange}
+use Rattle.laws.proofs.ProductLaws.{written_products}
 use Rattle.laws.proofs.TightTrips.{record_back_and_there, record_there_and_back, sheet_back_and_there, sheet_there_and_back}
 
 -- ---- by sets of products, as the calls go by them

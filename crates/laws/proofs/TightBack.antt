@@ -5,7 +5,7 @@ use Rattle.std.proofs.Math.Option.{Option, none, some}
 use Rattle.model.specs.Facts.{fact_bits}
 use Rattle.model.specs.Outcome.{outcome_bits}
 use Rattle.model.specs.Condition.{Condition}
-use Rattle.model.specs.Decision.{Shape, forbidden, hidden, Permit, Denial, permits, denies}
+use Rattle.model.specs.Decision.{Permit, Denial, permits, denies}
 use Rattle.model.specs.Policy.{Grant, Policy, permit, deny, grant, all, any, or_else, stored, Policies, pnil, pcons}
 use Rattle.model.specs.Writing.{count_bits, mark_bits, shape_bit, count}
 use Rattle.model.specs.Reading.{Parsed, got, next, unless, many, shape_of, outcome_of, as_stored}
@@ -16,6 +16,8 @@ use Rattle.model.specs.Bits.{bits_of, take_bits}
 use Rattle.laws.proofs.BitLaws.{Fits, back_bits, back_run}
 use Rattle.model.specs.Tight.{kind_bits, obligation_count_bits, obligation_tight_bits, optional, each, tight_c, numbers_of, tight, tights, take_optional, take_each, loose_c, denied_in, after8, after12, after13, facts12, obligations12, count12, label12, outcome12, counted12, fields12, obligations8, reason8, label8, outcome8, counted8, shape8, fields8, facts13, count13, reason13, label13, denied13, shape13, fields13, fields_p, loose}
 use Rattle.laws.proofs.TightConditions.{back_c}
+use Rattle.laws.proofs.NodeLaws.{unless_is, shape_back, shape_small, outcome_is}
+use Rattle.laws.proofs.SheetIfLaws.{arms_if_all, arms_if_any, primary_if, fallback_if, first_if, rest_if}
 
 -- ---- one part, and then the rest
 module _ {A : Type 0} where
@@ -44,49 +46,9 @@ module _ {A : Type 0} where
   last_each : (w n : ℕ) (vs bs : List ℕ) (k : List ℕ → List ℕ → Parsed A) → n ≤ 2 ^ w → Below n vs → next (take_each w (length vs) (each w vs ++ bs)) k ≡ k vs bs
   last_each w n vs bs k h b = ap (λ p. next p k) (back_run (replicate (length vs) w) vs bs (fits_each w n vs h b))
 
-unless_is : {A : Type 0} {b : Bool} (n : ℕ) (p : Parsed A) → b ≡ true → unless b n p ≡ p
-unless_is n p e = ap (λ x. unless x n p) e
-
-shape_back : (s : Shape) → shape_of (shape_bit s) ≡ s
-shape_back forbidden = refl
-shape_back hidden = refl
-
-shape_few : (s : Shape) → shape_bit s < 2
-shape_few forbidden = omega arith
-shape_few hidden = omega arith
-
--- ---- a sheet has no stored node
-module _ {O : Type 0} where
-  sheets_if : (res : Bool) (ts : Policies O) → SheetIf res (all ts) → SheetsIf res ts
-  sheets_if true ts s = tt
-  sheets_if false ts s = s
-
-  sheets_if_any : (res : Bool) (ts : Policies O) → SheetIf res (any ts) → SheetsIf res ts
-  sheets_if_any true ts s = tt
-  sheets_if_any false ts s = s
-
-  first_if : (res : Bool) (a b : Policy O) → SheetIf res (or_else a b) → SheetIf res a
-  first_if true a b s = tt
-  first_if false a b s = s.0
-
-  second_if : (res : Bool) (a b : Policy O) → SheetIf res (or_else a b) → SheetIf res b
-  second_if true a b s = tt
-  second_if false a b s = s.1
-
-  head_if : (res : Bool) (t : Policy O) (ts : Policies O) → SheetsIf res (pcons t ts) → SheetIf res t
-  head_if true t ts s = tt
-  head_if false t ts s = s.0
-
-  tail_if : (res : Bool) (t : Policy O) (ts : Policies O) → SheetsIf res (pcons t ts) → SheetsIf res ts
-  tail_if true t ts s = tt
-  tail_if false t ts s = s.1
-
 -- `number` writes an outcome in 16 bits, `value` reads it. G says which outcomes fit; B says what is asked of a grant's condition, and nothing here needs it.
 module _ {O : Type 0} (G : O → Type 0) (B : Condition → Type 0) (number : O → ℕ) (value : ℕ → Option O)
     (small : (o : O) → G o → number o < 65536) (again : (o : O) → G o → value (number o) ≡ some o) where
-  outcome_back : {A : Type 0} (o : O) → G o → (k : O → Parsed A) → outcome_of value (value (number o)) k ≡ k o
-  outcome_back o h k = ap (λ x. outcome_of value x k) (again o h)
-
   kind_then : (res : Bool) (d k : ℕ) (xs bs : List ℕ) → k < 16 → leb 6 k ≡ true → loose value res (suc d) ((bits_of kind_bits k ++ xs) ++ bs) ≡ fields_p value res (λ ds. loose_c d ds) (λ ds. loose value res d ds) (k - 6) (xs ++ bs)
   kind_then res d k xs bs h e =
       step 4 k xs bs (λ k cs. unless (leb 6 k) 5 (fields_p value res (λ ds. loose_c d ds) (λ ds. loose value res d ds) (k - 6) cs)) h
@@ -104,7 +66,7 @@ module _ {O : Type 0} (G : O → Type 0) (B : Condition → Type 0) (number : O 
       let x₂ = optional mark_bits p.label ++ x₃ in
       step obligation_count_bits n (bits_of outcome_bits (number o) ++ x₂) bs (counted12 value) (omega (arith, g.1.0))
       ∙ step outcome_bits (number o) x₂ bs (outcome12 value n) (small o g.0)
-      ∙ outcome_back o g.0 (λ o. next (take_optional mark_bits (x₂ ++ bs)) (label12 value n o))
+      ∙ outcome_is value (λ o. next (take_optional mark_bits (x₂ ++ bs)) (label12 value n o)) (again o g.0)
       ∙ step_optional mark_bits p.label x₃ bs (label12 value n o) g.2
       ∙ step count_bits m x₄ bs (count12 value n o p.label) (omega (arith, g.3.0))
       ∙ step_each obligation_tight_bits 64 p.obligations x₅ bs (obligations12 value o p.label m) (omega arith) g.1.1
@@ -112,7 +74,7 @@ module _ {O : Type 0} (G : O → Type 0) (B : Condition → Type 0) (number : O 
 
   denied_back : {A : Type 0} (den : Option O) → IfThere G den → (k : Option O → Parsed A) → denied_in value (numbers_of number den) k ≡ k den
   denied_back none h k = refl
-  denied_back (some o) h k = outcome_back o h (λ o. k (some o))
+  denied_back (some o) h k = outcome_is value (λ o. k (some o)) (again o h)
 
   pub denied_small : (den : Option O) → IfThere G den → IfThere (λ v. v < 2 ^ outcome_bits) (numbers_of number den)
   denied_small none h = tt
@@ -126,7 +88,7 @@ module _ {O : Type 0} (G : O → Type 0) (B : Condition → Type 0) (number : O 
       let x₃ = bits_of count_bits n ++ x₄ in
       let x₂ = optional mark_bits d.reason ++ x₃ in
       let x₁ = optional mark_bits d.label ++ x₂ in
-      step 1 sh (optional outcome_bits (numbers_of number d.denied) ++ x₁) bs (shape13 value) (shape_few d.shape)
+      step 1 sh (optional outcome_bits (numbers_of number d.denied) ++ x₁) bs (shape13 value) (shape_small d.shape)
       ∙ step_optional outcome_bits (numbers_of number d.denied) x₁ bs (denied13 value sh) (denied_small d.denied g.0)
       ∙ denied_back d.denied g.0 (λ den. next (take_optional mark_bits (x₁ ++ bs)) (label13 value sh den))
       ∙ step_optional mark_bits d.label x₂ bs (label13 value sh d.denied) g.2
@@ -146,11 +108,11 @@ module _ {O : Type 0} (G : O → Type 0) (B : Condition → Type 0) (number : O 
       let x₃ = optional mark_bits g.reason ++ x₄ in
       let x₂ = optional mark_bits g.label ++ x₃ in
       let x₁ = bits_of outcome_bits (number o) ++ x₂ in
-      step 1 sh (bits_of obligation_count_bits n ++ x₁) bs (shape8 value p) (shape_few g.shape)
+      step 1 sh (bits_of obligation_count_bits n ++ x₁) bs (shape8 value p) (shape_small g.shape)
       ∙ step obligation_count_bits n x₁ bs (counted8 value p sh) (omega (arith, f.0.1.0))
       ∙ unless_is 8 (next (take_bits outcome_bits (x₁ ++ bs)) (outcome8 value p sh n)) (le-leb n 64 f.0.1.0)
       ∙ step outcome_bits (number o) x₂ bs (outcome8 value p sh n) (small o f.0.0)
-      ∙ outcome_back o f.0.0 (λ o. next (take_optional mark_bits (x₂ ++ bs)) (label8 value p sh n o))
+      ∙ outcome_is value (λ o. next (take_optional mark_bits (x₂ ++ bs)) (label8 value p sh n o)) (again o f.0.0)
       ∙ step_optional mark_bits g.label x₃ bs (label8 value p sh n o) f.0.2
       ∙ step_optional mark_bits g.reason x₄ bs (reason8 value p sh n o g.label) f.0.3
       ∙ step_each obligation_tight_bits 64 g.obligations x₅ bs (obligations8 value p sh o g.label g.reason) (omega arith) f.0.1.1
@@ -164,7 +126,7 @@ module _ {O : Type 0} (G : O → Type 0) (B : Condition → Type 0) (number : O 
     back_t (permit o) res (suc d) bs h g s =
         kind_then res d 6 (bits_of outcome_bits (number o)) bs (omega arith) refl
         ∙ ap (λ p. next p (λ v cs. outcome_of value (value v) (λ o. got (permit o) cs))) (back_bits outcome_bits (number o) bs (small o g))
-        ∙ outcome_back o g (λ o. got (permit o) bs)
+        ∙ outcome_is value (λ o. got (permit o) bs) (again o g)
     back_t deny res zero bs h g s = let z : ⊥ = omega arith in absurd z
     back_t deny res (suc d) bs h g s = kind_then res d 7 [] bs (omega arith) refl
     back_t (grant g c) res zero bs h f s = let z : ⊥ = omega arith in absurd z
@@ -173,18 +135,18 @@ module _ {O : Type 0} (G : O → Type 0) (B : Condition → Type 0) (number : O 
     back_t (all ts) res (suc d) bs h g s =
         kind_then res d 9 (bits_of count_bits (count ts) ++ tights number ts) bs (omega arith) refl
         ∙ step count_bits (count ts) (tights number ts) bs (λ n cs. next (many pnil pcons (λ ds. loose value res d ds) n cs) (λ ts ds. got (all ts) ds)) (omega (arith, g.0))
-        ∙ ap (λ p. next p (λ ts ds. got (all ts) ds)) (back_ts ts res d bs (omega arith) g.1 (sheets_if res ts s))
+        ∙ ap (λ p. next p (λ ts ds. got (all ts) ds)) (back_ts ts res d bs (omega arith) g.1 (arms_if_all res ts s))
     back_t (any ts) res zero bs h g s = let z : ⊥ = omega arith in absurd z
     back_t (any ts) res (suc d) bs h g s =
         kind_then res d 10 (bits_of count_bits (count ts) ++ tights number ts) bs (omega arith) refl
         ∙ step count_bits (count ts) (tights number ts) bs (λ n cs. next (many pnil pcons (λ ds. loose value res d ds) n cs) (λ ts ds. got (any ts) ds)) (omega (arith, g.0))
-        ∙ ap (λ p. next p (λ ts ds. got (any ts) ds)) (back_ts ts res d bs (omega arith) g.1 (sheets_if_any res ts s))
+        ∙ ap (λ p. next p (λ ts ds. got (any ts) ds)) (back_ts ts res d bs (omega arith) g.1 (arms_if_any res ts s))
     back_t (or_else a b) res zero bs h g s = let z : ⊥ = omega arith in absurd z
     back_t (or_else a b) res (suc d) bs h g s =
         kind_then res d 11 (tight number a ++ tight number b) bs (omega arith) refl
         ∙ ap (λ l. next (loose value res d l) (λ a cs. next (loose value res d cs) (λ b ds. got (or_else a b) ds))) (append_assoc (tight number a) (tight number b) bs)
-        ∙ ap (λ p. next p (λ a cs. next (loose value res d cs) (λ b ds. got (or_else a b) ds))) (back_t a res d (tight number b ++ bs) (omega arith) g.0 (first_if res a b s))
-        ∙ ap (λ p. next p (λ b ds. got (or_else a b) ds)) (back_t b res d bs (omega arith) g.1 (second_if res a b s))
+        ∙ ap (λ p. next p (λ a cs. next (loose value res d cs) (λ b ds. got (or_else a b) ds))) (back_t a res d (tight number b ++ bs) (omega arith) g.0 (primary_if res a b s))
+        ∙ ap (λ p. next p (λ b ds. got (or_else a b) ds)) (back_t b res d bs (omega arith) g.1 (fallback_if res a b s))
     back_t (stored (permits p)) res zero bs h g s = let z : ⊥ = omega arith in absurd z
     back_t (stored (permits p)) false (suc d) bs h g s = absurd s
     back_t (stored (permits p)) true (suc d) bs h g s = kind_then true d 12 (after12 number p) bs (omega arith) refl ∙ ap (as_stored value) (back_12 p bs g)
@@ -196,5 +158,5 @@ module _ {O : Type 0} (G : O → Type 0) (B : Condition → Type 0) (number : O 
     back_ts pnil res d bs h g s = refl
     back_ts (pcons t ts) res d bs h g s =
         ap (λ l. many pnil pcons (λ ds. loose value res d ds) (suc (count ts)) l) (append_assoc (tight number t) (tights number ts) bs)
-        ∙ ap (λ q. next q (λ a cs. next (many pnil pcons (λ ds. loose value res d ds) (count ts) cs) (λ xs ds. got (pcons a xs) ds))) (back_t t res d (tights number ts ++ bs) (omega arith) g.0 (head_if res t ts s))
-        ∙ ap (λ q. next q (λ xs ds. got (pcons t xs) ds)) (back_ts ts res d bs (omega arith) g.1 (tail_if res t ts s))
+        ∙ ap (λ q. next q (λ a cs. next (many pnil pcons (λ ds. loose value res d ds) (count ts) cs) (λ xs ds. got (pcons a xs) ds))) (back_t t res d (tights number ts ++ bs) (omega arith) g.0 (first_if res t ts s))
+        ∙ ap (λ q. next q (λ xs ds. got (pcons t xs) ds)) (back_ts ts res d bs (omega arith) g.1 (rest_if res t ts s))

@@ -17,6 +17,8 @@ use Rattle.model.specs.Bits.{bits_of, run, take_bits, take_run}
 use Rattle.laws.proofs.BitLaws.{Bits, Fits, Same, same_bits, SameRun, same_run}
 use Rattle.model.specs.Tight.{kind_bits, obligation_count_bits, obligation_tight_bits, optional, each, tight_c, numbers_of, tight_d, tight, tights, take_optional, take_each, loose_c, denied_in, after12, after13, facts12, obligations12, count12, label12, outcome12, counted12, fields12, obligations8, reason8, label8, outcome8, counted8, shape8, fields8, facts13, count13, reason13, label13, denied13, shape13, fields13, fields_p, loose}
 use Rattle.laws.proofs.TightConditions.{read_c_lem}
+use Rattle.laws.proofs.NodeLaws.{shape_again, outcome_holds as outcome_of_holds, both_there}
+use Rattle.laws.proofs.SheetIfLaws.{sheet_if, nil_if, cons_if, all_if, any_if, else_if}
 
 -- Parts one after the other.
 pub glue : (x y cs : List ℕ) {zs bs : List ℕ} → y ++ cs ≡ zs → x ++ zs ≡ bs → (x ++ y) ++ cs ≡ bs
@@ -66,19 +68,10 @@ read_each w n bs h = each_at (take_run (replicate n w) bs) (same_run (replicate 
         let l = fits_length w n vs s.fits in
         fine (record { written = ap (λ m. run (replicate m w) vs ++ cs) l ∙ s.written; below = fits_below w n vs s.fits; many_as = l; bits = s.bits })
 
-shape_of_lem : (n : ℕ) → n < 2 → shape_bit (shape_of n) ≡ n
-shape_of_lem zero h = refl
-shape_of_lem (suc zero) h = refl
-shape_of_lem (suc (suc n)) h = let z : ⊥ = omega arith in absurd z
-
 module _ {O : Type 0} (G : O → Type 0) (number : O → ℕ) (value : ℕ → Option O) (sound : (v : ℕ) → IfThere G (value v)) (only : (v : ℕ) → IfThere (λ o. number o ≡ v) (value v)) where
   module _ {A : Type 0} {Q : A → List ℕ → Type 0} where
-    outcome_at_lem : (v : ℕ) (x : Option O) → IfThere G x → IfThere (λ o. number o ≡ v) x → (k : O → Parsed A) → ((o : O) → G o → number o ≡ v → Holds Q (k o)) → Holds Q (outcome_of value x k)
-    outcome_at_lem v none g h k f = nothing
-    outcome_at_lem v (some o) g h k f = f o g h
-
     outcome_holds : (v : ℕ) (k : O → Parsed A) → ((o : O) → G o → number o ≡ v → Holds Q (k o)) → Holds Q (outcome_of value (value v) k)
-    outcome_holds v k f = outcome_at_lem v (value v) (sound v) (only v) k f
+    outcome_holds v k f = outcome_of_holds value (λ o. G o × (number o ≡ v)) (value v) k (both_there G (λ o. number o ≡ v) (value v) (sound v) (only v)) (λ o h. f o h.0 h.1)
 
     denied_holds : (here : Option ℕ) (k : Option O → Parsed A) → ((den : Option O) → IfThere G den → numbers_of number den ≡ here → Holds Q (k den)) → Holds Q (denied_in value here k)
     denied_holds none k f = f none tt refl
@@ -155,7 +148,7 @@ module _ {O : Type 0} (G : O → Type 0) (number : O → ℕ) (value : ℕ → O
             s₄.written)
             s₃.written)
             (ap (λ x. optional outcome_bits x ++ b₂) ed ∙ s₂.written))
-            (ap (λ x. bits_of 1 x ++ b₁) (shape_of_lem sh s₁.fits) ∙ s₁.written);
+            (ap (λ x. bits_of 1 x ++ b₁) (shape_again sh s₁.fits) ∙ s₁.written);
         form = (gd, (omega arith, s₆.below), s₃.fits, s₄.fits);
         bits = s₆.bits;
         kind = refl;
@@ -176,30 +169,6 @@ module _ {O : Type 0} (G : O → Type 0) (number : O → ℕ) (value : ℕ → O
     bits : Bits cs
     allowed : SheetsIf res ts
     many_as : count ts ≡ k
-
-  free : (res : Bool) (t : Policy O) → SheetIf false t → SheetIf res t
-  free true t s = tt
-  free false t s = s
-
-  if_all : (res : Bool) (ts : Policies O) → SheetsIf res ts → SheetIf res (all ts)
-  if_all true ts s = tt
-  if_all false ts s = s
-
-  if_any_lem : (res : Bool) (ts : Policies O) → SheetsIf res ts → SheetIf res (any ts)
-  if_any_lem true ts s = tt
-  if_any_lem false ts s = s
-
-  if_else : (res : Bool) (a b : Policy O) → SheetIf res a → SheetIf res b → SheetIf res (or_else a b)
-  if_else true a b s t = tt
-  if_else false a b s t = (s, t)
-
-  if_nil : (res : Bool) → SheetsIf {O = O} res pnil
-  if_nil true = tt
-  if_nil false = tt
-
-  if_cons : (res : Bool) (t : Policy O) (ts : Policies O) → SheetIf res t → SheetsIf res ts → SheetsIf res (pcons t ts)
-  if_cons true t ts s u = tt
-  if_cons false t ts s u = (s, u)
 
   read_8 : (res : Bool) (d : ℕ) (bs : List ℕ) → Bits bs → Holds (ReadT res (suc d) (bits_of kind_bits 8 ++ bs)) (fields8 value (λ ds. loose_c d ds) bs)
   read_8 res d bs h =
@@ -235,17 +204,17 @@ module _ {O : Type 0} (G : O → Type 0) (number : O → ℕ) (value : ℕ → O
             s₄.written)
             (ap (λ x. bits_of outcome_bits x ++ b₃) eo ∙ s₃.written))
             (ap (λ x. bits_of obligation_count_bits x ++ b₂) e ∙ s₂.written))
-            (ap (λ x. bits_of 1 x ++ b₁) (shape_of_lem sh s₁.fits) ∙ s₁.written))
+            (ap (λ x. bits_of 1 x ++ b₁) (shape_again sh s₁.fits) ∙ s₁.written))
             refl;
         form = ((go, (omega arith, s₆.below), s₄.fits, s₅.fits), s₇.form, tt);
         deep = omega arith;
         bits = s₇.bits;
-        allowed = free res (grant (record { outcome = o; obligations = os; label = l; reason = m; shape = shape_of sh }) c) tt;
+        allowed = sheet_if res (grant (record { outcome = o; obligations = os; label = l; reason = m; shape = shape_of sh }) c) tt;
       }))))))))))
 
   module _ (res : Bool) (d : ℕ) (p : List ℕ → Parsed (Policy O)) (hp : (us : List ℕ) → Bits us → Holds (ReadT res d us) (p us)) where
     read_many : (k : ℕ) (us : List ℕ) → Bits us → Holds (ReadTs res d k us) (many pnil pcons p k us)
-    read_many zero us h = fine (record { written = refl; form = tt; deep = omega arith; bits = h; allowed = if_nil res; many_as = refl })
+    read_many zero us h = fine (record { written = refl; form = tt; deep = omega arith; bits = h; allowed = nil_if O res; many_as = refl })
     read_many (suc k) us h =
         then_holds (p us) (λ a vs. next (many pnil pcons p k vs) (λ xs ts. got (pcons a xs) ts)) (hp us h) (λ a vs s.
         then_holds (many pnil pcons p k vs) (λ xs ts. got (pcons a xs) ts) (read_many k vs s.bits) (λ xs ts t.
@@ -256,7 +225,7 @@ module _ {O : Type 0} (G : O → Type 0) (number : O → ℕ) (value : ℕ → O
           form = (s.form, t.form);
           deep = omega arith;
           bits = t.bits;
-          allowed = if_cons res a xs s.allowed t.allowed;
+          allowed = cons_if res a xs s.allowed t.allowed;
           many_as = ap suc t.many_as;
         })))
 
@@ -306,11 +275,11 @@ module _ {O : Type 0} (G : O → Type 0) (number : O → ℕ) (value : ℕ → O
   read_node res d p hp zero us h =
       then_holds (take_bits outcome_bits us) (λ v cs. outcome_of value (value v) (λ o. got (permit o) cs)) (same_bits outcome_bits us h) (λ v cs s.
       outcome_holds v (λ o. got (permit o) cs) (λ o go eo.
-      fine (record { written = glue (bits_of kind_bits 6) (bits_of outcome_bits (number o)) cs (ap (λ x. bits_of outcome_bits x ++ cs) eo ∙ s.written) refl; form = go; deep = omega arith; bits = s.bits; allowed = free res (permit o) tt })))
-  read_node res d p hp (suc zero) us h = fine (record { written = refl; form = tt; deep = omega arith; bits = h; allowed = free res deny tt })
+      fine (record { written = glue (bits_of kind_bits 6) (bits_of outcome_bits (number o)) cs (ap (λ x. bits_of outcome_bits x ++ cs) eo ∙ s.written) refl; form = go; deep = omega arith; bits = s.bits; allowed = sheet_if res (permit o) tt })))
+  read_node res d p hp (suc zero) us h = fine (record { written = refl; form = tt; deep = omega arith; bits = h; allowed = sheet_if res deny tt })
   read_node res d p hp (suc (suc zero)) us h = read_8 res d us h
-  read_node res d p hp (suc (suc (suc zero))) us h = list_read_lem res d p hp all 9 us (λ xs. refl) (λ xs. refl) (λ xs a b. (a, b)) (if_all res) h
-  read_node res d p hp (suc (suc (suc (suc zero)))) us h = list_read_lem res d p hp any 10 us (λ xs. refl) (λ xs. refl) (λ xs a b. (a, b)) (if_any_lem res) h
+  read_node res d p hp (suc (suc (suc zero))) us h = list_read_lem res d p hp all 9 us (λ xs. refl) (λ xs. refl) (λ xs a b. (a, b)) (all_if res) h
+  read_node res d p hp (suc (suc (suc (suc zero)))) us h = list_read_lem res d p hp any 10 us (λ xs. refl) (λ xs. refl) (λ xs a b. (a, b)) (any_if res) h
   read_node res d p hp (suc (suc (suc (suc (suc zero))))) us h =
       then_holds (p us) (λ a cs. next (p cs) (λ b ds. got (or_else a b) ds)) (hp us h) (λ a cs s.
       then_holds (p cs) (λ b ds. got (or_else a b) ds) (hp cs s.bits) (λ b ds t.
@@ -321,7 +290,7 @@ module _ {O : Type 0} (G : O → Type 0) (number : O → ℕ) (value : ℕ → O
         form = (s.form, t.form);
         deep = omega arith;
         bits = t.bits;
-        allowed = if_else res a b s.allowed t.allowed;
+        allowed = else_if res a b s.allowed t.allowed;
       })))
   read_node res d p hp (suc (suc (suc (suc (suc (suc zero)))))) us h = stored_if res d 12 us (fields12 value us) (read_12 us h)
   read_node res d p hp (suc (suc (suc (suc (suc (suc (suc zero))))))) us h = stored_if res d 13 us (fields13 value us) (read_13 us h)

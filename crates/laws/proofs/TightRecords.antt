@@ -1,5 +1,5 @@
 -- Trees and records in the tight form: they are written in bits, and take at most 32 bits a word. Records are read back, and what was read is written again.
-use Rattle.std.specs.Prelude.{◌≡◌, refl, Bool, true, List, [], ◌∷◌, ◌++◌, ℕ, zero, suc, ◌+◌, ◌-◌, ◌*◌, ◌^◌, ◌≤◌, ◌<◌, leb, length}
+use Rattle.std.specs.Prelude.{◌≡◌, refl, true, List, [], ◌∷◌, ◌++◌, ℕ, zero, suc, ◌+◌, ◌-◌, ◌*◌, ◌^◌, ◌≤◌, ◌<◌, leb, length}
 use Rattle.std.proofs.Common.{◌∙◌, ap, append_assoc, mul-suc, arith, leb-true, length-append}
 use Rattle.std.proofs.Math.Option.{Option, none, some}
 use Rattle.model.specs.Facts.{fact_bits}
@@ -23,6 +23,7 @@ use Rattle.laws.proofs.ReadForm.{Named, seen_field}
 use Rattle.laws.proofs.BitLaws.{Bits, bits_of_lem, bits_append, length_bits_lem, same_bits}
 use Rattle.laws.proofs.TightBack.{step, back_12, back_13, back_t}
 use Rattle.laws.proofs.TightRead.{glue, read_t, after, ReadD, read_12, read_13}
+use Rattle.laws.proofs.NodeLaws.{kind_small}
 
 -- ---- a tree of good form is written in bits
 pub record InBits (l : List ℕ) : Type 0 where
@@ -260,18 +261,11 @@ read_e (suc n) bs h =
       bits = e.bits;
     }))))
 
-unless_is : {A : Type 0} {b : Bool} (n : ℕ) (p : Parsed A) → b ≡ true → unless b n p ≡ p
-unless_is n p e = ap (λ x. unless x n p) e
-
 module _ {O : Type 0} (G : O → Type 0) (B : Condition → Type 0) (number : O → ℕ) (value : ℕ → Option O)
     (small : (o : O) → G o → number o < 65536) (again : (o : O) → G o → value (number o) ≡ some o) where
-  kind_small : (b : ReducedPolicy O) → lead_kind number b < 16
-  kind_small (resolved d) = omega arith
-  kind_small (pending t) = omega arith
-
   pub bits_r : (n : ℕ) → n < 65536 → (r : Record O) → length r.log < 4096 → Named r.log → FormOf G B Countable (tree r) → InBits (tight_r number n r)
   bits_r n h r few f g =
-      infix_bits (bits_of 4 (lead_kind number r.body)) _ (one_field 4 (lead_kind number r.body) (kind_small r.body))
+      infix_bits (bits_of 4 (lead_kind number r.body)) _ (one_field 4 (lead_kind number r.body) (kind_small number r.body))
       (infix_bits (bits_of 16 n) _ (one_field 16 n h)
       (infix_bits (bits_of 12 (length r.log)) _ (one_field 12 (length r.log) few)
       (infix_bits (tight_e r.log) (tight number (tree r)) (bits_e r.log f) (bits_t G B number small (tree r) g))))

@@ -3,11 +3,11 @@
 use Rattle.std.specs.Prelude.{◌≡◌, refl, Bool, true, false, ◌&&◌, List, [], ◌∷◌, ◌++◌, ℕ, zero, suc, ◌*◌, ◌≤◌, ◌<◌, eqb, ltb, leb, length, replicate}
 use Rattle.std.proofs.Common.{sym, ◌∙◌, ap, ap₂, subst, arith, leb-true, le-leb, ltb-true, lt-ltb, eqb-true}
 use Rattle.std.proofs.lemmas.List.{length-replicate}
+use Rattle.std.proofs.lemmas.Bool.{and_parts, and_from}
 use Rattle.model.specs.Fields.{words_for}
 use Rattle.model.specs.Outcome.{Outcomes}
 use Rattle.model.specs.Condition.{Condition}
-use Rattle.model.specs.Decision.{permits, denies}
-use Rattle.model.specs.Policy.{Policy, permit, deny, grant, all, any, or_else, stored}
+use Rattle.model.specs.Policy.{Policy}
 use Rattle.model.specs.Record.{Record, tree}
 use Rattle.model.specs.Writing.{encode, encode_r, numbered}
 use Rattle.model.specs.Reading.{Parsed, refuse, got, unless, whole, read_lead, read_sheet, read_record, sheet_number, levels, sheet_words, record_words}
@@ -15,13 +15,13 @@ use Rattle.model.specs.Calls.{Answer, refusal, wrote, on_read, unless_long}
 use Rattle.model.specs.Bits.{bytes_of, run_of}
 use Rattle.model.specs.Tight.{tight, tight_r, loose, UnderNumber, loose_r, zeros, filled, tight_bytes, unless_full, give_bytes, give_words, pack_sheet, pack_record, unpack_sheet, unpack_record}
 use Rattle.laws.specs.FieldAt.{Narrow}
-use Rattle.laws.proofs.FieldLaws.{Holds}
+use Rattle.laws.proofs.FieldLaws.{Holds, weaker}
 use Rattle.laws.proofs.WordLaws.{length_packed}
 use Rattle.laws.specs.Size.{IsSheet, words}
-use Rattle.laws.proofs.Lengths.{length_encode, length_numbered}
+use Rattle.laws.proofs.Lengths.{length_encode, length_numbered, some_words}
 use Rattle.laws.specs.Form.{Countable, FewRepeats, FormOf, Few, Free, depth}
 use Rattle.laws.proofs.ReadForm.{Named, OkSheet, ok_sheet, OkRecord, ok_record, sheet_form}
-use Rattle.laws.proofs.ReadBack.{both_is, back_sheet, back_number}
+use Rattle.laws.proofs.ReadBack.{back_sheet, back_number}
 use Rattle.laws.proofs.ReadBack as words_back
 use Rattle.laws.proofs.Canon.{same_sheet_lem, same_record}
 use Rattle.laws.specs.Products.{Written}
@@ -35,17 +35,9 @@ all_zeros : (k : ℕ) → zeros (replicate k 0) ≡ true
 all_zeros zero = refl
 all_zeros (suc k) = all_zeros k
 
-both_left : (a b : Bool) → (a && b) ≡ true → a ≡ true
-both_left true b t = refl
-both_left false b t = t
-
-both_right : (a b : Bool) → (a && b) ≡ true → b ≡ true
-both_right true b t = t
-both_right false b t = cc
-
 zeros_are : (bs : List ℕ) → zeros bs ≡ true → bs ≡ replicate (length bs) 0
 zeros_are [] e = refl
-zeros_are (b ∷ bs) e = ap₂ (λ x l. x ∷ l) (eqb-true b 0 (both_left (eqb b 0) (zeros bs) e)) (zeros_are bs (both_right (eqb b 0) (zeros bs) e))
+zeros_are (b ∷ bs) e = ap₂ (λ x l. x ∷ l) (eqb-true b 0 (and_parts (eqb b 0) (zeros bs) e).0) (zeros_are bs (and_parts (eqb b 0) (zeros bs) e).1)
 
 -- What is read back from a run, whatever follows, is read back from its bytes.
 run_again : {A : Type 0} (read : List ℕ → Parsed A) (a : A) (bs : List ℕ) → Bits bs → ((cs : List ℕ) → read (bs ++ cs) ≡ got a cs) → filled (read (run_of (bytes_of bs))) ≡ got a []
@@ -55,7 +47,7 @@ run_again read a bs h e =
     let l = length-replicate {A = ℕ} k 0 in
     ap (λ us. filled (read us)) (back_bytes bs h)
     ∙ ap filled (e (replicate k 0))
-    ∙ ap (λ b. unless b 20 (got a [])) (both_is (ltb (length (replicate k 0)) 8) (zeros (replicate k 0)) (lt-ltb (length (replicate k 0)) 8 (omega (arith, l, few))) (all_zeros k))
+    ∙ ap (λ b. unless b 20 (got a [])) (and_from (ltb (length (replicate k 0)) 8) (zeros (replicate k 0)) (lt-ltb (length (replicate k 0)) 8 (omega (arith, l, few))) (all_zeros k))
 
 -- Bytes from which something is read that is written again as the same bits are its bytes.
 bytes_again : {A : Type 0} (enc : A → List ℕ) (cs : List ℕ) (a : A) (p : Parsed A) → Narrow 8 cs → Holds (λ x us. enc x ++ us ≡ run_of cs) p → filled p ≡ got a [] → bytes_of (enc a) ≡ cs
@@ -65,8 +57,8 @@ bytes_again enc cs a (got u us) w h e = filler_at (ltb (length us) 8 && zeros us
     filler_at : (b : Bool) → (ltb (length us) 8 && zeros us) ≡ b → unless b 20 (got u []) ≡ got a [] → bytes_of (enc a) ≡ cs
     filler_at false eb k = cc
     filler_at true eb k =
-        let few : length us < 8 = ltb-true (length us) 8 (both_left (ltb (length us) 8) (zeros us) eb) in
-        let z : us ≡ replicate (length us) 0 = zeros_are us (both_right (ltb (length us) 8) (zeros us) eb) in
+        let few : length us < 8 = ltb-true (length us) 8 (and_parts (ltb (length us) 8) (zeros us) eb).0 in
+        let z : us ≡ replicate (length us) 0 = zeros_are us (and_parts (ltb (length us) 8) (zeros us) eb).1 in
         let is : u ≡ a = cc in
         ap (λ x. bytes_of (enc x)) (sym is)
         ∙ same_bytes cs (enc u) (length us) w few (sym h.it ∙ ap (λ l. enc u ++ l) z)
@@ -96,10 +88,6 @@ read_from {Q = Q} a (got u us) h e = by (ltb (length us) 8 && zeros us) e
     by false k = absurd (not_got k)
     by true k = subst Q (let is : u ≡ a = cc in is) h.it
 
-weaken : {A : Type 0} {Q : A → List ℕ → Type 0} {R : A → List ℕ → Type 0} (p : Parsed A) → ((a : A) (us : List ℕ) → Q a us → R a us) → Holds Q p → Holds R p
-weaken (refuse n) f h = record { it = tt }
-weaken (got a us) f h = record { it = f a us h.it }
-
 -- ---- bytes: four a word are enough
 pub bytes_few : (bs : List ℕ) (n : ℕ) → length bs ≤ 32 * n → length (bytes_of bs) ≤ 4 * n
 bytes_few bs n h =
@@ -113,17 +101,6 @@ gave fits false given e h = absurd (not_wrote (sym (ap (λ x. unless_full x give
 
 gives : (fits : Bool) (given : List ℕ) → fits ≡ true → unless_full fits given ≡ wrote given
 gives fits given e = ap (λ b. unless_full b given) e
-
-module _ {O : Type 0} where
-  some_words : (t : Policy O) → 1 ≤ words t
-  some_words (permit o) = omega arith
-  some_words deny = omega arith
-  some_words (grant g c) = omega arith
-  some_words (all ts) = omega arith
-  some_words (any ts) = omega arith
-  some_words (or_else a b) = omega arith
-  some_words (stored (permits p)) = omega arith
-  some_words (stored (denies d)) = omega arith
 
 long_passes : (b : Bool) (a : Answer) → b ≡ true → unless_long b a ≡ a
 long_passes b a e = ap (λ x. unless_long x a) e
@@ -197,7 +174,7 @@ module _ (L : Outcomes) (G : L.O → Type 0) (codec : Written L G) where
       ∙ ap (λ l. on_read (filled (loose L.value false levels (run_of l))) (λ u. give_words sheet_words q (encode L.number u))) (sym given.1)
       ∙ ap (λ p. on_read p (λ u. give_words sheet_words q (encode L.number u))) (sheet_bytes t Few form ok.1 ok.3)
       ∙ ap (give_words sheet_words q) same
-      ∙ gives (leb (length ws) sheet_words && leb (length ws) q) ws (both_is (leb (length ws) sheet_words) (leb (length ws) q) (le-leb (length ws) sheet_words (omega arith)) (le-leb (length ws) q room))
+      ∙ gives (leb (length ws) sheet_words && leb (length ws) q) ws (and_from (leb (length ws) sheet_words) (leb (length ws) q) (le-leb (length ws) sheet_words (omega arith)) (le-leb (length ws) q room))
 
   pub sheet_back_and_there : (bs : List ℕ) (q r : ℕ) (ws : List ℕ) → Narrow 8 bs → unpack_sheet L bs q ≡ wrote ws → length bs ≤ r → pack_sheet L ws r ≡ wrote bs
   sheet_back_and_there bs q r ws narrow e room =
@@ -206,12 +183,12 @@ module _ (L : Outcomes) (G : L.O → Type 0) (codec : Written L G) where
       let t = read.it in
       let is : filled p ≡ got t [] = read.read ∙ ap (λ l. got t l) (whole_filled p t read.left read.read) in
       let held = read_t G L.number L.value codec.sound codec.only false 32 (run_of bs) (bits_run bs narrow) in
-      let bytes : bytes_of (tight_t t) ≡ bs = bytes_again tight_t bs t p narrow (weaken p (λ x us s. s.written) held) is in
-      let form : FormOf G Free Countable t = read_from t p (weaken p (λ x us s. s.form) held) is in
-      let deep : depth t ≤ 32 = read_from t p (weaken p (λ x us s. s.deep) held) is in
-      let sheet : IsSheet t = read_from t p (weaken p (λ x us s. s.allowed) held) is in
+      let bytes : bytes_of (tight_t t) ≡ bs = bytes_again tight_t bs t p narrow (weaker p (λ x us s. s.written) held) is in
+      let form : FormOf G Free Countable t = read_from t p (weaker p (λ x us s. s.form) held) is in
+      let deep : depth t ≤ 32 = read_from t p (weaker p (λ x us s. s.deep) held) is in
+      let sheet : IsSheet t = read_from t p (weaker p (λ x us s. s.allowed) held) is in
       let given = gave (leb (length (encode L.number t)) sheet_words && leb (length (encode L.number t)) q) _ (encode L.number t) refl read.answered in
-      let most : length (encode L.number t) ≤ 4096 = leb-true (length (encode L.number t)) 4096 (both_left (leb (length (encode L.number t)) sheet_words) (leb (length (encode L.number t)) q) given.0) in
+      let most : length (encode L.number t) ≤ 4096 = leb-true (length (encode L.number t)) 4096 (and_parts (leb (length (encode L.number t)) sheet_words) (leb (length (encode L.number t)) q) given.0).0 in
       let back = back_sheet G Free L.number L.value codec.small codec.again t sheet form deep most (omega (arith, length_encode L.number t, some_words t)) in
       ap (λ l. on_read (read_sheet L.value l) (λ u. give_bytes r (tight_t u))) (sym given.1)
       ∙ ap (λ p. on_read p (λ u. give_bytes r (tight_t u))) back
@@ -270,7 +247,7 @@ module _ (L : Outcomes) (G : L.O → Type 0) (codec : Written L G) where
       ∙ ap (λ l. on_read (filled (loose_r L.value (run_of l))) (λ u. give_words record_words q (numbered u.sheet (encode_r L.number u.held)))) (sym given.1)
       ∙ ap (λ p. on_read p (λ u. give_words record_words q (numbered u.sheet (encode_r L.number u.held)))) back
       ∙ ap (give_words record_words q) same
-      ∙ gives (leb (length ws) record_words && leb (length ws) q) ws (both_is (leb (length ws) record_words) (leb (length ws) q) (le-leb (length ws) record_words most) (le-leb (length ws) q room))
+      ∙ gives (leb (length ws) record_words && leb (length ws) q) ws (and_from (leb (length ws) record_words) (leb (length ws) q) (le-leb (length ws) record_words most) (le-leb (length ws) q room))
 
   pub record_back_and_there : (bs : List ℕ) (q r : ℕ) (ws : List ℕ) → Narrow 8 bs → unpack_record L bs q ≡ wrote ws → length bs ≤ r → pack_record L ws r ≡ wrote bs
   record_back_and_there bs q r ws narrow e room =
@@ -281,14 +258,14 @@ module _ (L : Outcomes) (G : L.O → Type 0) (codec : Written L G) where
       let n = u.sheet in
       let is : filled p ≡ got u [] = read.read ∙ ap (λ l. got u l) (whole_filled p u read.left read.read) in
       let held = read_r G L.number L.value codec.sound codec.only (run_of bs) (bits_run bs narrow) in
-      let bytes : bytes_of (tight_n u) ≡ bs = bytes_again tight_n bs u p narrow (weaken p (λ x us s. s.written) held) is in
-      let form : FormOf G Free Countable (tree u.held) = read_from {Q = λ x. FormOf G Free Countable (tree x.held)} u p (weaken p (λ x us s. s.form) held) is in
-      let deep : depth (tree u.held) ≤ 32 = read_from {Q = λ x. depth (tree x.held) ≤ 32} u p (weaken p (λ x us s. s.deep) held) is in
-      let fits : n < 65536 = read_from {Q = λ x. x.sheet < 65536} u p (weaken p (λ x us s. s.number_fits) held) is in
-      let named : Named u.held.log = read_from {Q = λ x. Named x.held.log} u p (weaken p (λ x us s. s.named) held) is in
-      let few : length u.held.log < 4096 = read_from {Q = λ x. length x.held.log < 4096} u p (weaken p (λ x us s. s.few) held) is in
+      let bytes : bytes_of (tight_n u) ≡ bs = bytes_again tight_n bs u p narrow (weaker p (λ x us s. s.written) held) is in
+      let form : FormOf G Free Countable (tree u.held) = read_from {Q = λ x. FormOf G Free Countable (tree x.held)} u p (weaker p (λ x us s. s.form) held) is in
+      let deep : depth (tree u.held) ≤ 32 = read_from {Q = λ x. depth (tree x.held) ≤ 32} u p (weaker p (λ x us s. s.deep) held) is in
+      let fits : n < 65536 = read_from {Q = λ x. x.sheet < 65536} u p (weaker p (λ x us s. s.number_fits) held) is in
+      let named : Named u.held.log = read_from {Q = λ x. Named x.held.log} u p (weaker p (λ x us s. s.named) held) is in
+      let few : length u.held.log < 4096 = read_from {Q = λ x. length x.held.log < 4096} u p (weaker p (λ x us s. s.few) held) is in
       let given = gave (leb (length (words_of u)) record_words && leb (length (words_of u)) q) _ (words_of u) refl read.answered in
-      let most : length (words_of u) ≤ 16384 = leb-true (length (words_of u)) 16384 (both_left (leb (length (words_of u)) record_words) (leb (length (words_of u)) q) given.0) in
+      let most : length (words_of u) ≤ 16384 = leb-true (length (words_of u)) 16384 (and_parts (leb (length (words_of u)) record_words) (leb (length (words_of u)) q) given.0).0 in
       let long : length (encode_r L.number u.held) ≤ 16384 = subst (λ m. m ≤ 16384) (length_numbered n (encode_r L.number u.held)) most in
       let back = words_back.back_r G Free L.number L.value codec.small codec.again n fits u.held few named form deep long in
       let number : sheet_number (words_of u) ≡ n = back_number G Free L.number L.value codec.small codec.again n fits u.held in

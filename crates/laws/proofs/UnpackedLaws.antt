@@ -69,6 +69,3 @@ packed_fields bs = ap (packed 2 4 (length bs)) (table_unpacked bs) ∙ packed_un
 
 pub length_fields : (bs : List ℕ) → length (table_fields bs) ≡ length bs * 4
 length_fields bs = ap length (table_unpacked bs) ∙ length_unpacked 2 4 bs
-
-pub narrow_fields : (bs : List ℕ) → Narrow 8 bs → Narrow 2 (table_fields bs)
-narrow_fields bs h = rw table_unpacked (narrow_unpacked 2 4 bs h)

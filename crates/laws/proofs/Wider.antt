@@ -6,11 +6,11 @@ use Rattle.model.specs.Fields.{bits}
 use Rattle.model.specs.Outcome.{outcome_bits, below, product_sets}
 use Rattle.model.specs.Condition.{Condition}
 use Rattle.model.specs.Decision.{Decision}
-use Rattle.model.specs.Policy.{Policy, permit, deny, all, any, or_else, stored, Policies, pnil, pcons}
+use Rattle.model.specs.Policy.{Policy, permit, deny, all, any, or_else, stored, pnil, pcons}
 use Rattle.model.specs.Partial.{ReducedPolicy, resolved, pending}
 use Rattle.model.specs.Writing.{count_bits, mark_bits, entry_bits}
-use Rattle.model.specs.Reading.{Parsed, refuse, got, next, unless, whole, read_list, consulted, few_obligations, kind_of, rest_of, plain, counted, many, read_condition, outcome_of, denied_of, grant_more, grant_at, more12, at12, more13, at13, as_stored, in_residual, permit_at, node_p, last_kind, levels, sheet_length, record_length, read_policy, read_sheet, as_resolved, node14, parse14, parse15, rest, leads, read_lead, read_record}
-use Rattle.laws.proofs.Deeper.{Follows, refused, equal, follows_unless, another_follows, follows_next, follows_many}
+use Rattle.model.specs.Reading.{Parsed, refuse, got, unless, whole, read_list, consulted, few_obligations, kind_of, rest_of, plain, read_condition, outcome_of, denied_of, grant_more, grant_at, more12, at12, more13, at13, as_stored, in_residual, permit_at, node_p, last_kind, levels, sheet_length, record_length, read_policy, read_sheet, as_resolved, node14, parse14, parse15, rest, leads, read_lead, read_record}
+use Rattle.laws.proofs.Deeper.{Follows, refused, equal, follows_unless, another_follows, follows_next, follows_list}
 
 follows_whole : {A : Type 0} (p q : Parsed A) → Follows p q → Follows (whole p) (whole q)
 follows_whole (refuse n) q h = refused
@@ -62,17 +62,12 @@ module _ {O : Type 0} (value wide : ℕ → Option O) (widens : (n : ℕ) → Wi
         follows_unless (few_obligations n) 8 _ _ (follows_unless (eqb (bits outcome_bits 4 r) 0) 8 _ _
         (outcome_follows (r % 2 ^ outcome_bits) _ _ (λ o. another_follows ws _ _ (λ w vs. equal (grant_more value pc sh n o (w / 2 ^ (1 + mark_bits)) (w % 2 ^ (1 + mark_bits)) vs)))))
 
-    list_p : (make : Policies O → Policy O) (r : ℕ) (ws : List ℕ) → Follows (counted r (next (many pnil pcons p r ws) (λ ts vs. got (make ts) vs))) (counted r (next (many pnil pcons q r ws) (λ ts vs. got (make ts) vs)))
-    list_p make r ws =
-        follows_unless (ltb r (2 ^ count_bits)) 8 (next (many pnil pcons p r ws) (λ ts vs. got (make ts) vs)) (next (many pnil pcons q r ws) (λ ts vs. got (make ts) vs))
-        (follows_next (many pnil pcons p r ws) (many pnil pcons q r ws) (λ ts vs. got (make ts) vs) (λ ts vs. got (make ts) vs) (follows_many pnil pcons p q f r ws) (λ ts vs. equal (got (make ts) vs)))
-
     node_p_lem : (res : Bool) (k r : ℕ) (ws : List ℕ) → Follows (node_p value res pc p k r ws) (node_p wide res pc q k r ws)
     node_p_lem res zero r ws = permit_at_lem r ws
     node_p_lem res (suc zero) r ws = equal (plain r (got deny ws))
     node_p_lem res (suc (suc zero)) r ws = grant_at_lem r ws
-    node_p_lem res (suc (suc (suc zero))) r ws = list_p all r ws
-    node_p_lem res (suc (suc (suc (suc zero)))) r ws = list_p any r ws
+    node_p_lem res (suc (suc (suc zero))) r ws = follows_list pnil pcons p q f all r ws
+    node_p_lem res (suc (suc (suc (suc zero)))) r ws = follows_list pnil pcons p q f any r ws
     node_p_lem res (suc (suc (suc (suc (suc zero))))) r ws =
         follows_unless (eqb r 0) 8 _ _ (follows_next (p ws) (q ws) _ _ (f ws) (λ a vs. follows_next (p vs) (q vs) _ _ (f vs) (λ b us. equal (got (or_else a b) us))))
     node_p_lem res (suc (suc (suc (suc (suc (suc zero)))))) r ws = stored_p res _ _ (at_12 r ws)

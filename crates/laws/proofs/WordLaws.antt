@@ -42,6 +42,10 @@ narrow_drop width zero vs h = h
 narrow_drop width (suc n) [] h = h
 narrow_drop width (suc n) (v ∷ vs) h = narrow_drop width n vs h.1
 
+pub narrow_known : (width : ℕ) (vs : List ℕ) → ((i : ℕ) → get_or vs i 0 < 2 ^ width) → Narrow width vs
+narrow_known width [] f = tt
+narrow_known width (v ∷ vs) f = (f 0, narrow_known width vs (λ i. f (suc i)))
+
 joined_nil : (width n : ℕ) → joined width n [] ≡ 0
 joined_nil width zero = refl
 joined_nil width (suc n) = refl

@@ -3,6 +3,7 @@ pub mod FieldAt
 pub mod Each
 pub mod Names
 pub mod Size
+pub mod Truth
 pub mod Form
 pub mod Canon
 pub mod Products

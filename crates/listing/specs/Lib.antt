@@ -1,6 +1,6 @@
 pub mod Texts
-pub mod Writers
-pub mod ListTexts
-pub mod RecordTexts
+pub mod WriterLaws
+pub mod ListTextLaws
+pub mod RecordTextLaws
 pub mod Inputs
 pub mod InputLaws

@@ -118,7 +118,7 @@ fn put_presence(presence: Presence, out: &mut [u8]) -> usize
 }
 
 // A consulted entry: presence (2), zero (4), fact (10).
-#[tactic(auto, using(crate::specs::Writers::wrote_then), unfolding(crate::specs::Texts::field_text))]
+#[tactic(auto, using(crate::specs::WriterLaws::wrote_then), unfolding(crate::specs::Texts::field_text))]
 fn put_entry(field: u32, out: &mut [u8]) -> usize
     requires { 12 ≤ length out.old }
     ensures { Wrote (field_text Listed.Consulted field) out.old out.new result }
@@ -246,14 +246,14 @@ impl Node<'_> {
         requires { lists_room ≤ length out.old }
         ensures { Wrote (permit_lists self.now.words.now self.now.at) out.old out.new result }
     {
-        let held = policy_model::obligations_of(self.word(0));
+        let count = policy_model::obligations_of(self.word(0));
         let obligations = Fields {
             words: self.words,
             at: self.at + 2,
-            count: held as usize,
+            count: count as usize,
             kind: Listed::Obligations,
         };
-        let after = 2 + policy_model::obligation_words(held);
+        let after = 2 + policy_model::obligation_words(count);
         let n = obligations.put_named(b"\nshape -\nobligations ", out);
         n + self.put_facts(after, self.word(1), &mut out[n..])
     }
@@ -268,7 +268,7 @@ impl Node<'_> {
     }
 
     // A node 13.
-    #[tactic(auto, using(crate::specs::Writers::wrote_then), unfolding(crate::specs::Texts::deny_text))]
+    #[tactic(auto, using(crate::specs::WriterLaws::wrote_then), unfolding(crate::specs::Texts::deny_text))]
     fn put_deny(&self, out: &mut [u8]) -> usize
         requires { decision_room ≤ length out.old }
         ensures { Wrote (deny_text self.now.words.now self.now.at) out.old out.new result }
@@ -278,7 +278,7 @@ impl Node<'_> {
     }
 
     // Either. Its kind is a number, as `policy_model` says.
-    #[tactic(auto, using(crate::specs::Writers::wrote_as), unfolding(crate::specs::Texts::decision_text))]
+    #[tactic(auto, using(crate::specs::WriterLaws::wrote_as), unfolding(crate::specs::Texts::decision_text))]
     fn put_decision(&self, out: &mut [u8]) -> usize
         requires { decision_room ≤ length out.old }
         ensures { Wrote (decision_text self.now.words.now self.now.at) out.old out.new result }
@@ -307,7 +307,7 @@ fn put_consulted(words: &[u32], count: usize, out: &mut [u8]) -> usize
 }
 
 // The listing of a Resolved record. Of other words nothing is said but that the bytes fit.
-#[tactic(auto, using(crate::specs::RecordTexts::length_decision, crate::specs::RecordTexts::length_consulted))]
+#[tactic(auto, using(crate::specs::RecordTextLaws::length_decision, crate::specs::RecordTextLaws::length_consulted))]
 pub fn list_record(words: &[u32], out: &mut [u8]) -> usize
     requires { listing_room ≤ length out.old }
     ensures room { result ≤ listing_room }

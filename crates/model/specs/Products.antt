@@ -23,6 +23,8 @@ use Rattle.model.specs.Calls as calls
 use Rattle.model.specs.Calls.{Answer}
 use Rattle.model.specs.Required as required
 use Rattle.model.specs.Required.{Required, Asked}
+use Rattle.model.specs.Tight as tight
+use Rattle.model.specs.Tight.{UnderNumber}
 
 -- An outcome.
 abbrev pub Outcome : Type 0
@@ -234,3 +236,22 @@ is_deny_constant = required.is_deny_constant product_sets
 
 abbrev pub carries_obligation : List ℕ → Asked
 carries_obligation = required.carries_obligation product_sets
+
+-- ---- the tight form: what bits read as, and its calls
+abbrev pub resolved_in : List ℕ → Parsed (ReducedPolicy Outcome)
+resolved_in = tight.resolved_in product_sets.value
+
+abbrev pub loose_r : List ℕ → Parsed (UnderNumber Outcome)
+loose_r = tight.loose_r product_sets.value
+
+abbrev pub pack_sheet : List ℕ → ℕ → Answer
+pack_sheet = tight.pack_sheet product_sets
+
+abbrev pub pack_record : List ℕ → ℕ → Answer
+pack_record = tight.pack_record product_sets
+
+abbrev pub unpack_sheet : List ℕ → ℕ → Answer
+unpack_sheet = tight.unpack_sheet product_sets
+
+abbrev pub unpack_record : List ℕ → ℕ → Answer
+unpack_record = tight.unpack_record product_sets

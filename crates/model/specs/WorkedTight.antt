@@ -1,9 +1,8 @@
 -- Cases of request 11, by computation: the tight form of sheets and records there and back, and what bad runs and bad words give.
 use Rattle.std.specs.Prelude.{◌≡◌, refl, Bool, true, false, ◌&&◌, List, [], ◌∷◌, ◌++◌, ℕ, ◌-◌, replicate, length}
-use Rattle.model.specs.Outcome.{product_sets}
 use Rattle.model.specs.Calls.{Answer, refusal, wrote, afterwards}
 use Rattle.model.specs.Worked.{is_expected, refuses, writes, same_list}
-use Rattle.model.specs.Tight.{pack_sheet, pack_record, unpack_sheet, unpack_record}
+use Rattle.model.specs.Products.{pack_sheet, pack_record, unpack_sheet, unpack_record}
 
 -- The words are packed as the bytes, and the bytes unpacked as the words; with just enough room, and refused with one less.
 abbrev there : (List ℕ → ℕ → Answer) → (List ℕ → ℕ → Answer) → List ℕ → List ℕ → Bool
@@ -14,25 +13,25 @@ there pack unpack ws bs =
     && is_expected (unpack bs (length ws - 1)) (refuses 11)
 
 abbrev there_sheet : List ℕ → List ℕ → Bool
-there_sheet = there (pack_sheet product_sets) (unpack_sheet product_sets)
+there_sheet = there pack_sheet unpack_sheet
 
 abbrev there_record : List ℕ → List ℕ → Bool
-there_record = there (pack_record product_sets) (unpack_record product_sets)
+there_record = there pack_record unpack_record
 
 abbrev bad : (List ℕ → ℕ → Answer) → List ℕ → ℕ → Bool
 bad call given n = is_expected (call given 70000) (refuses n)
 
 abbrev bad_sheet : List ℕ → ℕ → Bool
-bad_sheet = bad (unpack_sheet product_sets)
+bad_sheet = bad unpack_sheet
 
 abbrev bad_record : List ℕ → ℕ → Bool
-bad_record = bad (unpack_record product_sets)
+bad_record = bad unpack_record
 
 abbrev bad_words : List ℕ → ℕ → Bool
-bad_words = bad (pack_sheet product_sets)
+bad_words = bad pack_sheet
 
 abbrev bad_record_words : List ℕ → ℕ → Bool
-bad_record_words = bad (pack_record product_sets)
+bad_record_words = bad pack_record
 
 pub both_ways_lem :
     (there_sheet (0x60000001 ∷ []) (0x60 ∷ 0x0 ∷ 0x10 ∷ [])
@@ -91,11 +90,11 @@ words_turned_back = refl
 
 -- Room, of which 11 tells after 20; and what stands after the result.
 pub room :
-    (is_expected (pack_sheet product_sets (0x60000001 ∷ []) 2) (refuses 11)
-    && is_expected (unpack_sheet product_sets (0x60 ∷ 0x0 ∷ 0x10 ∷ []) 0) (refuses 11)
-    && is_expected (unpack_sheet product_sets (0x71 ∷ []) 0) (refuses 20)
-    && same_list (afterwards (unpack_sheet product_sets (0x60 ∷ 0x0 ∷ 0x10 ∷ []) 3) (1 ∷ 2 ∷ 3 ∷ [])) (0x60000001 ∷ 2 ∷ 3 ∷ [])
-    && same_list (afterwards (pack_sheet product_sets (0x70000000 ∷ []) 3) (1 ∷ 2 ∷ 3 ∷ [])) (0x70 ∷ 2 ∷ 3 ∷ []))
+    (is_expected (pack_sheet (0x60000001 ∷ []) 2) (refuses 11)
+    && is_expected (unpack_sheet (0x60 ∷ 0x0 ∷ 0x10 ∷ []) 0) (refuses 11)
+    && is_expected (unpack_sheet (0x71 ∷ []) 0) (refuses 20)
+    && same_list (afterwards (unpack_sheet (0x60 ∷ 0x0 ∷ 0x10 ∷ []) 3) (1 ∷ 2 ∷ 3 ∷ [])) (0x60000001 ∷ 2 ∷ 3 ∷ [])
+    && same_list (afterwards (pack_sheet (0x70000000 ∷ []) 3) (1 ∷ 2 ∷ 3 ∷ [])) (0x70 ∷ 2 ∷ 3 ∷ []))
     ≡ true
 room = refl
 
@@ -105,7 +104,7 @@ held65 = 0xE0000000 ∷ 0xC4100001 ∷ 0x0 ∷ (replicate 16 0x07070707 ++ 0x070
 
 abbrev again : Answer → List ℕ → Bool
 again (refusal n) ws = false
-again (wrote bs) ws = is_expected (unpack_record product_sets bs 100) (writes ws) && same_list (length bs ∷ []) (58 ∷ [])
+again (wrote bs) ws = is_expected (unpack_record bs 100) (writes ws) && same_list (length bs ∷ []) (58 ∷ [])
 
-pub sixty_five : again (pack_record product_sets held65 100) held65 ≡ true
+pub sixty_five : again (pack_record held65 100) held65 ≡ true
 sixty_five = refl

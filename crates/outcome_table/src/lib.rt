@@ -9,7 +9,7 @@ use outcome::{Operation, OutcomeTable};
 use refusal::Refusal;
 
 // A table has at most so many levels.
-pub const LEVELS: u32 = 16;
+const MOST_LEVELS: u32 = 16;
 
 // Whether every byte is a level.
 fn closed(table: OutcomeTable<'_>) -> bool
@@ -81,7 +81,7 @@ pub fn accepted(levels: u32, bytes: &[u8]) -> Result<OutcomeTable<'_>, Refusal>
         (λ t. (table_of t ≡ table levels bytes.now) × (model.accepts (table levels bytes.now) ≡ true))
         (λ e. (e ≡ Refusal.OutcomeTable) × (model.accepts (table levels bytes.now) ≡ false)) }
 {
-    if levels == 0 || levels > LEVELS || bytes.len() != 2 * (levels * levels) as usize {
+    if levels == 0 || levels > MOST_LEVELS || bytes.len() != 2 * (levels * levels) as usize {
         return Err(Refusal::OutcomeTable);
     }
     let table = OutcomeTable {

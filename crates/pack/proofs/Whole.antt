@@ -3,11 +3,11 @@ use mathlib.Core.Path.{◌≡◌, refl, sym, ◌∙◌, ap, ap₂, subst}
 use mathlib.Core.Bool.{Bool, true, false, ◌&&◌}
 use mathlib.Core.Option.{none, some}
 use mathlib.Core.List.{List, [], ◌∷◌, ◌++◌}
-use Prim.Native.Nat.{ℕ, suc, ◌+◌, ◌/◌, ◌≤◌, ◌<◌}
+use Prim.Native.Nat.{ℕ, ◌+◌, ◌/◌, ◌≤◌, ◌<◌}
 use native.Mathlib.Omega.{arith}
 use borrow.Author.Tests.{leb-true}
 use lib.Dec.{leb}
-use lib.ListN.{length, take, drop, get_or}
+use lib.ListN.{length, take, drop}
 use lib.Seq.{length-take-le}
 use Rattle.model.specs.Fields.{words_for}
 use Rattle.model.specs.Outcome.{product_sets}
@@ -15,18 +15,19 @@ use Rattle.model.specs.Policy.{Policy}
 use Rattle.model.specs.Record.{Record}
 use Rattle.model.specs.Writing.{encode, encode_r, numbered}
 use Rattle.model.specs.Reading.{Parsed, refuse, got, unless, whole, sheet_number}
-use Rattle.model.specs.Products.{Outcome, read_sheet, read_lead, read_record}
+use Rattle.model.specs.Products.{Outcome, read_sheet, read_lead, read_record, pack_sheet, pack_record}
 use Rattle.model.specs.Calls.{on_read}
 use Rattle.model.specs.Bits.{bytes_of}
-use Rattle.model.specs.Tight.{tight, tight_r, give_bytes, pack_sheet, pack_record}
+use Rattle.model.specs.Tight.{tight, tight_r, give_bytes}
 use Rattle.laws.specs.FieldAt.{Narrow}
 use Rattle.laws.proofs.FieldLaws.{Holds}
-use Rattle.laws.proofs.WordLaws.{length_packed}
+use Rattle.laws.proofs.WordLaws.{length_packed, narrow_known}
 use Rattle.laws.proofs.BitLaws.{Bits}
 use Rattle.laws.specs.Form.{FewRepeats, Countable, Few, Free, FormOf}
 use Rattle.laws.proofs.ReadForm.{OkSheet, ok_sheet, OkRecord, ok_record, sheet_form}
 use Rattle.laws.proofs.Canon.{same_sheet_lem, same_record}
-use Rattle.laws.specs.Products.{InRange, written_products}
+use Rattle.laws.specs.Products.{InRange}
+use Rattle.laws.proofs.ProductLaws.{written_products}
 use Rattle.laws.proofs.TightRecords.{bits_t, bits_r}
 use Rattle.policy_model.specs.Answers.{refusal, Lead, lead_of}
 use Rattle.std.specs.Prelude.{Result, Ok, Err}
@@ -45,10 +46,6 @@ abbrev err : ℕ → Result ℕ ℕ
 err n = Err n
 
 -- ---- bits as bytes
-pub narrow_known : (l : List ℕ) → ((i : ℕ) → get_or l i 0 < 256) → Narrow 8 l
-narrow_known [] f = tt
-narrow_known (x ∷ l) f = (f 0, narrow_known l (λ i. f (suc i)))
-
 pub packed_no_room : (bs out : List ℕ) → length out < (length bs + 7) / 8 → Packed bs out out (Err refusals.Room)
 packed_no_room bs out h = record { packed = λ b. copy_no_room (bytes_of bs) out (omega (arith, length_packed 1 8 (words_for 8 (length bs)) bs)) }
 
@@ -70,7 +67,7 @@ abbrev pub SheetOf : List ℕ → Policy Outcome → List ℕ → Type 0
 SheetOf ws = OkSheet InRange product_sets.value written_products.sound ws
 
 module _ (ws out after : List ℕ) where
-  pub sheet_refused : (r : Refusal) → some (number_of r) ≡ refusal (read_sheet ws) → Answered (pack_sheet product_sets ws (length out)) out out (Err r)
+  pub sheet_refused : (r : Refusal) → some (number_of r) ≡ refusal (read_sheet ws) → Answered (pack_sheet ws (length out)) out out (Err r)
   sheet_refused r e = by (read_sheet ws) e
     where
       by : (q : Parsed (Policy Outcome)) → some (number_of r) ≡ refusal q → Answered (on_read q (λ t. give_bytes (length out) (tight product_sets.number t))) out out (Err r)
@@ -84,7 +81,7 @@ module _ (ws out after : List ℕ) where
       by (refuse n) f k = absurd (cc)
       by (got t us) f k = let a = k.it.2 in let b = k.it.4 in omega arith
 
-  pub sheet_packed : (r : Answer) → none ≡ refusal (read_sheet ws) → Packed (flat ws 0) out after r → Answered (pack_sheet product_sets ws (length out)) out after r
+  pub sheet_packed : (r : Answer) → none ≡ refusal (read_sheet ws) → Packed (flat ws 0) out after r → Answered (pack_sheet ws (length out)) out after r
   sheet_packed r e p = by (read_sheet ws) refl e (ok_sheet InRange product_sets.value written_products.sound ws)
     where
       by : (q : Parsed (Policy Outcome)) → read_sheet ws ≡ q → none ≡ refusal q → Holds (SheetOf ws) q → Answered (on_read q (λ t. give_bytes (length out) (tight product_sets.number t))) out after r
@@ -115,7 +112,7 @@ long_by false ws q r us e f = absurd (none_got (leb 1 (length ws)) f)
     none_got false g = cc
 
 module _ (ws out after : List ℕ) where
-  pub record_refused : (x : Refusal) → refuse (number_of x) ≡ lead_of (read_record ws) → Answered (pack_record product_sets ws (length out)) out out (Err x)
+  pub record_refused : (x : Refusal) → refuse (number_of x) ≡ lead_of (read_record ws) → Answered (pack_record ws (length out)) out out (Err x)
   unfolding lead_of
   record_refused x e = by (read_record ws) e
     where
@@ -142,7 +139,7 @@ module _ (ws out after : List ℕ) where
               inside = omega arith;
             }
 
-    pub record_packed : (x : Answer) → Packed (record_run ws lead.consulted lead.tree) out after x → Answered (pack_record product_sets ws (length out)) out after x
+    pub record_packed : (x : Answer) → Packed (record_run ws lead.consulted lead.tree) out after x → Answered (pack_record ws (length out)) out after x
     unfolding lead_of
     record_packed x p = by (read_record ws) refl e (ok_record InRange product_sets.value written_products.sound ws)
       where

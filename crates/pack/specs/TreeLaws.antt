@@ -16,7 +16,6 @@ use Rattle.model.specs.Facts.{fact_count}
 use Rattle.model.specs.Condition.{Condition, always, never, has, not_c, all_c, any_c, Conditions, cnil, ccons}
 use Rattle.model.specs.Decision.{Shape, Decision, permits, denies}
 use Rattle.model.specs.Policy.{Grant, Policy, permit, deny, grant, all, any, or_else, stored, Policies, pnil, pcons}
-use Rattle.model.specs.Partial.{ReducedPolicy, resolved, pending}
 use Rattle.model.specs.Consulted.{Entry, Consulted}
 use Rattle.model.specs.Record.{Record, tree}
 use Rattle.model.specs.Writing.{obligation_bits, entry_bits, word, shape_bit, marked, presence_field, entry_field, count_c, count, encode_c, encode_cs, denied_field, encode_d, encode, encodes, lead_kind, encode_r, numbered}
@@ -29,7 +28,7 @@ use Rattle.laws.proofs.FieldAtLaws.{packed_field, narrow_below, narrow_entries, 
 use Rattle.laws.proofs.Lengths.{length_pack}
 use Rattle.laws.specs.Form.{IfThere, FormC, FormCs, FormL, Countable, FormD, FormG, FormOf, FormsOf}
 use Rattle.laws.proofs.ReadForm.{Named}
-use Rattle.laws.proofs.ReadBack.{shape_small}
+use Rattle.laws.proofs.NodeLaws.{shape_small, marked_small, kind_small}
 use Rattle.policy_model.specs.Span.{own_by, own_of}
 use Rattle.bits.specs.Widths.{plain_width, denied_width}
 use Rattle.bits.specs.WidthLaws.{mark_absent, mark_there, denied_there, denied_absent}
@@ -80,10 +79,6 @@ mark_run_lem (some n) f =
     let e₁ : (32768 + n) / 2 ^ 15 ≡ 1 = omega arith in
     let e₂ : (32768 + n) % 2 ^ 15 ≡ n = omega arith in
     ap (λ w. low w (32768 + n)) (sym (mark_there (32768 + n) (omega arith))) ∙ low_is 16 (32768 + n) h ∙ bits_parted 1 15 (32768 + n) h ∙ ap₂ (λ x y. bits_of 1 x ++ bits_of 15 y) e₁ e₂
-
-marked_small : (l : Option ℕ) → FormL l → marked l < 65536
-marked_small none f = omega arith
-marked_small (some n) f = omega arith
 
 -- Two fields as one.
 two : (a b x y v : ℕ) → x < 2 ^ a → y < 2 ^ b → v ≡ x * 2 ^ b + y → bits_of (a + b) v ≡ bits_of a x ++ bits_of b y
@@ -386,10 +381,6 @@ entries_run es ws f =
     ∙ entries_each es f
 
 module _ {O : Type 0} (G : O → Type 0) (B : Condition → Type 0) (number : O → ℕ) (small : (o : O) → G o → number o < 65536) where
-  kind_small : (b : ReducedPolicy O) → lead_kind number b < 16
-  kind_small (resolved d) = omega arith
-  kind_small (pending t) = omega arith
-
   pub record_run_lem : (n : ℕ) → n < 65536 → (r : Record O) → length r.log < 4096 → Named r.log → FormOf G B Countable (tree r)
       → record_run (numbered n (encode_r number r)) (length r.log) (1 + words_for 2 (length r.log)) ≡ tight_r number n r
   unfolding record_run
@@ -397,7 +388,7 @@ module _ {O : Type 0} (G : O → Type 0) (B : Condition → Type 0) (number : O 
       let es = r.log in
       let m = length es in
       let k = lead_kind number r.body in
-      let hk = kind_small r.body in
+      let hk = kind_small number r.body in
       let ws = pack entry_bits (map entry_field es) ++ encode number (tree r) in
       let w = word k (n * 4096 + m) in
       let e₁ : (k * 268435456 + m) / 268435456 ≡ k = omega arith in

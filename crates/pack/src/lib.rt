@@ -5,8 +5,8 @@
 ghost use Rattle.std.specs.Prelude.{◌≡◌, IfSome, List, ℕ, ◌+◌, ◌*◌, ◌/◌, ◌%◌, ◌^◌, ◌≤◌, ◌<◌, length, drop};
 ghost use Rattle.model.specs.Reading.{record_words, kind_of};
 ghost use Rattle.model.specs.Writing.{obligation_bits};
-ghost use Rattle.model.specs.Tight.{obligation_tight_bits, pack_sheet, pack_record};
-ghost use Rattle.model.specs.Outcome.{product_sets};
+ghost use Rattle.model.specs.Tight.{obligation_tight_bits};
+ghost use Rattle.model.specs.Products.{pack_sheet, pack_record};
 ghost use Rattle.laws.specs.FieldAt.{field_at};
 ghost use Rattle.bits.specs.Splice.{Spliced};
 ghost use Rattle.bits.specs.Cursors.{Put};
@@ -473,7 +473,7 @@ impl Packs for Tree<'_> {
 
 // Packs a sheet.
 pub fn pack_sheet(words: &[u32], out: &mut [u8]) -> Answer
-    ensures { Answered (pack_sheet product_sets words.now (length out.old)) out.old out.new result }
+    ensures { Answered (pack_sheet words.now (length out.old)) out.old out.new result }
 {
     policy_model::check_sheet(words, outcome::SETS)?;
     pack(&Tree { words, from: 0 }, out)
@@ -509,7 +509,7 @@ impl Packs for Record<'_> {
 
 // Packs a record.
 pub fn pack_record(words: &[u32], out: &mut [u8]) -> Answer
-    ensures { Answered (pack_record product_sets words.now (length out.old)) out.old out.new result }
+    ensures { Answered (pack_record words.now (length out.old)) out.old out.new result }
 {
     let head = policy_model::check_record(words, outcome::SETS)?;
     let tree = Tree {

@@ -1,6 +1,6 @@
 -- Packed lists word by word, for fields of any width, n a word: what a writer needs.
-use Rattle.std.specs.Prelude.{◌≡◌, refl, List, [], ◌∷◌, ℕ, zero, suc, ◌+◌, ◌*◌, ◌^◌, ◌≤◌, ◌<◌, length, take, drop, get_or}
-use Rattle.std.proofs.Common.{sym, ◌∙◌, ap, arith, length-take}
+use Rattle.std.specs.Prelude.{◌≡◌, refl, List, [], ◌∷◌, ℕ, zero, suc, ◌+◌, ◌*◌, ◌^◌, ◌<◌, length, drop, get_or}
+use Rattle.std.proofs.Common.{sym, ◌∙◌, ap, arith}
 use Rattle.model.specs.Fields.{joined, words_for, per_word, pack}
 use Rattle.laws.proofs.FieldAtLaws.{packed_word}
 use Rattle.laws.proofs.Lengths.{length_pack}
@@ -42,7 +42,3 @@ module _ (width : ℕ) where
 
   pub list_word : (j : ℕ) (vs : List ℕ) → j < words_for n (length vs) → get_or (pack width vs) j 0 ≡ joined width n (values_from vs (j * n) n)
   list_word j vs k = packed_word width n (words_for n (length vs)) j vs k ∙ joined_values n (j * n) vs
-
-  -- Word j of the first `count` values.
-  pub pack_word : (count : ℕ) (vs : List ℕ) → count ≤ length vs → (j : ℕ) → j < words_for n count → get_or (pack width (take count vs)) j 0 ≡ joined width n (values_from (take count vs) (j * n) n)
-  pack_word count vs h j k = let few : length (take count vs) ≡ count = length-take count vs ∙ omega arith in list_word j (take count vs) (rw few k)

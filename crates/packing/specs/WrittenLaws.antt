@@ -56,9 +56,6 @@ module _ {words out after : List ℕ} {n : ℕ} (s : Written words out after n) 
   pub written_same : {others : List ℕ} → words ≡ others → Written others out after n
   written_same e = record { number = s.number ∙ ap length e; output = s.output ∙ ap (λ l. l ++ drop n out) e }
 
-pub sofar_none : (words out : List ℕ) → Sofar words out out 0
-sofar_none words out = record { few = omega arith; long = refl; output = refl }
-
 pub sofar_more : (words out after : List ℕ) (j w : ℕ) → Sofar words out after j → j < length words → length words ≤ length out → w ≡ get_or words j 0 → Sofar words out (set after j w) (j + 1)
 sofar_more words out after j w s h room e =
     record {

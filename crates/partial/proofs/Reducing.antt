@@ -15,10 +15,11 @@ use Rattle.model.specs.Partial as model
 use Rattle.model.specs.Consulted.{Consulted, once}
 use Rattle.model.specs.Writing.{entry_field}
 use Rattle.model.specs.Products.{Outcome, reduce_policy, walk, encode, read_policy, write}
-use Rattle.laws.proofs.FieldLaws.{Holds, weaker, both_hold}
+use Rattle.laws.proofs.FieldLaws.{Holds, weaker, both_hold, held_at}
 use Rattle.laws.specs.Size.{words}
 use Rattle.laws.specs.Form.{Countable, Free}
-use Rattle.laws.specs.Products.{InRange, written_products}
+use Rattle.laws.specs.Products.{InRange}
+use Rattle.laws.proofs.ProductLaws.{written_products}
 use Rattle.laws.proofs.ReadForm.{ok_t}
 use Rattle.staging.proofs.Entries.{walk_fits}
 use Rattle.staging.proofs.SizeLaws.{reduced_words}
@@ -32,7 +33,6 @@ use Rattle.partial_list.specs.Answers.{Resolves, Result}
 use Rattle.partial_list.specs.Within.{LaidWithin}
 use Rattle.partial_policy.specs.Reducing.{ReducedTo, ReducesP}
 use Rattle.decision.specs.declared.Decision.{Decision}
-use Rattle.evaluate.proofs.Nodes.{held_at}
 use Rattle.answer.specs.Answers.{Answer, Answered, Put, Makes}
 use Rattle.completion.specs.Answers.{LoadsConsulted, InUse}
 use Rattle.completion.proofs.Shallow.{few_levels_in}

@@ -33,15 +33,15 @@ fn put_pending(entries: &[u16], tree: &[u32], size: usize, out: &mut [u32]) -> A
         return Err(Refusal::Room);
     }
     // not of a tree that was laid, since its scratch has room for it
-    let Some(left) = tree.get(..size) else {
+    let Some(laid) = tree.get(..size) else {
         return Err(Refusal::Room);
     };
-    let front = record::write_front(Status::Pending, entries, out);
-    out[front..total].copy_from_slice(left);
+    let behind = record::write_front(Status::Pending, entries, out);
+    out[behind..total].copy_from_slice(laid);
     Ok(total)
 }
 
-// Reduces the policy at `at` in words that were checked, of at most `DEPTH` levels, after the `count` entries, and writes the record. The lists that are
+// Reduces the policy at `at` in words that were checked, of at most `DEPTH` levels, after the `prior` entries, and writes the record. The lists that are
 // left are in sheet order, or have their permits first. `LISTED` facts may be consulted, `BYTES` take united obligations, `NAMED` facts one clause, and `LEFT`
 // words the nodes that lists keep, and what is left. Every page of its stack, 164 KiB at most, is touched when it is called, so it keeps a frame of its own.
 #[inline(never)]
@@ -51,9 +51,9 @@ fn reduce_in<
     const BYTES: usize,
     const NAMED: usize,
     const LEFT: usize,
->(reduction: &Reduction<'_>, count: usize, at: usize, out: &mut [u32]) -> Answer
+>(reduction: &Reduction<'_>, prior: usize, at: usize, out: &mut [u32]) -> Answer
     requires { RoomToWalk (length reduction.now.evaluation.walk.words.now) DEPTH LISTED BYTES NAMED × RoomToLeave (length reduction.now.evaluation.walk.words.now) LEFT }
-    ensures { Makes (reduced_after (carried reduction.now.evaluation.outcomes) (order_of reduction.now.order) (table_of reduction.now.evaluation.walk.facts.now)) reduction.now.evaluation.walk.words.now count at out.old out.new result }
+    ensures { Makes (reduced_after (carried reduction.now.evaluation.outcomes) (order_of reduction.now.order) (table_of reduction.now.evaluation.walk.facts.now)) reduction.now.evaluation.walk.words.now prior at out.old out.new result }
 {
     let consulted = &mut Consulted {
         entries: &mut [0u16; LISTED],
@@ -65,7 +65,7 @@ fn reduce_in<
     let front = &mut [0u32; LEFT];
     let tree = &mut [0u32; LEFT];
     let walk = &reduction.evaluation.walk;
-    completion::load_consulted(walk.words, count, consulted);
+    completion::load_consulted(walk.words, prior, consulted);
     let reduced = reduction.reduce_policy(at, DEPTH, consulted, buf, named, front, tree);
     let listed = completion::in_use(consulted);
     match reduced.to {
@@ -89,21 +89,21 @@ const MIDDLING_FACTS: usize = 2 * MIDDLING;
 const MIDDLING_LEFT: usize = 3 * MIDDLING;
 
 // The same with as much room as its words take.
-pub fn reduce(reduction: &Reduction<'_>, count: usize, at: usize, out: &mut [u32]) -> Answer
-    ensures { Makes (reduced_after (carried reduction.now.evaluation.outcomes) (order_of reduction.now.order) (table_of reduction.now.evaluation.walk.facts.now)) reduction.now.evaluation.walk.words.now count at out.old out.new result }
+pub fn reduce(reduction: &Reduction<'_>, prior: usize, at: usize, out: &mut [u32]) -> Answer
+    ensures { Makes (reduced_after (carried reduction.now.evaluation.outcomes) (order_of reduction.now.order) (table_of reduction.now.evaluation.walk.facts.now)) reduction.now.evaluation.walk.words.now prior at out.old out.new result }
 {
     match reduction.evaluation.walk.words.len() {
         0..=FEW => reduce_in::<FEW, FEW_FACTS, UNITED_FEW, FEW_FACTS, FEW_LEFT>(
-            reduction, count, at, out,
+            reduction, prior, at, out,
         ),
         0..=SHORT => reduce_in::<LEVELS, SHORT_FACTS, UNITED, SHORT_FACTS, SHORT_LEFT>(
-            reduction, count, at, out,
+            reduction, prior, at, out,
         ),
         0..=MIDDLING => reduce_in::<LEVELS, ENTRIES, UNITED, MIDDLING_FACTS, MIDDLING_LEFT>(
-            reduction, count, at, out,
+            reduction, prior, at, out,
         ),
         _ => reduce_in::<LEVELS, ENTRIES, UNITED, RECORD_WORDS, RECORD_WORDS>(
-            reduction, count, at, out,
+            reduction, prior, at, out,
         ),
     }
 }

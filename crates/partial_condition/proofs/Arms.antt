@@ -79,28 +79,25 @@ abbrev held_with : Conditions → model.ReducedCondition → Conditions
 held_with cs (known b) = cs
 held_with cs (pending_c c) = snoc_c cs c
 
-clash : {A : Type 0} → true ≡ false → A
-clash e = let z : ◌≡◌ {A = ℕ} 0 1 = cc in absurd (omega arith)
-
 beq_is : (v stop : Bool) → beq v stop ≡ true → v ≡ stop
 beq_is false false e = refl
-beq_is false true e = clash (sym e)
-beq_is true false e = clash (sym e)
+beq_is false true e = cc
+beq_is true false e = cc
 beq_is true true e = refl
 
 -- No answer is both known and left, and a known one has one value.
-not_both : {v : Bool} {n : ℕ} {A : Type 0} → Known v ≡ Pending n → A
-not_both e = let z : ◌≡◌ {A = ℕ} 0 1 = cc in absurd (omega arith)
+pub not_both : {v : Bool} {n : ℕ} {A : Type 0} → Known v ≡ Pending n → A
+not_both e = cc
 
 same_known : {v b w : Bool} (stop : Bool) → Known v ≡ Known b → beq v stop ≡ w → beq b stop ≡ w
 same_known {v} {b} stop e f = let i : b ≡ v = cc in rw i f
 
 -- An arm that does not decide.
 known_on : (stop b : Bool) (cs : Conditions) (w : ConditionWalk) → beq b stop ≡ false → behind cs (step_of stop (known b) w) ≡ behind cs w
-known_on false false cs w e = clash e
+known_on false false cs w e = cc
 known_on false true cs w e = refl
 known_on true false cs w e = refl
-known_on true true cs w e = clash e
+known_on true true cs w e = cc
 
 pending_on : (stop : Bool) (c : Condition) (cs : Conditions) (w : ConditionWalk) → behind cs (step_of stop (pending_c c) w) ≡ behind (snoc_c cs c) w
 pending_on false c cs stopped = refl
@@ -109,10 +106,10 @@ pending_on true c cs stopped = refl
 pending_on true c cs (through ds) = ap through (append_one cs c ds)
 
 known_read : (stop b : Bool) (here on : Consulted) → beq b stop ≡ false → unless_of stop (known b) here on ≡ on
-known_read false false here on e = clash e
+known_read false false here on e = cc
 known_read false true here on e = refl
 known_read true false here on e = refl
-known_read true true here on e = clash e
+known_read true true here on e = cc
 
 pending_read : (stop : Bool) (c : Condition) (here on : Consulted) → unless_of stop (pending_c c) here on ≡ on
 pending_read false c here on = refl
@@ -121,14 +118,14 @@ pending_read true c here on = refl
 -- One that does.
 known_stop : (stop b : Bool) (w : ConditionWalk) → beq b stop ≡ true → step_of stop (known b) w ≡ stopped
 known_stop false false w e = refl
-known_stop false true w e = clash (sym e)
-known_stop true false w e = clash (sym e)
+known_stop false true w e = cc
+known_stop true false w e = cc
 known_stop true true w e = refl
 
 known_stop_read : (stop b : Bool) (here on : Consulted) → beq b stop ≡ true → unless_of stop (known b) here on ≡ here
 known_stop_read false false here on e = refl
-known_stop_read false true here on e = clash (sym e)
-known_stop_read true false here on e = clash (sym e)
+known_stop_read false true here on e = cc
+known_stop_read true false here on e = cc
 known_stop_read true true here on e = refl
 
 end_stopped : (stop : Bool) → end_of stop stopped ≡ known stop

@@ -15,15 +15,16 @@ use Rattle.model.specs.Reading.{got, many, read_condition}
 use Rattle.laws.proofs.FieldLaws.{fine, nothing, then_holds, both_hold}
 use Rattle.policy_model.specs.declared.ConditionHead.TheVariants.{Always, Never, Has, Not, All, Any, BadKind, BadField}
 use Rattle.policy_model.specs.Heads.{condition_head, condition_node}
+use Rattle.policy_model.specs.HeadLaws.{has_word}
 use Rattle.facts.specs.Answers.{is_settled}
-use Rattle.facts.specs.AnswerLaws.{settled_known, settled_consulted}
+use Rattle.facts.specs.AnswerLaws.{settled_known, settled_consulted, has_value}
 use Rattle.consulted.specs.Listing.{Lent}
 use Rattle.consulted.proofs.Listing.{consults_as, consults_none}
 use Rattle.decisive.proofs.Positions.{no_levels, by_head, Some, some_arms}
 use Rattle.sizes.specs.Laid.{too_many}
 use Rattle.sizes.specs.LaidLaws.{laid_word, laid_lead, laid_then}
 use Rattle.condition.specs.Evaluating.{EvaluatesHas}
-use Rattle.condition.proofs.Evaluating.{no_words, has_value, has_word}
+use Rattle.condition.proofs.Evaluating.{no_words}
 use Rattle.partial_condition.specs.declared.Reduced.{Reduced}
 use Rattle.partial_condition.specs.declared.Reduced.TheVariants.{Known, Pending}
 use Rattle.partial_condition.specs.declared.ReducedCondition.{ReducedCondition}

@@ -14,34 +14,35 @@ use Rattle.model.specs.Fields.{pack}
 use Rattle.model.specs.Facts.{Table}
 use Rattle.model.specs.Outcome.{product_sets}
 use Rattle.model.specs.Levels.{OutcomeTable}
-use Rattle.model.specs.Condition.{Condition, satisfied, unsatisfied, eval_has, eval_condition}
-use Rattle.model.specs.Condition as model-condition
+use Rattle.model.specs.Condition.{Condition, eval_has, eval_condition}
 use Rattle.model.specs.Consulted.{Consulted, walk_c}
 use Rattle.model.specs.Policy.{Policy, Grant as Clause, grant}
-use Rattle.model.specs.Partial.{known, pending_c, reduce_condition, resolved, pending, Order, reduce_grant}
+use Rattle.model.specs.Partial.{known, pending_c, reduce_condition, resolved, Order, reduce_grant}
 use Rattle.model.specs.Partial as model
 use Rattle.model.specs.Writing.{obligation_bits, encode_c}
-use Rattle.model.specs.Reading.{Parsed, refuse, got, read_condition}
+use Rattle.model.specs.Reading.{Parsed, got, read_condition}
 use Rattle.model.specs.Products.{Outcome, read, walk, eval_policy, reduce_policy, encode, read_policy, policy_at}
-use Rattle.laws.proofs.FieldLaws.{Holds, fine, nothing, weaker, then_holds, both_hold}
+use Rattle.laws.proofs.FieldLaws.{Holds, fine, nothing, weaker, then_holds, both_hold, held_at, anything}
 use Rattle.laws.specs.Size.{words_c, words}
+use Rattle.laws.specs.Truth.{is_satisfied}
 use Rattle.laws.proofs.Lengths.{length_pack}
 use Rattle.laws.proofs.Canon.{same_t}
-use Rattle.laws.specs.Products.{written_products}
-use Rattle.staging.proofs.ConditionLaws as staging
+use Rattle.laws.proofs.ProductLaws.{written_products}
+use Rattle.laws.proofs.NodeLaws.{policy_none}
+use Rattle.laws.proofs.GrantLaws.{grant_read}
 use Rattle.staging.proofs.ConditionLaws.{known_again}
 use Rattle.facts.specs.AnswerLaws.{settled_known, settled_consulted}
 use Rattle.policy_model.specs.contracts.PolicyHead.{the_type}
 use Rattle.policy_model.specs.declared.DenyShape.{DenyShape}
 use Rattle.policy_model.specs.declared.PolicyHead.{PolicyHead}
 use Rattle.policy_model.specs.declared.PolicyHead.TheVariants.{Permit, Deny, Grant, All, Any, OrElse, PermitWithTrace, DenyWithTrace, BadKind, BadField}
-use Rattle.policy_model.specs.Heads.{policy_head, permit_trace_node, deny_trace_node, policy_node}
+use Rattle.policy_model.specs.Heads.{policy_head, permit_trace_node, deny_trace_node, policy_node, bit_of, grant_node}
 use Rattle.policy_model.specs.HeadLaws.{head_cases, permit_word}
 use Rattle.policy_model.specs.PlainLaws.{plain_reads}
 use Rattle.policy_model.proofs.Checking.{no_word}
 use Rattle.policy_model.proofs.Skipping.{grant_says}
 use Rattle.grant.specs.Fields.{outcome_at, obligations_at}
-use Rattle.condition.specs.Evaluating.{is_satisfied, EvaluatesHas}
+use Rattle.condition.specs.Evaluating.{EvaluatesHas}
 use Rattle.consulted.specs.Listing.{Lent}
 use Rattle.consulted.proofs.Listing.{consults_as}
 use Rattle.decision.specs.Nodes.{node_at}
@@ -49,13 +50,14 @@ use Rattle.decision.specs.Meaning.{permitted_at, granted_at}
 use Rattle.decision.proofs.Standing.{node_reads}
 use Rattle.evaluate.specs.declared.PolicyEval.{PolicyEval}
 use Rattle.evaluate.specs.Evaluating.{EvaluatesP}
-use Rattle.evaluate.proofs.Nodes.{held_at, in_fewer, in_sheet, node_holds, node_knows, grant_reads}
-use Rattle.evaluate.proofs.Evaluating.{nothing_there, no_levels, one_level, eval_permit_word, granted_is, granted_sound, granted_few}
+use Rattle.evaluate.proofs.Nodes.{in_fewer, in_sheet, node_holds, node_knows}
+use Rattle.evaluate.proofs.Evaluating.{no_levels, one_level, eval_permit_word, granted_is, granted_sound, granted_few}
 use Rattle.sizes.specs.Laid.{capped, Laid}
 use Rattle.sizes.specs.LaidLaws.{laid_then, laid_as}
 use Rattle.partial_condition.specs.declared.Reduced.TheVariants.{Known, Pending}
 use Rattle.partial_condition.specs.declared.ReducedCondition.{ReducedCondition}
 use Rattle.partial_condition.specs.Reducing as condition
+use Rattle.partial_condition.proofs.Arms.{not_both}
 use Rattle.residual.specs.Weight.{weight}
 use Rattle.partial_list.specs.declared.ReducedPolicy.{ReducedPolicy}
 use Rattle.partial_list.specs.declared.Reduced.TheVariants.{Resolved}
@@ -71,7 +73,7 @@ module _ {g : Option OutcomeTable} {order : Order} (P : Table) (W : List ℕ) (a
 
   -- Words that don't read.
   pub reduce_end : t ≡ s → Fit r.to → length W ≤ at → ReducesP g order P W at depth s r t buf room out
-  reduce_end e fit h = rw e (record { fit = fit; says = λ res. rw (no_word W at h, nothing_there res depth) nothing })
+  reduce_end e fit h = rw e (record { fit = fit; says = λ res. rw (no_word W at h, policy_none product_sets.value res depth) nothing })
 
   pub reduce_limit : t ≡ s → Fit r.to → depth ≡ 0 → ReducesP g order P W at depth s r t buf room out
   reduce_limit e fit z = rw e (record { fit = fit; says = λ res. rw z (no_levels res (drop at W)) })
@@ -84,10 +86,6 @@ record Constant (g : Option OutcomeTable) (order : Order) (P : Table) (p : Polic
   value_is : reduce_policy g order P p ≡ resolved (eval_policy g P p)
   read_is : (l : Consulted) → walk g order P p l ≡ read g P p l
 
-whatever : {A : Type 0} (q : Parsed A) → Holds (λ _ _. Unit {0}) q
-whatever (refuse n) = nothing
-whatever (got a ws) = fine tt
-
 constant_there : {g : Option OutcomeTable} {order : Order} (pc : List ℕ → Parsed Condition) (p : List ℕ → Parsed (Policy Outcome)) (P : Table) (h : PolicyHead) (ws : List ℕ) → OneOf constants (tag_of the_type h) → Holds (Constant g order P) (policy_node pc p h ws)
 unfolding policy_node
 constant_there pc p P (Permit o) ws k = fine (record { value_is = refl; read_is = λ l. refl })
@@ -96,9 +94,9 @@ constant_there pc p P (Grant shape n o) ws k = absurd (miss constants 2 tt k)
 constant_there pc p P (All n) ws k = absurd (miss constants 3 tt k)
 constant_there pc p P (Any n) ws k = absurd (miss constants 4 tt k)
 constant_there pc p P OrElse ws k = absurd (miss constants 5 tt k)
-constant_there pc p P (PermitWithTrace n o) ws k = then_holds (permit_trace_node n o ws) _ (whatever (permit_trace_node n o ws)) (λ d vs _. fine (record { value_is = refl; read_is = λ l. refl }))
+constant_there pc p P (PermitWithTrace n o) ws k = then_holds (permit_trace_node n o ws) _ (anything (permit_trace_node n o ws)) (λ d vs _. fine (record { value_is = refl; read_is = λ l. refl }))
 constant_there pc p P (DenyWithTrace shape denied) ws k =
-    then_holds (deny_trace_node shape denied ws) _ (whatever (deny_trace_node shape denied ws)) (λ d vs _. fine (record { value_is = refl; read_is = λ l. refl }))
+    then_holds (deny_trace_node shape denied ws) _ (anything (deny_trace_node shape denied ws)) (λ d vs _. fine (record { value_is = refl; read_is = λ l. refl }))
 constant_there pc p P BadKind ws k = nothing
 constant_there pc p P BadField ws k = nothing
 
@@ -159,16 +157,9 @@ pub any_below : (w n : ℕ) → Any n ≡ policy_head w true → n < 4096
 any_below w n e = few_arms w (Any n) e
 
 -- ---- a grant
--- No answer to a condition is both known and left, and a known one has one value.
-not_both : {v : Bool} {n : ℕ} {A : Type 0} → Known v ≡ Pending n → A
-not_both e = cc
-
+-- A known answer has one value.
 same_known : {v b : Bool} → Known v ≡ Known b → v ≡ b
 same_known e = cc
-
-same_value : (x : model-condition.ConditionEval) → staging.is_satisfied x ≡ is_satisfied x
-same_value (satisfied fs) = refl
-same_value (unsatisfied fs) = refl
 
 -- Its own words are those that would be written for it: they don't depend on its condition.
 own_front : (x y k : ℕ) (os cs rest ds : List ℕ) → length os ≡ k → take (2 + k) ((x ∷ y ∷ (os ++ cs)) ++ rest) ++ ds ≡ x ∷ y ∷ (os ++ ds)
@@ -192,11 +183,11 @@ own_laid W mid at to own e h l =
 module _ (P : Table) (W : List ℕ) (at depth : ℕ) (shape : DenyShape) (n o own : ℕ) (lt : at < length W) (deep : depth < 32) (own_is : own ≡ 2 + (n + 3) / 4) where
   -- A grant that ends early.
   pub grant_short : {g : Option OutcomeTable} {order : Order} (s : Lent) (r : ReducedPolicy) (buf : List ℕ) (room : ℕ) (out : List ℕ) → Fit r.to → length W - at < own → ReducesBy g order (Grant shape n o) P W at depth s r s buf room out
-  unfolding policy_node
+  unfolding policy_node grant_node
   grant_short s r buf room out fit h = record {
     fit = fit;
     says = λ e. node_holds W at depth (Grant shape n o) lt e
-        (weaker _ (λ p rest g. absurd (omega (arith, g.fits, length-drop (at + 1) W))) (grant_reads depth shape n o (drop (at + 1) W)));
+        (weaker _ (λ p rest g. absurd (omega (arith, g.fits, length-drop (at + 1) W))) (grant_read product_sets.value (read_condition depth) (bit_of shape) n o (drop (at + 1) W)));
   }
 
   -- What is known of the grant, given the answer to its condition.
@@ -213,7 +204,7 @@ module _ (P : Table) (W : List ℕ) (at depth : ℕ) (shape : DenyShape) (n o ow
 
   grant_known : (a : ReducedCondition) (s t : Lent) (part : List ℕ) → condition.ReducesC P W (at + own) depth s a t part → Grant shape n o ≡ policy_head (get_or W at 0) true →
       Holds (Granted a s t part) (policy_at W at (suc depth))
-  unfolding policy_node
+  unfolding policy_node grant_node
   grant_known a s t part c e =
       weaker (policy_at W at (suc depth)) (λ p rest h.
       let g = h.1 in
@@ -231,12 +222,12 @@ module _ (P : Table) (W : List ℕ) (at depth : ℕ) (shape : DenyShape) (n o ow
         words_are = omega (arith, g.long);
         answer = held_at c.says (ap (read_condition depth) (sym from) ∙ g.below);
       })
-      (node_knows W at depth (Grant shape n o) lt e (grant_reads depth shape n o (drop (at + 1) W)))
+      (node_knows W at depth (Grant shape n o) lt e (grant_read product_sets.value (read_condition depth) (bit_of shape) n o (drop (at + 1) W)))
 
   module _ (buf : List ℕ) (room : ℕ) (out part : List ℕ) (a : ReducedCondition) (c : Condition) (g : Clause Outcome) (rest : List ℕ) (node : node_at W at ≡ got (grant g c) rest) (is : g.outcome ≡ o) where
     -- The value that the reduction found is that of evaluation.
     value_is : (b : Bool) → reduce_condition P c ≡ known b → b ≡ is_satisfied (eval_condition P c)
-    value_is b e = sym (known_again P c b e) ∙ same_value (eval_condition P c)
+    value_is b e = sym (known_again P c b e)
 
     decides_at : (x : model.ReducedCondition) (v : Bool) → reduce_condition P c ≡ x → condition.Left x a.to part → a.to ≡ Known v →
         Result (reduce_grant g (eval_condition P c) x) P W buf room out (Resolved (granted_at v o at))

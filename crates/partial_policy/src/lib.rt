@@ -125,7 +125,8 @@ impl Reduction<'_> {
         ensures { (depth : ℕ) (buf : List ℕ) (room : ℕ) (out : List ℕ) → ReducesP (carried self.now.evaluation.outcomes) (order_of self.now.order) (table_of self.now.evaluation.walk.facts.now) self.now.evaluation.walk.words.now at depth (held consulted.old) result (held consulted.new) buf room out }
     {
         let words = self.evaluation.walk.words;
-        let outcome = (words[at] % policy_model::HALF) as u16;
+        let outcome = grant::outcome_in(words, at) as u16;
+        // its condition is its third word and its last
         let fact = words[at + 2] % policy_model::FACTS;
         let satisfied = self.evaluation.walk.eval_has(fact, consulted);
         let decision = decision::granted(satisfied, outcome, at);
@@ -225,8 +226,10 @@ impl Reduction<'_> {
         }
     }
 
-    // The same of an arm of a list with its permits first. A Permit and a grant on one settled fact, the commonest arms of a wide list, are answered here.
+    // The same of an arm of a list with its permits first. A Permit and a grant on one settled fact, the commonest arms of a wide list, are answered here. It
+    // is compiled into the list rule, and what `reduce_policy` answers is taken apart, as in evaluate's `eval_arm`.
     #[cycle(reduction)]
+    #[inline(always)]
     fn reduce_arm(
         &self,
         at: usize,
@@ -251,7 +254,11 @@ impl Reduction<'_> {
                 return self.reduce_on_fact(at, consulted);
             }
         }
-        self.reduce_policy(at, depth, consulted, buf, named, front, out)
+        let below = self.reduce_policy(at, depth, consulted, buf, named, front, out);
+        ReducedPolicy {
+            to: below.to,
+            next: below.next,
+        }
     }
 
     // The All or Any at `at`, whose `arms` have at most `depth` levels, by the list rule of the order. It is called at two places, so that it isn't

@@ -1,7 +1,7 @@
 -- The check of a condition by its first word. Assumes nothing.
 use Rattle.std.specs.Prelude.{Result, Ok, Err}
 use mathlib.Core.Path.{◌≡◌, refl, sym, ◌∙◌, ap}
-use mathlib.Core.List.{List, [], ◌∷◌}
+use mathlib.Core.List.{List, ◌∷◌}
 use Prim.Native.Nat.{ℕ, zero, suc, ◌+◌, ◌-◌, ◌≤◌, ◌<◌}
 use native.Mathlib.Numerals.{sub-one}
 use native.Mathlib.Omega.{arith}
@@ -12,6 +12,7 @@ use Rattle.model.specs.Reading.{Parsed, refuse, got, next, many, read_condition}
 use Rattle.laws.specs.Size.{words_c, words_cs}
 use Rattle.laws.proofs.Lengths.{length_encode_c}
 use Rattle.laws.proofs.Canon.{same_c}
+use Rattle.laws.proofs.NodeLaws.{condition_none}
 use Rattle.policy_model.specs.declared.ConditionHead.{ConditionHead}
 use Rattle.policy_model.specs.declared.ConditionHead.TheVariants.{Not, All, Any}
 use Rattle.policy_model.specs.Answers.{checked, Lists}
@@ -21,10 +22,6 @@ use Rattle.policy_model.proofs.Checking.{word_at, no_word, Leaves, leaves_of, en
 
 pub condition_leaves : (d : ℕ) (us : List ℕ) → Leaves words_c us (read_condition d us)
 condition_leaves d us = leaves_of encode_c words_c length_encode_c us (read_condition d us) (same_c d us)
-
-nothing_there : (depth : ℕ) → read_condition depth [] ≡ refuse 6
-nothing_there zero = refl
-nothing_there (suc depth) = refl
 
 node_there : (depth w : ℕ) (ws : List ℕ) → (depth ≡ 0 → ⊥) → condition_node (read_condition (depth - 1)) (condition_head w) ws ≡ read_condition depth (w ∷ ws)
 node_there zero w ws f = absurd (f refl)
@@ -36,7 +33,7 @@ module _ (words : List ℕ) (at depth : ℕ) where
 
   pub no_condition : length words ≤ at → Err 6 ≡ Asked
   unfolding checked
-  no_condition h = sym (ap (checked words_c at) (ap (read_condition depth) (no_word words at h) ∙ nothing_there depth))
+  no_condition h = sym (ap (checked words_c at) (ap (read_condition depth) (no_word words at h) ∙ condition_none depth))
 
   pub too_deep : (n : ℕ) (h : ConditionHead) → at < length words → depth ≡ 0 → h ≡ condition_head (get_or words at 0) → n ≡ deep_condition h → Err n ≡ Asked
   unfolding checked

@@ -4,7 +4,7 @@ use Rattle.std.specs.Prelude.{Result, Ok, Err}
 use mathlib.Core.Path.{◌≡◌, refl, sym, ◌∙◌, ap}
 use mathlib.Core.Bool.{Bool, true, false, cond}
 use mathlib.Core.Option.{none, some}
-use mathlib.Core.List.{List, [], ◌∷◌}
+use mathlib.Core.List.{List, ◌∷◌}
 use Prim.Native.Nat.{ℕ, zero, suc, ◌+◌, ◌-◌, ◌%◌, ◌≤◌, ◌<◌}
 use native.Mathlib.Numerals.{sub-one}
 use native.Mathlib.Omega.{arith}
@@ -12,16 +12,16 @@ use lib.Dec.{ltb}
 use lib.ListN.{length, drop, get_or}
 use Rattle.model.specs.Outcome.{product_sets, below}
 use Rattle.model.specs.Condition.{Condition}
-use Rattle.model.specs.Decision.{permits, denies}
-use Rattle.model.specs.Policy.{Policy, permit, deny, grant, all, any, or_else, stored, pnil, pcons}
+use Rattle.model.specs.Policy.{Policy, all, any, or_else, stored, pnil, pcons}
 use Rattle.model.specs.Reading.{Parsed, refuse, got, next, unless, many, read_condition}
 use Rattle.model.specs.Reading as reading
 use Rattle.model.specs.Products.{Outcome, encode}
 use Rattle.model.specs.Products as products
 use Rattle.laws.specs.Size.{words_d, words, wordss}
 use Rattle.laws.specs.Form.{IfThere}
-use Rattle.laws.proofs.Lengths.{length_encode}
+use Rattle.laws.proofs.Lengths.{length_encode, some_words}
 use Rattle.laws.proofs.Canon.{same_t}
+use Rattle.laws.proofs.NodeLaws.{policy_none}
 use Rattle.policy_model.specs.declared.DenyShape.{DenyShape}
 use Rattle.policy_model.specs.declared.PolicyHead.{PolicyHead}
 use Rattle.policy_model.specs.declared.PolicyHead.TheVariants.{All, Any, OrElse, PermitWithTrace, DenyWithTrace}
@@ -57,10 +57,6 @@ node_of res d h ws = policy_node (read_condition d) (products.read_policy res d)
 pub policy_leaves : (res : Bool) (d : ℕ) (us : List ℕ) → Leaves words us (products.read_policy res d us)
 policy_leaves = leaves_by 65536
 
-nothing_there : (most : ℕ) (res : Bool) (depth : ℕ) → read_by most res depth [] ≡ refuse 6
-nothing_there most res zero = refl
-nothing_there most res (suc depth) = refl
-
 node_there : (most : ℕ) (res : Bool) (depth w : ℕ) (ws : List ℕ) → (depth ≡ 0 → ⊥) →
     unless (within_most most (policy_head w res)) 8 (node_by most res (depth - 1) (policy_head w res) ws) ≡ read_by most res depth (w ∷ ws)
 node_there most res zero w ws f = absurd (f refl)
@@ -72,7 +68,7 @@ module _ (most : ℕ) (ws : List ℕ) (at depth : ℕ) (res : Bool) where
 
   pub no_policy : length ws ≤ at → Err 6 ≡ Asked
   unfolding checked
-  no_policy h = sym (ap (checked words at) (ap (read_by most res depth) (no_word ws at h) ∙ nothing_there most res depth))
+  no_policy h = sym (ap (checked words at) (ap (read_by most res depth) (no_word ws at h) ∙ policy_none (below most) res depth))
 
   pub too_deep : (n : ℕ) (h : PolicyHead) → at < length ws → depth ≡ 0 → h ≡ policy_head (get_or ws at 0) res → n ≡ deep_policy h → Err n ≡ Asked
   unfolding checked
@@ -144,17 +140,7 @@ policy_lists most ws res =
       none = λ d. many_none words wordss pnil pcons (read_by most res d) refl (λ a b. refl) (leaves_by most res d) ws;
     }
 
--- Every policy takes a word, so a node that is passed ends later than it begins.
-some_words : (t : Policy Outcome) → 0 < words t
-some_words (permit o) = omega arith
-some_words deny = omega arith
-some_words (grant g c) = omega arith
-some_words (all ts) = omega arith
-some_words (any ts) = omega arith
-some_words (or_else a b) = omega arith
-some_words (stored (permits p)) = omega arith
-some_words (stored (denies d)) = omega arith
-
+-- A node that is passed ends later than it begins, since every policy takes a word.
 ends_later : (at after : ℕ) (q : Parsed (Policy Outcome)) → Ok after ≡ checked words at q → at < after
 unfolding checked
 ends_later at after (refuse n) e = absurd cc

@@ -1,6 +1,5 @@
 -- The span of words is what the trees take that are read of them. Assumes nothing.
 use Rattle.std.specs.Prelude as prelude
-use Rattle.std.specs.Prelude.{Some, None}
 use mathlib.Core.Path.{◌≡◌, refl, sym, ◌∙◌, ap, ap₂, subst}
 use mathlib.Core.Bool.{Bool, true, false, cond}
 use mathlib.Core.Option.{Option}
@@ -19,9 +18,10 @@ use Rattle.model.specs.Writing.{obligation_bits, entry_bits}
 use Rattle.model.specs.Reading.{Parsed, refuse, got, next, unless, many, read_list, obligation, listed, mark, shape_of, read_condition}
 use Rattle.model.specs.Products.{Outcome, read_policy}
 use Rattle.laws.specs.Size.{quads, pairs, words_c, words_cs, words_d, words, wordss}
-use Rattle.laws.proofs.FieldLaws.{Holds, fine, nothing, if_holds, weaker, then_holds, same_list_lem}
+use Rattle.laws.proofs.FieldLaws.{Holds, fine, nothing, if_holds, weaker, then_holds, same_list_lem, anything}
 use Rattle.laws.proofs.Lengths.{length_pack}
 use Rattle.laws.proofs.ReadForm.{same_obligation, same_listed}
+use Rattle.laws.proofs.NodeLaws.{count_of}
 use Rattle.policy_model.specs.declared.ConditionHead.{ConditionHead}
 use Rattle.policy_model.specs.declared.ConditionHead.TheVariants.{Always, Never, Has, Not}
 use Rattle.policy_model.specs.declared.ConditionHead.TheVariants as condition
@@ -96,10 +96,6 @@ OpensP w (PermitWithTrace n o) = Opens w 0 (λ ws. suc (words_for 4 n + words_fo
 OpensP w (DenyWithTrace shape denied) = Opens w 0 (λ ws. suc (suc (words_for 2 (get_or ws 1 0 % 4096))))
 OpensP w policy.BadKind = Unit {0}
 OpensP w policy.BadField = Unit {0}
-
--- The obligation count is the same of the word and of its 28 bits.
-count_of : (w : ℕ) → w / 1048576 % 128 ≡ w % 268435456 / 1048576 % 128
-count_of w = omega arith
 
 opens_p : (res : Bool) (w : ℕ) → OpensP w (policy_head w res)
 opens_p res w =
@@ -243,10 +239,6 @@ SpanP us t vs = (nodes : ℕ) → span us 0 (suc nodes) ≡ words t + span vs 0 
 
 abbrev SpanD : List ℕ → Decision Outcome → List ℕ → Type 0
 SpanD us d vs = (nodes : ℕ) → span us 0 (suc nodes) ≡ words_d d + span vs 0 nodes
-
-anything : {A : Type 0} (q : Parsed A) → Holds (λ a vs. Unit {0}) q
-anything (refuse n) = nothing
-anything (got a vs) = fine tt
 
 module _ (pc : List ℕ → Parsed Condition) (spans-C : (us : List ℕ) → Holds (SpanC us) (pc us)) where
   span_grant : (w : ℕ) (ws : List ℕ) (shape : DenyShape) (n o : ℕ) → Opens w 1 (λ us. suc (words_for 4 n)) → Holds (SpanP (w ∷ ws)) (grant_node pc shape n o ws)

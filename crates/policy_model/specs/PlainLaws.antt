@@ -1,7 +1,8 @@
 -- What a plain grant's three words say, where it stands, and that it is read there. Assumes nothing.
-use Rattle.std.specs.Prelude.{◌≡◌, refl, Bool, true, false, ◌&&◌, List, [], ◌∷◌, ℕ, suc, ◌+◌, ◌/◌, ◌%◌, ◌≤◌, ◌<◌, eqb, leb, length, drop, get_or}
+use Rattle.std.specs.Prelude.{◌≡◌, refl, Bool, true, false, List, [], ◌∷◌, ℕ, suc, ◌+◌, ◌/◌, ◌%◌, ◌≤◌, ◌<◌, eqb, leb, length, drop, get_or}
 use Rattle.std.proofs.Common.{sym, ◌∙◌, ap, arith, eqb-true, leb-true, leb-false, lt-ltb, length-drop, drop-cons}
 use Rattle.std.proofs.Math.Option.{none}
+use Rattle.std.proofs.lemmas.Bool.{and_parts}
 use Rattle.model.specs.Outcome.{below}
 use Rattle.model.specs.Condition.{Condition, has}
 use Rattle.model.specs.Policy.{Policy, grant}
@@ -21,16 +22,12 @@ record Told (w v u : ℕ) : Type 0 where
   no_mark : v ≡ 0
   has_it : u / 1024 ≡ 524288
 
-both : (a b : Bool) → (a && b) ≡ true → (a ≡ true) × (b ≡ true)
-both true b e = (refl, e)
-both false b e = absurd cc
-
 told : (w v u : ℕ) (ws : List ℕ) → plain_grant (w ∷ v ∷ u ∷ ws) ≡ true → Told w v u
 unfolding plain_grant
 told w v u ws e =
-    let first = both _ _ e in
-    let second = both _ _ first.1 in
-    let third = both _ _ second.1 in
+    let first = and_parts _ _ e in
+    let second = and_parts _ _ first.1 in
+    let third = and_parts _ _ second.1 in
     record { kind = eqb-true _ _ first.0; no_obligation = eqb-true _ _ second.0; no_mark = eqb-true _ _ third.0; has_it = eqb-true _ _ third.1 }
 
 pub plain_short : (ws : List ℕ) → length ws < 3 → plain_grant ws ≡ false

@@ -15,16 +15,16 @@ use Rattle.model.specs.Condition.{Condition, cnil, ccons}
 use Rattle.model.specs.Decision.{permits, denies}
 use Rattle.model.specs.Policy.{Policy, permit, deny, grant, all, any, or_else, stored, Policies, pnil, pcons}
 use Rattle.model.specs.Writing.{obligation_bits, entry_bits}
-use Rattle.model.specs.Reading.{Parsed, refuse, got, next, another, many, read_list, obligation, listed, mark, kind_of, node_c, read_condition}
+use Rattle.model.specs.Reading.{Parsed, refuse, got, next, many, read_list, obligation, listed, mark, kind_of, node_c, read_condition, obligation_count}
 use Rattle.model.specs.Required.{some?, obliges, obligess}
 use Rattle.model.specs.Products.{Outcome, last_kind, read_policy}
-use Rattle.laws.proofs.FieldLaws.{Holds, fine, nothing, if_holds, weaker, then_holds, both_hold, same_list_lem}
-use Rattle.laws.proofs.ReadForm.{same_obligation, same_listed}
+use Rattle.laws.proofs.FieldLaws.{Holds, fine, nothing, if_holds, weaker, then_holds, held_at}
+use Rattle.laws.proofs.ReadForm.{ReadNumbers, read_obligations, read_facts}
+use Rattle.laws.proofs.NodeLaws.{another_holds, count_of}
 use Rattle.policy_model.specs.declared.DenyShape.{DenyShape}
 use Rattle.policy_model.specs.Heads.{policy_node, grant_node, permit_trace_node, deny_trace_node}
 use Rattle.policy_model.specs.HeadLaws.{head_cases, policy_node_lem}
 use Rattle.policy_model.specs.Span.{own_by, own_of}
-use Rattle.policy_model.proofs.Fields.{list_leaves}
 use Rattle.policy_model.proofs.Records.{next_is}
 use Rattle.questions.specs.Nodes.{kind_at, obligation_at, words_oblige}
 use Rattle.questions.specs.Answers.{Stands}
@@ -78,30 +78,6 @@ node_obliges w ws t vs n =
     ∙ ap (λ b. b || words_oblige vs 0) (sym (own_or_arms t))
 
 -- ---- parts that were read
-pub held : {A : Type 0} {Q : A → List ℕ → Type 0} {q : Parsed A} {a : A} {vs : List ℕ} → Holds Q q → q ≡ got a vs → Q a vs
-held {Q = Q} h e = (subst (Holds Q) e h).it
-
-a_word : {B : Type 0} {R : B → List ℕ → Type 0} (us : List ℕ) (k : ℕ → List ℕ → Parsed B) → ((w : ℕ) (vs : List ℕ) → us ≡ w ∷ vs → Holds R (k w vs)) → Holds R (another us k)
-a_word [] k f = nothing
-a_word (w ∷ vs) k f = f w vs refl
-
--- n fields, so many in a word, and what stands after their words.
-abbrev Listed : ℕ → ℕ → List ℕ → List ℕ → List ℕ → Type 0
-Listed in_word n us xs vs = (length xs ≡ n) × (drop (words_for in_word n) us ≡ vs)
-
-listed_lem : (in_word n : ℕ) (us : List ℕ) (q : Parsed (List ℕ)) → Holds (λ xs vs. length xs ≡ n) q → Holds (λ xs vs. drop (words_for in_word (length xs)) us ≡ vs) q → Holds (Listed in_word n us) q
-listed_lem in_word n us q l e = weaker q (λ xs vs h. (h.0, ap (λ m. drop (words_for in_word m) us) (sym h.0) ∙ h.1)) (both_hold q l e)
-
-obligations_read : (n : ℕ) (us : List ℕ) → Holds (Listed 4 n us) (read_list obligation obligation_bits n us)
-obligations_read n us =
-    let q = read_list obligation obligation_bits n us in
-    listed_lem 4 n us q (weaker q (λ os vs h. h.long) (same_list_lem (λ o. o) obligation same_obligation obligation_bits 3 n us refl)) (list_leaves (λ o. o) obligation same_obligation obligation_bits 3 refl n us)
-
-facts_read : (n : ℕ) (us : List ℕ) → Holds (Listed 2 n us) (read_list listed entry_bits n us)
-facts_read n us =
-    let q = read_list listed entry_bits n us in
-    listed_lem 2 n us q (weaker q (λ fs vs h. h.long) (same_list_lem (λ f. f) listed same_listed entry_bits 1 n us refl)) (list_leaves (λ f. f) listed same_listed entry_bits 1 refl n us)
-
 after_word : (n w : ℕ) (ws us : List ℕ) → ws ≡ w ∷ us → words_oblige ws (suc n) ≡ words_oblige us n
 unfolding words_oblige
 after_word n w ws us e = ap (λ l. words_oblige l (suc n)) e
@@ -131,10 +107,6 @@ none_at w k e f = obligation_by w k e ∙ ap (λ b. cond (eqb (w / 1048576 % 128
 some_of_lem : (os : List ℕ) (n : ℕ) → length os ≡ n → cond (eqb n 0) false true ≡ some? os
 some_of_lem [] n e = ap (λ m. cond (eqb m 0) false true) (sym e)
 some_of_lem (o ∷ os) n e = ap (λ b. cond b false true) (ne_eqb n 0 (λ z. let y : ⊥ = omega arith in y))
-
--- The obligation count is the same of the word and of its 28 bits.
-count_of : (w : ℕ) → w / 1048576 % 128 ≡ w % 268435456 / 1048576 % 128
-count_of w = omega arith
 
 -- ---- conditions have no obligations
 module _ (p : List ℕ → Parsed Condition) (passed : (us : List ℕ) → Holds (λ c vs. words_oblige us 0 ≡ words_oblige vs 0) (p us)) where
@@ -180,16 +152,16 @@ module _ (d w : ℕ) (ws : List ℕ) where
   plain k e kind f none z rest = record { kind_is = e ∙ kind; own_is = none_at w k e f ∙ none; rest_is = ap (words_oblige ws) (own_by_lem w k ws e ∙ z) ∙ rest }
 
   -- A node with obligations: as many as its word says.
-  counted : (os us vs : List ℕ) → Listed 4 (r / 1048576 % 128) us os vs → (cond (eqb n 0) false true ≡ some? os) × (drop (words_for 4 n) us ≡ vs)
-  counted os us vs h = (some_of_lem os n (h.0 ∙ sym (count_of w)), ap (λ m. drop (words_for 4 m) us) (count_of w) ∙ h.1)
+  counted : (os us vs : List ℕ) → ReadNumbers obligation_bits obligation_count (r / 1048576 % 128) us os vs → (cond (eqb n 0) false true ≡ some? os) × (drop (words_for 4 n) us ≡ vs)
+  counted os us vs h = (some_of_lem os n (h.long ∙ sym (count_of w)), ap (λ m. drop (words_for 4 m) us) (count_of w) ∙ h.left)
 
   grant_reads : (shape : DenyShape) (o : ℕ) → w / 268435456 ≡ 8 → Holds (Node w ws) (grant_node (λ vs. read_condition d vs) shape (r / 1048576 % 128) o ws)
   unfolding grant_node
   grant_reads shape o e =
-      a_word ws _ (λ w₂ us q.
+      another_holds ws _ (λ w₂ us q.
       next_is (mark (w₂ / 65536)) _ (λ l _ _.
       next_is (mark (w₂ % 65536)) _ (λ m _ _.
-      then_holds (read_list obligation obligation_bits (r / 1048576 % 128) us) _ (obligations_read (r / 1048576 % 128) us) (λ os vs h.
+      then_holds (read_list obligation obligation_bits (r / 1048576 % 128) us) _ (read_obligations (r / 1048576 % 128) us) (λ os vs h.
       then_holds (read_condition d vs) _ (passed_c d vs) (λ c xs g.
       let has = counted os us vs h in
       fine (record {
@@ -201,11 +173,11 @@ module _ (d w : ℕ) (ws : List ℕ) where
   permit_reads : (o : ℕ) → w / 268435456 ≡ 12 → Holds (λ x vs. Node w ws (stored x) vs) (permit_trace_node (r / 1048576 % 128) o ws)
   unfolding permit_trace_node
   permit_reads o e =
-      a_word ws _ (λ w₂ us q.
+      another_holds ws _ (λ w₂ us q.
       next_is (mark (w₂ / 65536)) _ (λ l _ _.
       if_holds (ltb (w₂ % 65536) 4096) 8 _ (λ t.
-      then_holds (read_list obligation obligation_bits (r / 1048576 % 128) us) _ (obligations_read (r / 1048576 % 128) us) (λ os vs h.
-      then_holds (read_list listed entry_bits (w₂ % 65536) vs) _ (facts_read (w₂ % 65536) vs) (λ fs xs g.
+      then_holds (read_list obligation obligation_bits (r / 1048576 % 128) us) _ (read_obligations (r / 1048576 % 128) us) (λ os vs h.
+      then_holds (read_list listed entry_bits (w₂ % 65536) vs) _ (read_facts (w₂ % 65536) vs) (λ fs xs g.
       let has = counted os us vs h in
       let small : w₂ % 65536 < 4096 = ltb-true (w₂ % 65536) 4096 t in
       let few : get_or ws 0 0 % 4096 ≡ w₂ % 65536 = ap (λ l. get_or l 0 0 % 4096) q ∙ omega arith in
@@ -215,18 +187,18 @@ module _ (d w : ℕ) (ws : List ℕ) where
         rest_is =
             ap (words_oblige ws) (own_by_lem w 12 ws e ∙ ap (λ m. suc (words_for 4 n + words_for 2 m)) few)
             ∙ after_word (words_for 4 n + words_for 2 (w₂ % 65536)) w₂ ws us q
-            ∙ after_lists (words_for 4 n) (words_for 2 (w₂ % 65536)) us vs xs has.1 g.1;
+            ∙ after_lists (words_for 4 n) (words_for 2 (w₂ % 65536)) us vs xs has.1 g.left;
       }))))))
 
   deny_reads : (shape : DenyShape) (denied : prelude.Option ℕ) → w / 268435456 ≡ 13 → Holds (λ x vs. Node w ws (stored x) vs) (deny_trace_node shape denied ws)
   unfolding deny_trace_node
   deny_reads shape denied e =
-      a_word ws _ (λ w₂ us q.
+      another_holds ws _ (λ w₂ us q.
       next_is (mark (w₂ / 65536)) _ (λ l _ _.
       next_is (mark (w₂ % 65536)) _ (λ m _ _.
-      a_word us _ (λ c ts p.
+      another_holds us _ (λ c ts p.
       if_holds (ltb c 4096) 8 _ (λ t.
-      then_holds (read_list listed entry_bits c ts) _ (facts_read c ts) (λ fs xs g.
+      then_holds (read_list listed entry_bits c ts) _ (read_facts c ts) (λ fs xs g.
       let small : c < 4096 = ltb-true c 4096 t in
       let few : get_or ws 1 0 % 4096 ≡ c = ap (λ l. get_or l 1 0 % 4096) (q ∙ ap (λ l. w₂ ∷ l) p) ∙ omega arith in
       fine (record {
@@ -236,7 +208,7 @@ module _ (d w : ℕ) (ws : List ℕ) where
             ap (words_oblige ws) (own_by_lem w 13 ws e ∙ ap (λ m. suc (suc (words_for 2 m))) few)
             ∙ after_word (suc (words_for 2 c)) w₂ ws us q
             ∙ after_word (words_for 2 c) c us ts p
-            ∙ after_list (words_for 2 c) ts xs g.1;
+            ∙ after_list (words_for 2 c) ts xs g.left;
       })))))))
 
   module _ (below : (us : List ℕ) → Holds (Obliges us) (reader us)) where
@@ -301,7 +273,7 @@ nothing_reads (suc d) t vs e = absurd cc
 -- A tree to the last word.
 pub tree_obliges : (ws : List ℕ) (at : ℕ) (t : Policy Outcome) → Stands ws at t → words_oblige (drop at ws) 0 ≡ obliges t
 unfolding words_oblige
-tree_obliges ws at t s = held (obliges_p s.depth (drop at ws)) s.reads ∙ or-false (obliges t)
+tree_obliges ws at t s = held_at (obliges_p s.depth (drop at ws)) s.reads ∙ or-false (obliges t)
 
 -- What the walk asks.
 pub ruleset walks = (tree_obliges, none_after, has_one, goes_on)

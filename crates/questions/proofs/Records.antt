@@ -1,7 +1,8 @@
 -- The answers, from the check of a record and from what is said of its tree. Assumes nothing.
 use Rattle.std.specs.Prelude.{Result, Ok, Err, IsErrAnd}
+use Rattle.std.proofs.lemmas.Bool.{and_parts}
 use mathlib.Core.Path.{◌≡◌, refl, sym, ◌∙◌, ap, subst}
-use mathlib.Core.Bool.{Bool, true, false, ◌||◌, ◌&&◌}
+use mathlib.Core.Bool.{Bool, true, false, ◌||◌}
 use mathlib.Core.List.{List, []}
 use Prim.Native.Nat.{ℕ, zero, suc, ◌+◌, ◌/◌, ◌≤◌, ◌<◌}
 use native.Mathlib.Omega.{arith}
@@ -17,7 +18,7 @@ use Rattle.model.specs.Record.{Record, tree}
 use Rattle.model.specs.Reading.{Parsed, refuse, got, whole, record_length}
 use Rattle.model.specs.Required.{permit_on_top, deny_on_top, asked_of}
 use Rattle.model.specs.Products.{Outcome, read_policy, read_lead, read_record}
-use Rattle.laws.proofs.FieldLaws.{Holds, fine, nothing, if_holds}
+use Rattle.laws.proofs.FieldLaws.{Holds, fine, nothing, if_holds, held_at}
 use Rattle.laws.specs.Size.{pairs}
 use Rattle.laws.specs.Numbers.{Numbered}
 use Rattle.laws.proofs.NumberLaws.{record_numbered}
@@ -28,7 +29,7 @@ use Rattle.refusal.specs.declared.Refusal.{Refusal}
 use Rattle.refusal.specs.Numbers.{number_of, by_number}
 use Rattle.questions.specs.Nodes.{kind_at, one_of}
 use Rattle.questions.specs.Answers.{told_of, Stands, SomeTree, Found}
-use Rattle.questions.proofs.Nodes.{held, nothing_reads, node_holds}
+use Rattle.questions.proofs.Nodes.{nothing_reads, node_holds}
 
 module _ (ws : List ℕ) where
   abbrev read : Parsed (Record Outcome)
@@ -37,15 +38,11 @@ module _ (ws : List ℕ) where
   -- ---- the check
   short : Holds (λ r vs. length ws ≤ 16384) read
   short =
-      if_holds (record_length ws) 1 (whole (read_lead ws)) (λ e. all_of_lem (whole (read_lead ws)) (leb-true (length ws) 16384 (second (leb 1 (length ws)) (leb (length ws) 16384) e)))
+      if_holds (record_length ws) 1 (whole (read_lead ws)) (λ e. all_of_lem (whole (read_lead ws)) (leb-true (length ws) 16384 (and_parts (leb 1 (length ws)) (leb (length ws) 16384) e).1))
     where
       all_of_lem : (q : Parsed (Record Outcome)) → length ws ≤ 16384 → Holds (λ r vs. length ws ≤ 16384) q
       all_of_lem (refuse n) h = nothing
       all_of_lem (got r vs) h = fine h
-
-      second : (a b : Bool) → (a && b) ≡ true → b ≡ true
-      second true b e = e
-      second false b e = cc
 
   tree_stands : (at : ℕ) (body : ReducedPolicy Outcome) → length ws ≤ 16384 → TreeRead body (drop at ws) [] → Stands ws at (as_residual body)
   tree_stands at (resolved d) h e = record { depth = 1; reads = e; few = h }
@@ -59,7 +56,7 @@ module _ (ws : List ℕ) where
   at_tree kind count at e =
       lead_is_lem read (record { kind = kind; consulted = count; tree = at }) e (λ r vs g k l p.
       let us : drop (pairs r.log) (drop 1 ws) ≡ drop at ws = drop-drop (pairs r.log) 1 ws ∙ ap (λ n. drop n ws) (sym p) in
-      subst (λ q. Found ws q (Ok at)) (sym g) (found at r vs (tree_stands at r.body (held short g) (subst (λ x. TreeRead r.body x []) us (held (record_parts ws) g).0.tree_read))))
+      subst (λ q. Found ws q (Ok at)) (sym g) (found at r vs (tree_stands at r.body (held_at short g) (subst (λ x. TreeRead r.body x []) us (held_at (record_parts ws) g).0.tree_read))))
 
   pub no_tree : (r : Result ℕ Refusal) (e : Refusal) (q : Parsed (Record Outcome)) → IsErrAnd r (λ d. d ≡ e) → refuse (number_of e) ≡ lead_of q → Found ws q r
   unfolding Found lead_of
@@ -120,7 +117,7 @@ module _ (ws : List ℕ) (at : ℕ) where
       by true e = nothing_reads s.stands.depth s.it [] (ap (read_policy true s.stands.depth) (sym (no_word ws at (leb-true (length ws) at e))) ∙ s.stands.reads)
 
   pub kind_is : at < length ws → (t : Policy Outcome) → Stands ws at t → get_or ws at 0 / 268435456 ≡ kind_at t
-  kind_is lt t s = (held (node_holds s.depth (get_or ws at 0) (drop (at + 1) ws)) (ap (read_policy true s.depth) (sym (word_at ws at lt)) ∙ s.reads)).kind_is
+  kind_is lt t s = (held_at (node_holds s.depth (get_or ws at 0) (drop (at + 1) ws)) (ap (read_policy true s.depth) (sym (word_at ws at lt)) ∙ s.reads)).kind_is
 
   -- By the kind, whether it is one of two.
   pub one_of_two : (kind one other : ℕ) (b : Bool) → ((t : Policy Outcome) → Stands ws at t → kind ≡ kind_at t) → b ≡ (eqb kind one || eqb kind other) → (t : Policy Outcome) → Stands ws at t → b ≡ one_of one other t

@@ -31,10 +31,10 @@ pub fn mark(half: u32) -> Option<u16>
 }
 
 // A label or a reason of fifteen bits as 16 bits.
-fn mark_field(mark: Option<u16>) -> u32
-    ensures { (result ≡ marked (mark_of mark)) × (result < 2 ^ (1 + mark_bits)) }
+fn mark_field(given: Option<u16>) -> u32
+    ensures { (result ≡ marked (mark_of given)) × (result < 2 ^ (1 + mark_bits)) }
 {
-    match mark {
+    match given {
         Some(number) => policy_model::MARKED + number as u32 % policy_model::MARKED,
         None => 0,
     }
@@ -64,16 +64,16 @@ fn shape_above(shape: DenyShape, below: u32) -> u32
 // The first two words of a PermitWithTrace.
 fn write_permit_front(
     outcome: u16,
-    held: usize,
+    obligation_count: usize,
     label: Option<u16>,
     count: usize,
     out: &mut [u32],
 ) -> usize
-    requires { (held < 2 ^ 7) × (count < 2 ^ (4 + count_bits)) × (2 ≤ length out.old) }
-    ensures { (result ≡ 2) × Written (permit_front outcome held label count) out.old out.new result }
+    requires { (obligation_count < 2 ^ 7) × (count < 2 ^ (4 + count_bits)) × (2 ≤ length out.old) }
+    ensures { (result ≡ 2) × Written (permit_front outcome obligation_count label count) out.old out.new result }
 {
     out[0] = policy_model::LEAD_PERMIT_WITH_TRACE
-        + held as u32 * policy_model::OBLIGATIONS
+        + obligation_count as u32 * policy_model::OBLIGATIONS
         + outcome as u32;
     out[1] = mark_field(label) * policy_model::HALF + count as u32;
     2
@@ -90,8 +90,8 @@ pub fn write_permit_with_trace(
     requires { (length obligations.now < 2 ^ 7) × (length facts.now < 2 ^ (4 + count_bits)) × (2 + words_for 4 (length obligations.now) + words_for 2 (length facts.now) ≤ length out.old) }
     ensures { (result ≡ 2 + words_for 4 (length obligations.now) + words_for 2 (length facts.now)) × Written (decision_words (permit_of outcome label obligations.now facts.now)) out.old out.new result }
 {
-    let front = write_permit_front(outcome, obligations.len(), label, facts.len(), out);
-    let next = front + packing::pack_obligations(obligations, &mut out[front..]);
+    let behind = write_permit_front(outcome, obligations.len(), label, facts.len(), out);
+    let next = behind + packing::pack_obligations(obligations, &mut out[behind..]);
     next + packing::pack_entries(facts, &mut out[next..])
 }
 
@@ -112,8 +112,8 @@ pub fn write_deny_with_trace(clause: Clause, facts: &[u16], out: &mut [u32]) -> 
     requires { (length facts.now < 2 ^ (4 + count_bits)) × (3 + words_for 2 (length facts.now) ≤ length out.old) }
     ensures { (result ≡ 3 + words_for 2 (length facts.now)) × Written (decision_words (denies (denial_of clause facts.now))) out.old out.new result }
 {
-    let front = write_deny_front(clause, facts.len(), out);
-    front + packing::pack_entries(facts, &mut out[front..])
+    let behind = write_deny_front(clause, facts.len(), out);
+    behind + packing::pack_entries(facts, &mut out[behind..])
 }
 
 // A record's lead, with `count` consulted entries to come.
@@ -134,6 +134,6 @@ pub fn write_front(status: Status, entries: &[u16], out: &mut [u32]) -> usize
     requires { (length entries.now < 2 ^ rest_bits) × (1 + words_for 2 (length entries.now) ≤ length out.old) }
     ensures { (result ≡ 1 + words_for 2 (length entries.now)) × Written (front_words status entries.now) out.old out.new result }
 {
-    let lead = write_lead(status, entries.len(), out);
-    lead + packing::pack_entries(entries, &mut out[lead..])
+    let behind = write_lead(status, entries.len(), out);
+    behind + packing::pack_entries(entries, &mut out[behind..])
 }

@@ -1,12 +1,13 @@
 -- The entries by their two words, and a register's length. Assumes nothing.
 use mathlib.Core.Path.{◌≡◌, refl}
-use mathlib.Core.Bool.{Bool, true, false, ◌&&◌}
+use mathlib.Core.Bool.{true, ◌&&◌}
 use mathlib.Core.List.{List, map}
 use Prim.Native.Nat.{ℕ, ◌/◌, ◌%◌, ◌≤◌}
 use lib.Dec.{eqb, leb}
 use lib.ListN.{length}
 use borrow.Author.Tests.{leb-true}
 use Rattle.std.specs.Simd.{first_chunks}
+use Rattle.std.proofs.lemmas.Bool.{and_parts}
 use Rattle.model.specs.Register.{entries_of, faultless, register_words, is_register}
 use Rattle.laws.proofs.Pairs.{pairs_are}
 use Rattle.register.specs.Answers.{entry_in}
@@ -16,10 +17,5 @@ pub entries_are : (ws : List ℕ) (ps : List (List ℕ)) → ps ≡ first_chunks
 entries_are = pairs_are entry_in entries_of refl (λ w. refl) (λ w d ws. refl)
 
 -- ---- a register has few words
-both : (a b c : Bool) → (a && b && c) ≡ true → b ≡ true
-both true true c h = refl
-both true false c h = h
-both false b c h = cc
-
 pub few : (ws : List ℕ) → is_register ws ≡ true → length ws ≤ register_words
-few ws h = leb-true (length ws) register_words (both (eqb (length ws % 2) 0) (leb (length ws) register_words) (faultless (entries_of ws)) h)
+few ws h = leb-true (length ws) register_words (and_parts (eqb (length ws % 2) 0) (leb (length ws) register_words) (and_parts (eqb (length ws % 2) 0 && leb (length ws) register_words) (faultless (entries_of ws)) h).0).1

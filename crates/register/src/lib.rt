@@ -9,7 +9,7 @@ ghost use Rattle.register.specs.Answers.{entry_meant, entry_in, latest_of, in_fo
 use refusal::Refusal;
 
 // A register has at most this many words.
-pub const REGISTER_WORDS: usize = 512;
+const REGISTER_WORDS: usize = 512;
 
 // An entry's first word, from its low end: the sheet number, the zero field, which has this many values, the withdrawn bit, the group.
 const ABOVE_NUMBER: u32 = 65536;
@@ -109,7 +109,7 @@ fn later(best: Option<Entry>, entry: Entry) -> Option<Entry>
     ensures { latest_of result ≡ later (latest_of best) (entry_meant entry) }
 {
     match best {
-        Some(held) if !entry.supersedes(held) => Some(held),
+        Some(so_far) if !entry.supersedes(so_far) => Some(so_far),
         _ => Some(entry),
     }
 }

@@ -1,17 +1,17 @@
 -- Facts added one after the other, and a walk over arms, of conditions and of policies alike. Assumes nothing.
 use mathlib.Core.Path.{◌≡◌, refl, sym, ◌∙◌, ap, subst}
 use mathlib.Core.Bool.{Bool, true, false, ◌||◌, or-false, or_assoc}
-use mathlib.Core.List.{List, ◌++◌}
+use mathlib.Core.List.{List}
 use Prim.Native.Nat.{ℕ, zero, suc, ◌+◌, ◌-◌}
 use native.Mathlib.Omega.{arith}
-use lib.ListN.{length, drop}
-use lib.Seq.{drop-drop, drop_at}
+use lib.ListN.{drop}
+use lib.Seq.{drop-drop}
 use Rattle.model.specs.Reading.{Parsed, refuse, got, next, unless, many}
 use Rattle.model.specs.Required.{fact_set}
-use Rattle.laws.proofs.FieldLaws.{Holds}
 use Rattle.fact_set.specs.Sets.{Grown}
 use Rattle.required.specs.Sets.{Walked, Collected}
 use Rattle.required.specs.Arms.{Onward}
+use Rattle.policy_model.proofs.Checking.{Leaves}
 
 pub grown_none : (s : List ℕ) → Grown (λ f. false) s s
 grown_none s = record { grown = λ named e. e ∙ ap fact_set (λ i f. sym (or-false (named f)) i) }
@@ -38,15 +38,11 @@ unfolding Collected
 refused_either size names at end s t true n m = tt
 refused_either size names at end s t false n m = tt
 
--- What is read leaves the words after its own.
-pub left_of_lem : (xs vs us : List ℕ) (n : ℕ) → length xs ≡ n → xs ++ vs ≡ us → vs ≡ drop n us
-left_of_lem xs vs us n h e = sym (drop_at xs vs n h) ∙ ap (drop n) e
-
 -- Arms that are read by p, the words of each and the facts that it names; and the same of a list of arms.
 module _ {A B : Type 0} (nil : B) (cons : A → B → B) (size : A → ℕ) (sizes : B → ℕ) (names : ℕ → A → Bool) (namess : ℕ → B → Bool)
     (size-nil : sizes nil ≡ 0) (size-cons : (a : A) (b : B) → sizes (cons a b) ≡ size a + sizes b)
     (names-nil : (f : ℕ) → namess f nil ≡ false) (names-cons : (f : ℕ) (a : A) (b : B) → namess f (cons a b) ≡ (names f a || namess f b))
-    (p : List ℕ → Parsed A) (left : (us : List ℕ) → Holds (λ a vs. vs ≡ drop (size a) us) (p us)) (sheet : List ℕ) where
+    (p : List ℕ → Parsed A) (left : (us : List ℕ) → Leaves size us (p us)) (sheet : List ℕ) where
   -- No arm.
   arms_none : (n at : ℕ) (s : List ℕ) → n ≡ 0 → Collected sizes namess at s s (many nil cons p n (drop at sheet)) at
   unfolding Collected
@@ -60,12 +56,12 @@ module _ {A B : Type 0} (nil : B) (cons : A → B → B) (size : A → ℕ) (siz
   arms_cons at mid end s t u a (refuse n) v w = tt
   arms_cons at mid end s t u a (got xs us) v w = walked_as (sym (size-cons a xs)) (λ f. sym (names-cons f a xs)) (walked_then v w)
 
-  arms_first : (n at mid end : ℕ) (s t u : List ℕ) (q : Parsed A) → Holds (λ a vs. vs ≡ drop (size a) (drop at sheet)) q → Collected size names at s t q mid →
+  arms_first : (n at mid end : ℕ) (s t u : List ℕ) (q : Parsed A) → Leaves size (drop at sheet) q → Collected size names at s t q mid →
       Collected sizes namess mid t u (many nil cons p n (drop mid sheet)) end → Collected sizes namess at s u (next q (λ a vs. next (many nil cons p n vs) (λ xs us. got (cons a xs) us))) end
   unfolding Collected
   arms_first n at mid end s t u (refuse k) h v w = tt
   arms_first n at mid end s t u (got a vs) h v w =
-      let e : drop mid sheet ≡ vs = ap (λ k. drop k sheet) v.ends ∙ sym (drop-drop (size a) at sheet) ∙ sym h.it in
+      let e : drop mid sheet ≡ vs = ap (λ k. drop k sheet) v.ends ∙ sym (drop-drop (size a) at sheet) ∙ h.it in
       arms_cons at mid end s t u a (many nil cons p n vs) v (subst (λ ws. Collected sizes namess mid t u (many nil cons p n ws) end) e w)
 
   arms_more : (n at mid : ℕ) (s t : List ℕ) → (n ≡ 0 → ⊥) → Collected size names at s t (p (drop at sheet)) mid → (u : List ℕ) (end : ℕ) →

@@ -10,26 +10,19 @@ use lib.Dec.{eqb, ltb}
 use lib.ListN.{length, drop, get_or, drop_of_length-le}
 use lib.Seq.{drop-cons}
 use Rattle.model.specs.Condition.{Condition, not_c, all_c, any_c, Conditions, cnil, ccons, names_c, names_cs}
-use Rattle.model.specs.Writing.{encode_c}
 use Rattle.model.specs.Reading.{Parsed, refuse, got, next, many, kind_of, read_condition}
-use Rattle.laws.proofs.FieldLaws.{Holds, weaker}
 use Rattle.laws.specs.Size.{words_c, words_cs}
-use Rattle.laws.proofs.Lengths.{length_encode_c}
-use Rattle.laws.proofs.Canon.{same_c}
 use Rattle.policy_model.specs.declared.ConditionHead.{ConditionHead}
 use Rattle.policy_model.specs.declared.ConditionHead.TheVariants.{Always, Never, Has, Not}
 use Rattle.policy_model.specs.declared.ConditionHead.TheVariants as condition
 use Rattle.policy_model.specs.Heads.{condition_heads, condition_head, condition_node}
 use Rattle.policy_model.specs.HeadLaws.{condition_node_lem, has_word}
 use Rattle.policy_model.specs.Span.{arms_by, arms_of}
+use Rattle.policy_model.proofs.Conditions.{condition_leaves}
 use Rattle.fact_set.specs.Sets.{Grown}
 use Rattle.required.specs.Sets.{Walked, Collected}
 use Rattle.required.specs.Arms.{OnwardC}
-use Rattle.required.proofs.Arms.{grown_none, grown_as, walked_then, walked_as, refused_either, left_of_lem, onward_more, onward_end}
-
--- What a condition leaves begins where its words end.
-condition_left : (d : ℕ) (us : List ℕ) → Holds (λ c vs. vs ≡ drop (words_c c) us) (read_condition d us)
-condition_left d us = weaker (read_condition d us) (λ c vs e. left_of_lem (encode_c c) vs us (words_c c) (length_encode_c c) e) (same_c d us)
+use Rattle.required.proofs.Arms.{grown_none, grown_as, walked_then, walked_as, refused_either, onward_more, onward_end}
 
 -- The loop over its arms.
 module _ (d : ℕ) (sheet : List ℕ) where
@@ -41,11 +34,11 @@ module _ (d : ℕ) (sheet : List ℕ) where
   onward_more_c from count s at turn t u mid lt v o =
       let e : count - turn - 1 ≡ count - (turn + 1) = omega arith in
       subst (λ k. OnwardC d sheet from count s mid k u) e
-      (onward_more cnil ccons words_c words_cs names_c names_cs refl (λ a b. refl) (λ f. refl) (λ f a b. refl) (λ vs. read_condition d vs) (condition_left d) sheet from count s at (count - turn) t u mid (λ z. let n : ⊥ = omega arith in n) v o)
+      (onward_more cnil ccons words_c words_cs names_c names_cs refl (λ a b. refl) (λ f. refl) (λ f a b. refl) (λ vs. read_condition d vs) (condition_leaves d) sheet from count s at (count - turn) t u mid (λ z. let n : ⊥ = omega arith in n) v o)
 
   onward_end_c : (from count : ℕ) (s : List ℕ) (at left : ℕ) (t : List ℕ) → left ≡ 0 → OnwardC d sheet from count s at left t →
       Collected words_cs names_cs from s t (many cnil ccons (λ vs. read_condition d vs) count (drop from sheet)) at
-  onward_end_c = onward_end cnil ccons words_c words_cs names_c names_cs refl (λ a b. refl) (λ f. refl) (λ f a b. refl) (λ vs. read_condition d vs) (condition_left d) sheet
+  onward_end_c = onward_end cnil ccons words_c words_cs names_c names_cs refl (λ a b. refl) (λ f. refl) (λ f a b. refl) (λ vs. read_condition d vs) (condition_leaves d) sheet
 
 -- The fact of a Has.
 unfoldable own_fact : ConditionHead → ℕ → Bool

@@ -13,13 +13,14 @@ use Rattle.model.specs.Policy.{Policy, permit, deny, all, any, or_else, Policies
 use Rattle.model.specs.Reading.{Parsed, refuse, got, next, many, levels, read_condition}
 use Rattle.model.specs.Required.{ones}
 use Rattle.model.specs.Products.{Outcome, read_policy}
-use Rattle.laws.proofs.FieldLaws.{Holds}
-use Rattle.laws.proofs.Deeper.{Follows, deeper}
+use Rattle.laws.proofs.Deeper.{Follows, deeper, refused}
 use Rattle.laws.specs.Size.{words}
 use Rattle.policy_model.specs.declared.PolicyHead.{PolicyHead}
 use Rattle.policy_model.specs.declared.PolicyHead.TheVariants.{Permit, Deny, Grant, OrElse, PermitWithTrace, DenyWithTrace}
 use Rattle.policy_model.specs.declared.PolicyHead.TheVariants as policy
 use Rattle.policy_model.specs.Heads.{policy_head, policy_node}
+use Rattle.policy_model.proofs.Checking.{Leaves}
+use Rattle.policy_model.proofs.Policies.{policy_leaves}
 use Rattle.fact_set.specs.Sets.{Grown}
 use Rattle.fact_set.specs.SetLaws.{empty_set}
 use Rattle.required.specs.Sets.{Walked, Collected, ToTheEnd}
@@ -27,7 +28,7 @@ use Rattle.required.specs.Nodes.{policy_arms, OwnFacts}
 use Rattle.required.specs.Arms.{Toward}
 use Rattle.required.specs.Answers.{set_after, SetOf, FactsOf}
 use Rattle.required.proofs.Arms.{grown_none, grown_as, grown_then}
-use Rattle.required.proofs.Policies.{policy_left, policy_here}
+use Rattle.required.proofs.Policies.{policy_here}
 
 -- The arms of a list are read with a level less.
 abbrev P : List ℕ → Parsed (Policy Outcome)
@@ -73,9 +74,6 @@ names_join f (pcons t ts) us = ap (λ b. names f t || b) (names_join f ts us) �
 
 abbrev joined : Policies Outcome → Parsed (Policies Outcome) → Parsed (Policies Outcome)
 joined ts q = next q (λ us zs. got (join ts us) zs)
-
-refused : {A : Type 0} {n : ℕ} {q : Parsed A} → Follows (refuse n) q
-refused = record { it = tt }
 
 join_none : (q : Parsed (Policies Outcome)) → Follows (joined pnil q) q
 join_none (refuse n) = refused
@@ -141,12 +139,12 @@ module _ (sheet : List ℕ) (at mid : ℕ) (s t : List ℕ) where
   here = drop (at + 1) sheet
 
   -- A node without arms.
-  end_first : (n : ℕ) (u : List ℕ) (q : Parsed (Policy Outcome)) → Holds (λ a vs. vs ≡ drop (words a) (drop at sheet)) q → Collected words names at s t q mid → ToTheEnd namess (many pnil pcons Q (0 + n) (drop mid sheet)) t u →
+  end_first : (n : ℕ) (u : List ℕ) (q : Parsed (Policy Outcome)) → Leaves words (drop at sheet) q → Collected words names at s t q mid → ToTheEnd namess (many pnil pcons Q (0 + n) (drop mid sheet)) t u →
       ToTheEnd namess (and_more n q) s u
   unfolding ToTheEnd Collected
   end_first n u (refuse k) h v w = tt
   end_first n u (got a vs) h v w =
-      let e : drop mid sheet ≡ vs = ap (λ k. drop k sheet) v.ends ∙ sym (drop-drop (words a) at sheet) ∙ sym h.it in
+      let e : drop mid sheet ≡ vs = ap (λ k. drop k sheet) v.ends ∙ sym (drop-drop (words a) at sheet) ∙ h.it in
       end_cons a (many pnil pcons Q n vs) s t u v.adds (subst (λ ws. ToTheEnd namess (many pnil pcons Q n ws) t u) e (subst (λ k. ToTheEnd namess (many pnil pcons Q k (drop mid sheet)) t u) (zero-add n) w))
 
   -- The arms come after the first word.
@@ -157,7 +155,7 @@ module _ (sheet : List ℕ) (at mid : ℕ) (s t : List ℕ) where
       (end_follows namess (next (many pnil pcons P k here) (λ ts vs. joined ts (many pnil pcons Q n vs))) (many pnil pcons Q (k + n) here) t u (join_arms k n here)
       (subst (λ i. ToTheEnd namess (many pnil pcons Q (k + n) (drop i sheet)) t u) v.ends w))
 
-  end_node : (h : PolicyHead) (n : ℕ) (u : List ℕ) → Holds (λ a vs. vs ≡ drop (words a) (drop at sheet)) (policy_node (λ vs. read_condition 31 vs) P h here) →
+  end_node : (h : PolicyHead) (n : ℕ) (u : List ℕ) → Leaves words (drop at sheet) (policy_node (λ vs. read_condition 31 vs) P h here) →
       OwnFacts (λ vs. read_condition 31 vs) h here at s t mid → ToTheEnd namess (many pnil pcons Q (policy_arms h + n) (drop mid sheet)) t u →
       ToTheEnd namess (and_more n (policy_node (λ vs. read_condition 31 vs) P h here)) s u
   unfolding ToTheEnd OwnFacts policy_node policy_arms
@@ -186,7 +184,7 @@ module _ (sheet : List ℕ) (at mid : ℕ) (s t : List ℕ) where
         let e = policy_here sheet at inside in
         let one : suc n - 1 ≡ n = omega arith in
         subst (λ q. ToTheEnd namess (and_more n q) s u) (sym e)
-        (end_node h n u (subst (λ q. Holds (λ a vs. vs ≡ drop (words a) (drop at sheet)) q) e (policy_left true levels (drop at sheet))) own
+        (end_node h n u (subst (λ q. Leaves words (drop at sheet) q) e (policy_leaves true levels (drop at sheet))) own
         (subst (λ k. ToTheEnd namess (many pnil pcons Q (policy_arms h + k) (drop mid sheet)) t u) one w))
 
     pub toward_more : (from : ℕ) (r : List ℕ) → Toward sheet from r at s → Toward sheet from r mid t

@@ -2,31 +2,28 @@
 use Rattle.std.specs.Prelude as prelude
 use mathlib.Core.Path.{◌≡◌, refl, sym, ◌∙◌, ap, subst}
 use mathlib.Core.Bool.{Bool, true, false, cond}
-use mathlib.Core.List.{List, [], ◌∷◌, ◌++◌, map}
+use mathlib.Core.List.{List, [], ◌∷◌}
 use Prim.Native.Nat.{ℕ, suc, ◌+◌, ◌/◌, ◌%◌, ◌≤◌, ◌<◌}
 use native.Mathlib.Numerals.{add-one}
 use native.Mathlib.Omega.{arith}
 use borrow.Author.Tests.{ltb-true}
 use lib.Dec.{eqb, ltb, leb}
-use lib.ListN.{length, drop, get_or, length-map}
+use lib.ListN.{length, drop, get_or}
 use lib.Seq.{drop-cons, drop-drop}
-use Rattle.model.specs.Fields.{words_for, per_word, pack}
-use Rattle.model.specs.Outcome.{product_sets}
+use Rattle.model.specs.Fields.{words_for}
 use Rattle.model.specs.Condition.{Condition, names_c}
 use Rattle.model.specs.Decision.{Decision}
 use Rattle.model.specs.Policy.{stored, names}
 use Rattle.model.specs.Writing.{obligation_bits, entry_bits}
-use Rattle.model.specs.Reading.{Parsed, refuse, got, next, another, read_list, obligation, listed, mark, levels, read_condition, most_obligations}
-use Rattle.model.specs.Products.{Outcome, encode, read_policy, policy_at}
-use Rattle.laws.proofs.FieldLaws.{Holds, fine, nothing, if_holds, weaker, then_holds, same_list_lem}
+use Rattle.model.specs.Reading.{Parsed, refuse, got, next, read_list, obligation, listed, mark, levels, read_condition, most_obligations}
+use Rattle.model.specs.Products.{Outcome, read_policy, policy_at}
+use Rattle.laws.proofs.FieldLaws.{Holds, fine, nothing, if_holds, weaker, then_holds, anything}
 use Rattle.laws.specs.Size.{words_c, words_d, words}
-use Rattle.laws.proofs.Lengths.{length_pack, length_encode}
-use Rattle.laws.proofs.ReadForm.{same_obligation, same_listed}
-use Rattle.laws.specs.Products.{written_products}
-use Rattle.laws.proofs.Canon.{same_t}
+use Rattle.laws.proofs.ReadForm.{read_obligations, read_facts}
+use Rattle.laws.proofs.NodeLaws.{another_holds}
 use Rattle.policy_model.specs.declared.DenyShape.{DenyShape}
 use Rattle.policy_model.specs.declared.PolicyHead.{PolicyHead}
-use Rattle.policy_model.specs.declared.PolicyHead.TheVariants.{Permit, Deny, Grant, OrElse, PermitWithTrace, DenyWithTrace}
+use Rattle.policy_model.specs.declared.PolicyHead.TheVariants.{Grant}
 use Rattle.policy_model.specs.declared.PolicyHead.TheVariants as policy
 use Rattle.policy_model.specs.Heads.{shape_by, permit_trace_node, deny_trace_node, grant_node, grant_head, policy_head, policy_node}
 use Rattle.policy_model.specs.HeadLaws.{head_cases, policy_node_lem}
@@ -34,36 +31,9 @@ use Rattle.policy_model.specs.Span.{own_of}
 use Rattle.policy_model.proofs.Skipping.{permit_owns, deny_owns}
 use Rattle.required.specs.Sets.{Walked, Collected}
 use Rattle.required.specs.Nodes.{OwnFacts}
-use Rattle.required.proofs.Arms.{grown_none, left_of_lem}
-
--- What a policy leaves begins where its words end.
-pub policy_left : (res : Bool) (d : ℕ) (us : List ℕ) → Holds (λ t vs. vs ≡ drop (words t) us) (read_policy res d us)
-policy_left res d us =
-    weaker (read_policy res d us) (λ t vs e. left_of_lem (encode t) vs us (words t) (length_encode product_sets.number t) e)
-    (same_t product_sets.number product_sets.value written_products.only res d us)
+use Rattle.required.proofs.Arms.{grown_none}
 
 -- ---- what stands before a policy's arms
-pub another_of : {B : Type 0} {R : B → List ℕ → Type 0} (ws : List ℕ) (k : ℕ → List ℕ → Parsed B) → ((w : ℕ) (vs : List ℕ) → ws ≡ w ∷ vs → Holds R (k w vs)) → Holds R (another ws k)
-another_of [] k f = nothing
-another_of (w ∷ ws) k f = f w ws refl
-
-anything : {A : Type 0} (q : Parsed A) → Holds (λ a vs. Unit {0}) q
-anything (refuse n) = nothing
-anything (got a vs) = fine tt
-
--- A list of k numbers leaves the words after its own.
-left_list : (width k : ℕ) (us xs vs : List ℕ) → length xs ≡ k → pack width (map (λ o. o) xs) ++ vs ≡ us → vs ≡ drop (words_for (per_word width) k) us
-left_list width k us xs vs l e =
-    left_of_lem (pack width (map (λ o. o) xs)) vs us (words_for (per_word width) k)
-    (length_pack width (map (λ o. o) xs) ∙ ap (λ n. words_for (per_word width) n) (length-map xs (λ o. o) ∙ l)) e
-
-obligations_left : (n : ℕ) (us : List ℕ) → Holds (λ os vs. (length os ≡ n) × (vs ≡ drop ((n + 3) / 4) us)) (read_list obligation obligation_bits n us)
-obligations_left n us =
-    weaker (read_list obligation obligation_bits n us) (λ os vs r. (r.long, left_list obligation_bits n us os vs r.long r.were)) (same_list_lem (λ o. o) obligation same_obligation obligation_bits 3 n us refl)
-
-facts_long : (n : ℕ) (us : List ℕ) → Holds (λ fs vs. length fs ≡ n) (read_list listed entry_bits n us)
-facts_long n us = weaker (read_list listed entry_bits n us) (λ fs vs r. r.long) (same_list_lem (λ f. f) listed same_listed entry_bits 1 n us refl)
-
 -- The words after the one at an index.
 module _ (sheet : List ℕ) (at w : ℕ) (vs : List ℕ) (e : drop at sheet ≡ w ∷ vs) where
   words_after : vs ≡ drop (at + 1) sheet
@@ -87,14 +57,14 @@ module _ (sheet : List ℕ) (at end n : ℕ) (s t : List ℕ) where
   grant_facts pc shape o c =
       let start = at + 2 + (n + 3) / 4 in
       collected_of words names at (grant_node pc shape n o (drop (at + 1) sheet))
-      (another_of (drop (at + 1) sheet) _ (λ w vs ew.
+      (another_holds (drop (at + 1) sheet) _ (λ w vs ew.
       then_holds (mark (w / 65536)) _ (anything (mark (w / 65536))) (λ l _ _.
       then_holds (mark (w % 65536)) _ (anything (mark (w % 65536))) (λ m _ _.
-      then_holds (read_list obligation obligation_bits n vs) _ (obligations_left n vs) (λ os us r.
+      then_holds (read_list obligation obligation_bits n vs) _ (read_obligations n vs) (λ os us r.
       let e : us ≡ drop start sheet =
-      r.1 ∙ ap (drop ((n + 3) / 4)) (words_after sheet (at + 1) w vs ew) ∙ drop-drop ((n + 3) / 4) (at + 1 + 1) sheet
+      sym r.left ∙ ap (drop ((n + 3) / 4)) (words_after sheet (at + 1) w vs ew) ∙ drop-drop ((n + 3) / 4) (at + 1 + 1) sheet
       ∙ ap (λ k. drop k sheet) (let k : at + 1 + 1 + (n + 3) / 4 ≡ start = omega arith in k) in
-      let l : length os ≡ n = r.0 in
+      let l : length os ≡ n = r.long in
       then_holds (pc us) _ (holds_of words_c names_c start (pc us) (subst (λ x. Collected words_c names_c start s t (pc x) end) (sym e) c)) (λ c _ v.
       fine (record { ends = omega (arith, v.ends); adds = v.adds })))))))
 
@@ -105,10 +75,11 @@ permit_trace_long n o [] = nothing
 permit_trace_long n o (w ∷ vs) =
     then_holds (mark (w / 65536)) _ (anything (mark (w / 65536))) (λ l _ _.
     if_holds (ltb (w % 65536) 4096) 8 _ (λ t.
-    then_holds (read_list obligation obligation_bits n vs) _ (obligations_left n vs) (λ os us r.
-    then_holds (read_list listed entry_bits (w % 65536) us) _ (facts_long (w % 65536) us) (λ fs _ k.
+    then_holds (read_list obligation obligation_bits n vs) _ (read_obligations n vs) (λ os us r.
+    then_holds (read_list listed entry_bits (w % 65536) us) _ (read_facts (w % 65536) us) (λ fs _ k.
     let few : w % 65536 < 4096 = ltb-true (w % 65536) 4096 t in
-    let lo : length os ≡ n = r.0 in
+    let lf = k.long in
+    let lo : length os ≡ n = r.long in
     fine (omega arith)))))
 
 deny_trace_long : (shape : DenyShape) (denied : prelude.Option ℕ) (ws : List ℕ) → Holds (λ d vs. words_d d ≡ 3 + words_for 2 (get_or ws 1 0 % 4096)) (deny_trace_node shape denied ws)
@@ -117,11 +88,12 @@ deny_trace_long shape denied [] = nothing
 deny_trace_long shape denied (w ∷ vs) =
     then_holds (mark (w / 65536)) _ (anything (mark (w / 65536))) (λ l _ _.
     then_holds (mark (w % 65536)) _ (anything (mark (w % 65536))) (λ m _ _.
-    another_of vs _ (λ n us en.
+    another_holds vs _ (λ n us en.
     let counted : get_or (w ∷ vs) 1 0 ≡ n = ap (λ l. get_or (w ∷ l) 1 0) en in
     if_holds (ltb n 4096) 8 _ (λ t.
-    then_holds (read_list listed entry_bits n us) _ (facts_long n us) (λ fs _ k.
+    then_holds (read_list listed entry_bits n us) _ (read_facts n us) (λ fs _ k.
     let few : n < 4096 = ltb-true n 4096 t in
+    let lf = k.long in
     fine (omega arith))))))
 
 -- They name nothing.

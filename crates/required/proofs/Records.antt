@@ -1,26 +1,26 @@
 -- The answer for a record, from its check and from the facts of its tree. Assumes nothing.
 use mathlib.Core.Path.{◌≡◌, refl, sym, ◌∙◌, ap, ap₂, subst}
 use mathlib.Core.Bool.{Bool, true, false}
-use mathlib.Core.List.{List, [], ◌∷◌, map}
+use mathlib.Core.List.{List, [], ◌∷◌}
 use Prim.Native.Nat.{ℕ, zero, suc, ◌+◌, ◌-◌, ◌%◌, ◌^◌}
 use native.Mathlib.Omega.{arith}
 use lib.Dec.{leb}
-use lib.ListN.{length, drop, replicate, length-map}
+use lib.ListN.{drop, replicate}
 use lib.Seq.{drop-drop}
-use Rattle.model.specs.Fields.{words_for, pack}
+use Rattle.model.specs.Fields.{words_for}
 use Rattle.model.specs.Decision.{Decision}
 use Rattle.model.specs.Policy.{Policy, names}
 use Rattle.model.specs.Partial.{ReducedPolicy, resolved, pending}
 use Rattle.model.specs.Consulted.{Consulted}
 use Rattle.model.specs.Record.{Record, tree}
-use Rattle.model.specs.Writing.{count_bits, entry_bits, entry_field}
+use Rattle.model.specs.Writing.{count_bits, entry_bits}
 use Rattle.model.specs.Reading.{Parsed, refuse, got, next, unless, read_list, consulted, kind_of, rest_of, whole, levels}
 use Rattle.model.specs.Required.{fact_set, required_of}
 use Rattle.model.specs.Products.{Outcome, read_policy, at12, at13, node14, parse14, parse15, rest, leads, read_lead, policy_at}
-use Rattle.laws.proofs.FieldLaws.{Holds, fine, nothing, if_holds, weaker, then_holds, same_list_lem}
+use Rattle.laws.proofs.FieldLaws.{Holds, fine, nothing, if_holds, then_holds}
 use Rattle.laws.specs.Size.{pairs}
-use Rattle.laws.proofs.Lengths.{length_pack}
-use Rattle.laws.proofs.ReadForm.{same_consulted}
+use Rattle.laws.proofs.ReadForm.{read_entries}
+use Rattle.laws.proofs.NodeLaws.{another_holds}
 use Rattle.laws.specs.Numbers.{Numbered}
 use Rattle.policy_model.specs.Answers.{Lead, lead_of}
 use Rattle.std.specs.Prelude.{Result, Ok, Err}
@@ -29,8 +29,6 @@ use Rattle.refusal.specs.Numbers.{by_number}
 use Rattle.required.specs.CountLaws.{ones_named}
 use Rattle.required.specs.Answers.{set_after, count_in, Given, FactsOf, Answered, tree_of}
 use Rattle.required.specs.AnswerLaws.{refused_is}
-use Rattle.required.proofs.Arms.{left_of_lem}
-use Rattle.required.proofs.Policies.{another_of}
 
 -- Where the tree of a Pending record stands: after its lead and the consulted entries.
 pub record TreeAt (rec : List ℕ) (r : Record Outcome) (us : List ℕ) : Type 0 where
@@ -53,22 +51,16 @@ tree_14_by q (suc zero) r ws = tree_14_at q (at13 r ws)
 tree_14_by q (suc (suc k)) r ws = nothing
 
 tree_14 : (q : Parsed (Policy Outcome)) (vs : List ℕ) → Holds (BodyOf q) (parse14 vs)
-tree_14 q vs = another_of vs _ (λ w us _. if_holds (leb 12 (kind_of w)) 5 _ (λ _. tree_14_by q (kind_of w - 12) (rest_of w) us))
-
-entries_left : (n : ℕ) (us : List ℕ) → Holds (λ es vs. (length es ≡ n) × (vs ≡ drop (words_for 2 n) us)) (read_list consulted entry_bits n us)
-entries_left n us =
-    weaker (read_list consulted entry_bits n us)
-    (λ es vs r. (r.long, left_of_lem (pack entry_bits (map entry_field es)) vs us (words_for 2 n) (length_pack entry_bits (map entry_field es) ∙ ap (words_for 2) (length-map es entry_field ∙ r.long)) r.were))
-    (same_list_lem entry_field consulted same_consulted entry_bits 1 n us refl)
+tree_14 q vs = another_holds vs _ (λ w us _. if_holds (leb 12 (kind_of w)) 5 _ (λ _. tree_14_by q (kind_of w - 12) (rest_of w) us))
 
 module _ (rec : List ℕ) (w : ℕ) (ws : List ℕ) (e : rec ≡ w ∷ ws) where
   rest_tree : (p : List ℕ → Parsed (ReducedPolicy Outcome)) → ((vs : List ℕ) → Holds (BodyOf (read_policy true levels vs)) (p vs)) → (r : ℕ) → Holds (TreeAt rec) (rest p r ws)
   rest_tree p h r =
       let count = r % 2 ^ count_bits in
-      then_holds (read_list consulted entry_bits count ws) _ (entries_left count ws) (λ es vs l.
+      then_holds (read_list consulted entry_bits count ws) _ (read_entries count ws) (λ es vs l.
       then_holds (p vs) _ (h vs) (λ b us g.
-      let long : pairs es ≡ words_for 2 count = ap (words_for 2) l.0 in
-      let there : drop (1 + pairs es) rec ≡ vs = sym (drop-drop (pairs es) 1 rec) ∙ ap₂ (λ k x. drop k (drop 1 x)) long e ∙ sym l.1 in
+      let long : pairs es ≡ words_for 2 count = ap (words_for 2) l.long in
+      let there : drop (1 + pairs es) rec ≡ vs = sym (drop-drop (pairs es) 1 rec) ∙ ap₂ (λ k x. drop k (drop 1 x)) long e ∙ l.left in
       fine (record { stands = λ t k. ap (read_policy true levels) there ∙ g.body_is t k })))
 
   leads_tree : (k r : ℕ) → Holds (TreeAt rec) (leads k r ws)
@@ -77,7 +69,7 @@ module _ (rec : List ℕ) (w : ℕ) (ws : List ℕ) (e : rec ≡ w ∷ ws) where
   leads_tree (suc (suc k)) r = nothing
 
 pub record_tree : (rec : List ℕ) → Holds (TreeAt rec) (read_lead rec)
-record_tree rec = another_of rec _ (λ w ws e. if_holds (leb 14 (kind_of w)) 5 _ (λ _. leads_tree rec w ws e (kind_of w - 14) (rest_of w)))
+record_tree rec = another_holds rec _ (λ w ws e. if_holds (leb 14 (kind_of w)) 5 _ (λ _. leads_tree rec w ws e (kind_of w - 14) (rest_of w)))
 
 -- ---- the three answers
 abbrev lead_is : ℕ → ℕ → ℕ → Parsed Lead

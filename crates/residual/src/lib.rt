@@ -2,7 +2,7 @@
 // An output may be too short for the words, and then only their size is right.
 #![tactic(auto)]
 
-ghost use Rattle.std.specs.Prelude.{◌≡◌, true, [], ◌+◌, ◌≤◌, ◌<◌, length};
+ghost use Rattle.std.specs.Prelude.{◌≡◌, true, [], ◌+◌, ◌≤◌, ◌<◌};
 ghost use Rattle.model.specs.Facts.{fact_count, table_of};
 ghost use Rattle.model.specs.Decision.{permits, combined};
 ghost use Rattle.decision.specs.Meaning.{permitted_at};
@@ -19,7 +19,7 @@ use decision::Decision;
 fn from_one_node(decision: Decision) -> bool
     ensures { result ≡ true → decision ≡ permitted_at decision.outcome decision.clause decision.clause 0 }
 {
-    decision == decision::permitted_by(decision.outcome, decision.clause)
+    decision.permit && decision.united == 0 && decision.obligations == decision.clause
 }
 
 // Lays the node of a permit with nothing but its outcome.
@@ -50,9 +50,36 @@ fn lay_on_fact(outcome: u16, fact: u32, out: &mut [u32]) -> usize
     3
 }
 
+// Lays the node of any decision, as `policy_from_decision` does. Its obligations and its facts are gathered as in `answer::put_record`: a function for both
+// would hand back two buffers, two counts and a size. It keeps a frame of its own, since its room for obligations would stand in a list's frame for each level.
+#[inline(never)]
+fn lay_gathered(
+    walk: &Walk<'_>,
+    decision: Decision,
+    buf: &mut [u8],
+    named: &mut [u16],
+    out: &mut [u32],
+) -> usize
+    requires { Few decision × RoomToUnite 1 buf.old × RoomToName walk.now.words.now named.old }
+    ensures { NodeLaid walk.now.words.now (table_of walk.now.facts.now) decision buf.old buf.new out.new result }
+{
+    let words = walk.words;
+    let mut obligations = [0u8; decision::LIST_ROOM];
+    let held = decision::obligations(words, decision, buf, &mut obligations);
+    let count = clause::clause_facts(walk, decision.clause, named);
+    if !clause::countable(decision.permit, held, count) {
+        return sizes::TOO_MANY;
+    }
+    let size = clause::decision_words(decision.permit, held, count);
+    if out.len() < size {
+        return size;
+    }
+    clause::write_decision(words, decision, &obligations[..held], &named[..count], out)
+}
+
 // Lays the node of a resolved part, a PermitWithTrace or a DenyWithTrace, at the front of `out`, and returns its size: too many words for a record
-// where its obligations or its facts can't be counted. They are gathered as in `answer::put_record`: a function for both would hand back two buffers, two
-// counts and a size.
+// where its obligations or its facts can't be counted. It is compiled into the lists, for the sake of the short nodes.
+#[inline(always)]
 pub fn policy_from_decision(
     walk: &Walk<'_>,
     decision: Decision,
@@ -73,17 +100,7 @@ pub fn policy_from_decision(
             return lay_on_fact(decision.outcome, words[at + 2] % policy_model::FACTS, out);
         }
     }
-    let mut obligations = [0u8; decision::LIST_ROOM];
-    let held = decision::obligations(words, decision, buf, &mut obligations);
-    let count = clause::clause_facts(walk, decision.clause, named);
-    if !clause::countable(decision.permit, held, count) {
-        return sizes::TOO_MANY;
-    }
-    let size = clause::decision_words(decision.permit, held, count);
-    if out.len() < size {
-        return size;
-    }
-    clause::write_decision(words, decision, &obligations[..held], &named[..count], out)
+    lay_gathered(walk, decision, buf, named, out)
 }
 
 // Makes a list of the first `kept` words of `front`, the nodes of its resolved parts, and of the pending arms in `out`, which are the words after the

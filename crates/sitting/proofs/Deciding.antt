@@ -29,8 +29,8 @@ use Rattle.refusal.specs.declared.Refusal.{Refusal}
 use Rattle.refusal.specs.Numbers.{number_of, by_number}
 use Rattle.answer.specs.Answers.{Answer, Answered, answer_of}
 use Rattle.listing.specs.Texts.{Wrote, ListedAs}
-use Rattle.listing.specs.Writers.{wrote_as}
-use Rattle.listing.specs.RecordTexts.{listed_resolved}
+use Rattle.listing.specs.WriterLaws.{wrote_as}
+use Rattle.listing.specs.RecordTextLaws.{listed_resolved}
 
 -- A sheet that reads leaves no word.
 sheet_whole : (sheet : List ℕ) (t : Policy Outcome) (vs : List ℕ) → read_sheet sheet ≡ got t vs → vs ≡ []

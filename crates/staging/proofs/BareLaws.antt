@@ -8,7 +8,7 @@ use Rattle.model.specs.Decision.{Permit, Denial, Decision, permits, denies, prod
 use Rattle.model.specs.Policy.{Grant}
 use Rattle.model.specs.Evaluate.{eval_grant, first_of, first_deny, all_end, all_from, any_end, any_from}
 use Rattle.staging.specs.Bare.{bare_permit, bare_denial, bare}
-use Rattle.staging.proofs.ConditionLaws.{is_satisfied}
+use Rattle.laws.specs.Truth.{is_satisfied}
 
 abbrev pub bares : {O : Type 0} → List (Decision O) → List (Decision O)
 bares [] = []

@@ -3,30 +3,14 @@ use Rattle.std.specs.Prelude.{◌≡◌, refl, ◌⊎◌, Bool, true, false, not
 use Rattle.std.proofs.Common.{sym, ◌∙◌, ap, ap₂, inl, inr}
 use Rattle.std.proofs.Math.Bool.{and-true, and-false, or-true, or-false}
 use Rattle.model.specs.Facts.{Presence, absent, present, unknown, silent, Table, heard}
-use Rattle.model.specs.Condition.{Condition, always, never, has, not_c, all_c, any_c, Conditions, cnil, ccons, ConditionEval, satisfied, unsatisfied, eval_has, flip, both, either, unless_none, eval_condition, eval_condition_all, eval_condition_any}
+use Rattle.model.specs.Condition.{Condition, always, never, has, not_c, all_c, any_c, Conditions, cnil, ccons, ConditionEval, satisfied, unsatisfied, eval_has, unless_none, eval_condition, eval_condition_all, eval_condition_any}
 use Rattle.model.specs.Partial.{ReducedCondition, known, pending_c, reduce_has, flip_r, ConditionWalk, stopped, through, step_all_c, step_any_c, end_all_c, end_any_c, reduce_condition, reduce_condition_all, reduce_condition_any}
 use Rattle.laws.proofs.SilenceLaws.{has_heard}
+use Rattle.laws.proofs.TruthLaws.{truth_both, truth_either, truth_flip}
 use Rattle.laws.specs.Each.{EachC, EachCs, Agrees}
+use Rattle.laws.specs.Truth.{is_satisfied}
 
 -- Whether a condition came out true.
-abbrev pub is_satisfied : ConditionEval → Bool
-is_satisfied (satisfied fs) = true
-is_satisfied (unsatisfied fs) = false
-
-truth_both : (v w : ConditionEval) → is_satisfied (both v w) ≡ is_satisfied v && is_satisfied w
-truth_both (unsatisfied fs) w = refl
-truth_both (satisfied fs) (unsatisfied gs) = refl
-truth_both (satisfied fs) (satisfied gs) = refl
-
-truth_either : (v w : ConditionEval) → is_satisfied (either v w) ≡ is_satisfied v || is_satisfied w
-truth_either (satisfied fs) w = refl
-truth_either (unsatisfied fs) (satisfied gs) = refl
-truth_either (unsatisfied fs) (unsatisfied gs) = refl
-
-truth_flip : (v : ConditionEval) → is_satisfied (flip v) ≡ not (is_satisfied v)
-truth_flip (satisfied fs) = refl
-truth_flip (unsatisfied fs) = refl
-
 -- The truth of what a reduction gives, under the known table K.
 abbrev pub truth_r : Table → ReducedCondition → Bool
 truth_r K (known b) = b

@@ -9,7 +9,8 @@ use Rattle.model.specs.Policy.{Policy, permit, deny, grant, all, any, or_else, s
 use Rattle.model.specs.Evaluate.{eval_policy}
 use Rattle.model.specs.Partial.{ReducedCondition, known, pending_c, reduce_condition, ReducedPolicy, resolved, pending, Order, reduce_policy}
 use Rattle.model.specs.Consulted.{Entry, Consulted, is_consulted, consult, consult_known, once_from, once, after_true, after_false, read_c, read_all_c, read_any_c, after_permit, after_deny, unless_false, unless_true, walk_c, walk_all_c, walk_any_c, unless_denied, unless_permitted, read, read_all, read_any, walk, walk_all, walk_any}
-use Rattle.laws.specs.Lists.{Distinct, Every, insert_distinct, insert_every, pigeon}
+use Rattle.laws.specs.Lists.{Distinct, Every}
+use Rattle.laws.proofs.ListLaws.{insert_distinct, insert_every, pigeon}
 use Rattle.laws.specs.Size.{words_c, words_cs, words, wordss}
 use Rattle.laws.specs.Each.{EachC, EachCs, Each, Eachs}
 

@@ -1,7 +1,8 @@
 -- Request 7: a table that agrees contradicts no entry of a record on the way, since each entry says what the known table says, silence being Absent, of a fact
 -- that the sheet names.
-use Rattle.std.specs.Prelude.{◌≡◌, refl, ◌⊎◌, Bool, true, false, cond, ◌||◌, List, [], ◌∷◌, ◌++◌, ℕ}
+use Rattle.std.specs.Prelude.{◌≡◌, refl, ◌⊎◌, Bool, true, false, cond, List, [], ◌∷◌, ◌++◌, ℕ}
 use Rattle.std.proofs.Common.{sym, ◌∙◌, inl, inr, arith}
+use Rattle.std.proofs.lemmas.Bool.{or_from}
 use Rattle.model.specs.Facts.{Presence, absent, present, unknown, silent, Table, heard}
 use Rattle.model.specs.Outcome.{Outcomes}
 use Rattle.model.specs.Policy.{Policy}
@@ -9,7 +10,8 @@ use Rattle.model.specs.Partial.{ReducedPolicy, resolved, pending, Order, as_resi
 use Rattle.model.specs.Consulted.{Entry, Consulted, is_consulted, consult, consult_known, contradicts, any_contradicted, once_from, once, walk}
 use Rattle.model.specs.Record.{Record, tree, reduced, narrowed_from, narrowed}
 use Rattle.laws.specs.Each.{Each, Agrees}
-use Rattle.laws.specs.Names.{Names, each_of}
+use Rattle.laws.specs.Names.{Names}
+use Rattle.laws.proofs.NameLaws.{each_of}
 use Rattle.staging.proofs.ConsultedLaws.{walk_keeps}
 use Rattle.staging.proofs.Stages.{each_map, red_left, narrow_keeps}
 use Rattle.staging.specs.Chain.{Step, AllOf, run}
@@ -95,12 +97,9 @@ module _ (L : Outcomes) (K : Table) (t : Policy L.O) where
   no_clash unknown q f e h = refl
   no_clash silent q f e h = refl
 
-  or_false : (a b : Bool) → a ≡ false → b ≡ false → (a || b) ≡ false
-  or_false a b p q = rw (p, q)
-
   module _ (P : Table) (agrees : AgreesThere P) where
     pub no_contradiction : (l : Consulted) → EachEntry Said l → any_contradicted P l ≡ false
     no_contradiction [] h = refl
     no_contradiction (e ∷ es) h =
-        or_false (contradicts e.seen (P e.fact)) (any_contradicted P es)
+        or_from (contradicts e.seen (P e.fact)) (any_contradicted P es)
         (no_clash e.seen (P e.fact) e.fact h.0.0 (agrees e.fact h.0.1)) (no_contradiction es h.1)

@@ -4,6 +4,7 @@ use Rattle.std.proofs.Math.Path.{refl, sym, ap, subst}
 use Rattle.std.proofs.Common.{◌∙◌, arith, le-leb, ltb-true, eq-eqb}
 use Rattle.std.proofs.Math.Bool.{true, false}
 use Rattle.std.proofs.Math.Option.{Option, none, some}
+use Rattle.std.proofs.lemmas.Bool.{and_from}
 use mathlib.Core.List.{List, [], ◌∷◌}
 use Rattle.model.specs.Facts.{unknown, Table, table_of, partial_facts, known_facts, table_fault}
 use Rattle.model.specs.Outcome.{Outcomes}
@@ -20,7 +21,7 @@ use Rattle.model.specs.Calls.{Answer, refusal, wrote, number_of, unless_long, un
 use Rattle.laws.specs.Lists.{Every}
 use Rattle.laws.proofs.FieldLaws.{Holds}
 use Rattle.laws.specs.Each.{Each, Agrees}
-use Rattle.laws.specs.Names.{each_of, of_each}
+use Rattle.laws.proofs.NameLaws.{each_of, of_each}
 use Rattle.laws.specs.Numbers.{Faulty}
 use Rattle.laws.proofs.NumberLaws.{table_faulty}
 use Rattle.laws.specs.Form.{Few, FewRepeats, FormD, Form, Forms, depth}
@@ -33,20 +34,17 @@ use Rattle.laws.specs.Lattice.{InTable}
 use Rattle.laws.proofs.LevelLaws.{lawful_of, written_of, table_wrote}
 use Rattle.staging.proofs.SizeLaws.{most}
 use Rattle.staging.proofs.ConsultedLaws.{consulted_facts, log_length}
-use Rattle.staging.specs.Chain.{Step, AllOf, all_map, run}
+use Rattle.staging.specs.Chain.{Step, AllOf, run}
 use Rattle.staging.proofs.Bound.{Fit, fit_narrow_body, fit_complete_body, fit_run, fit_reduce, fit_evaluate, roomy}
-use Rattle.staging.proofs.Stages.{TreeStaged, staged}
+use Rattle.staging.proofs.Stages.{TreeStaged, staged, all_map}
 use Rattle.staging.proofs.Contradictions.{Faithful, faithful_reduced, faithful_run, no_contradiction}
 use Rattle.staging.specs.Statement.{Call, handed_on, step_of, if_wrote, AgreesOn, Settled, answer_to, after, accepted, Roomy, Staged}
-
-and_is : (a b : Bool) → a ≡ true → b ≡ true → (a && b) ≡ true
-and_is a b p q = rw (p, q)
 
 -- ---- a tree of good form holds no list over what its count can say
 module _ {O : Type 0} (G : O → Type 0) where
   short_d_lem : (d : Decision O) → FormD G FewRepeats d → short_d d ≡ true
   short_d_lem (permits p) h =
-      and_is (leb (length p.facts) most_listed) (leb (length p.obligations) most_held) (le-leb (length p.facts) most_listed h.3.0) (le-leb (length p.obligations) most_held (few_countable p.obligations h.1))
+      and_from (leb (length p.facts) most_listed) (leb (length p.obligations) most_held) (le-leb (length p.facts) most_listed h.3.0) (le-leb (length p.obligations) most_held (few_countable p.obligations h.1))
   short_d_lem (denies d) h = le-leb (length d.facts) most_listed h.1.0
 
   mutual
@@ -56,12 +54,12 @@ module _ {O : Type 0} (G : O → Type 0) where
     short_t (grant g c) h = refl
     short_t (all ts) h = short_ts ts h.1
     short_t (any ts) h = short_ts ts h.1
-    short_t (or_else a b) h = and_is (short a) (short b) (short_t a h.0) (short_t b h.1)
+    short_t (or_else a b) h = and_from (short a) (short b) (short_t a h.0) (short_t b h.1)
     short_t (stored d) h = short_d_lem d h
 
     short_ts : (ts : Policies O) → Forms G ts → shorts ts ≡ true
     short_ts pnil h = refl
-    short_ts (pcons t ts) h = and_is (short t) (shorts ts) (short_t t h.0) (short_ts ts h.1)
+    short_ts (pcons t ts) h = and_from (short t) (shorts ts) (short_t t h.0) (short_ts ts h.1)
 
 facts_of_lem : (l : Consulted) → Every (λ f. f < 1024) (consulted_facts l) → Named l
 facts_of_lem [] h = tt
@@ -118,13 +116,13 @@ module _ (L : Outcomes) (G : L.O → Type 0) (codec : Written L G) where
         let n = within_words r h in
         let m = good.4 in
         let e = good.2 in
-        and_is (leb 1 (length (encode_r L.number r))) (leb (length (encode_r L.number r)) 16384) (le-leb 1 (length (encode_r L.number r)) (omega (arith, length_encode_r L.number r)))
+        and_from (leb 1 (length (encode_r L.number r))) (leb (length (encode_r L.number r)) 16384) (le-leb 1 (length (encode_r L.number r)) (omega (arith, length_encode_r L.number r)))
         (le-leb (length (encode_r L.number r)) 16384 (omega arith))
 
     fits_within : (r : Record L.O) (room : ℕ) → Within r → 3 * length sheet + 513 ≤ room → fits L room r ≡ true
     fits_within r room h k =
-        and_is (leb (length (encode_r L.number r)) room && record_length (encode_r L.number r)) (short (tree r))
-        (and_is (leb (length (encode_r L.number r)) room) (record_length (encode_r L.number r)) (le-leb (length (encode_r L.number r)) room (omega (arith, within_words r h))) (few r h))
+        and_from (leb (length (encode_r L.number r)) room && record_length (encode_r L.number r)) (short (tree r))
+        (and_from (leb (length (encode_r L.number r)) room) (record_length (encode_r L.number r)) (le-leb (length (encode_r L.number r)) room (omega (arith, within_words r h))) (few r h))
         (short_t G (tree r) h.form)
 
     within_narrowed : (o : Order) (P : Table) (r : Record L.O) → Within r → Within (narrowed L o P r)

@@ -11,7 +11,8 @@ use Rattle.model.specs.Evaluate.{eval_grant, first_of, first_deny, all_end, all_
 use Rattle.model.specs.Partial.{ReducedCondition, known, pending_c, reduce_has, flip_r, ConditionWalk, stopped, through, step_all_c, step_any_c, end_all_c, end_any_c, reduce_condition, reduce_condition_all, reduce_condition_any, ReducedPolicy, resolved, pending, as_residual, arms, kept, AllWalk, stop, go, step_all, walked_all, AnyWalk, parts, step_any, walked_any, up_to_deny, in_order, reduce_grant, reduce_or_else, end_all, end_any, Order, permits_first, sheet_order, all_of, any_of, reduce_policy, reduce_arms}
 use Rattle.model.specs.Writing.{count_c, count}
 use Rattle.model.specs.Reading.{obligation_count, most_obligations}
-use Rattle.laws.specs.Lists.{Below, every_append, unite_every, unite_repeats, repeats_few}
+use Rattle.laws.specs.Lists.{Below}
+use Rattle.laws.proofs.ListLaws.{every_append, unite_every, unite_repeats, repeats_few}
 use Rattle.laws.specs.Size.{words_c}
 use Rattle.laws.specs.Form.{FormC, FormCs, IfThere, FormF, FormO, FewRepeats, FormP, FormN, FormD, FormG, Form, Forms, depth_c, depth_cs, depth, depths}
 use Rattle.staging.proofs.Arms.{up_to_deny_lem, ends_in_order}

@@ -10,7 +10,8 @@ use Rattle.model.specs.Policy.{Grant, Policy, permit, deny, grant, all, any, or_
 use Rattle.model.specs.Evaluate.{eval_grant, first_of, all_from, any_from, eval_policy, eval_policies}
 use Rattle.model.specs.Partial.{ReducedCondition, known, pending_c, reduce_condition, ReducedPolicy, resolved, pending, as_residual, reduce_grant, reduce_or_else, sheet_order, until_deny, up_to_deny, in_order, any_pending, end_in_order, reduce_policy, reduce_arms}
 use Rattle.laws.specs.Each.{EachC, Each, Eachs, Agrees}
-use Rattle.staging.proofs.ConditionLaws.{is_satisfied, truth_r, red_c_sound, known_again}
+use Rattle.laws.specs.Truth.{is_satisfied}
+use Rattle.staging.proofs.ConditionLaws.{truth_r, red_c_sound, known_again}
 use Rattle.staging.specs.Bare.{bare}
 use Rattle.staging.proofs.BareLaws.{bares, bare_all_from, bare_any_from, bare_grant, bare_first_of}
 

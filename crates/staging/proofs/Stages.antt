@@ -19,7 +19,12 @@ use Rattle.staging.proofs.BareLaws.{same_products}
 use Rattle.staging.proofs.OneSitting.{ordered_sound}
 use Rattle.staging.proofs.PolicyLaws.{red_sound}
 use Rattle.staging.proofs.Arms.{up_to_deny_lem, ends_in_order}
-use Rattle.staging.specs.Chain.{Step, InOrder, AllOf, all_map, run}
+use Rattle.staging.specs.Chain.{Step, InOrder, AllOf, run}
+
+-- Where Q gives R, what has Q throughout has R throughout.
+pub all_map : (Q R : Step → Type 0) (ss : List Step) → ((s : Step) → Q s → R s) → AllOf Q ss → AllOf R ss
+all_map Q R [] f h = tt
+all_map Q R (s ∷ ss) f h = (f s h.0, all_map Q R ss f h.1)
 
 -- ---- what holds of each fact that a tree names
 module _ {Q R : ℕ → Type 0} (f : (n : ℕ) → Q n → R n) where

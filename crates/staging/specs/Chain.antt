@@ -18,10 +18,6 @@ abbrev pub AllOf : (Step → Type 0) → List Step → Type 0
 AllOf Q [] = Unit {0}
 AllOf Q (s ∷ ss) = Q s × AllOf Q ss
 
-pub all_map : (Q R : Step → Type 0) (ss : List Step) → ((s : Step) → Q s → R s) → AllOf Q ss → AllOf R ss
-all_map Q R [] f h = tt
-all_map Q R (s ∷ ss) f h = (f s h.0, all_map Q R ss f h.1)
-
 -- A record narrowed by one after the other.
 module _ (L : Outcomes) where
   abbrev pub run : Record L.O → List Step → Record L.O

@@ -1,16 +1,15 @@
 -- Fields at a position of a run, as the code reads them. Assumes nothing.
 use mathlib.Core.Path.{◌≡◌, sym, ◌∙◌, ap}
-use mathlib.Core.List.{List, [], ◌∷◌}
-use Prim.Native.Nat.{ℕ, suc, ◌+◌, ◌*◌, ◌%◌, ◌≤◌, ◌<◌}
+use mathlib.Core.List.{List}
+use Prim.Native.Nat.{ℕ, ◌+◌, ◌*◌, ◌%◌, ◌≤◌, ◌<◌}
 use native.Mathlib.Omega.{arith}
 use borrow.Author.Tests.{ne_eqb}
 use Rattle.std.proofs.Common.{eq-eqb}
-use lib.ListN.{length, take, drop, get_or, get_or-eq_default, length-drop}
+use lib.ListN.{drop, get_or, length-drop}
 use lib.Seq.{drop-drop}
 use Rattle.model.specs.Fields.{joined}
 use Rattle.model.specs.Bits.{run_of}
-use Rattle.laws.specs.FieldAt.{Narrow}
-use Rattle.laws.proofs.WordLaws.{narrow_drop}
+use Rattle.laws.proofs.WordLaws.{narrow_drop, narrow_known}
 use Rattle.laws.proofs.BitLaws.{Bits, bits_run, length_run}
 use Rattle.unpack.specs.Nodes.{field_in, mark_in, grant_node}
 use Rattle.unpack.specs.declared.Here.{Here}
@@ -25,12 +24,8 @@ use Rattle.unpack.specs.FieldLaws.{field_parts, field_small}
 pub ruleset left = (length_run, length-drop)
 
 -- Bytes hold bits.
-narrow_known : (l : List ℕ) → ((i : ℕ) → get_or l i 0 < 256) → Narrow 8 l
-narrow_known [] f = tt
-narrow_known (x ∷ l) f = (f 0, narrow_known l (λ i. f (suc i)))
-
 pub bits_known : (l : List ℕ) → ((i : ℕ) → get_or l i 0 < 256) → Bits (run_of l)
-bits_known l f = bits_run l (narrow_known l f)
+bits_known l f = bits_run l (narrow_known 8 l f)
 
 pub bits_from : (l : List ℕ) → ((i : ℕ) → get_or l i 0 < 256) → (at : ℕ) → Bits (drop at (run_of l))
 bits_from l f at = narrow_drop 1 at (run_of l) (bits_known l f)

@@ -7,8 +7,7 @@ use native.Mathlib.Omega.{arith}
 use lib.ListN.{length, drop, length-append, length-map}
 use Rattle.std.specs.Prelude.{Result}
 use Rattle.model.specs.Fields.{words_for}
-use Rattle.model.specs.Outcome.{product_sets}
-use Rattle.model.specs.Tight.{resolved_in, loose_r}
+use Rattle.model.specs.Products.{resolved_in, loose_r}
 use Rattle.laws.proofs.BitLaws.{Bits}
 use Rattle.laws.proofs.Lengths.{length_pack}
 use Rattle.unpack.specs.declared.Found.{Found}
@@ -18,13 +17,13 @@ use Rattle.unpack.specs.FieldLaws.{length_fields}
 use Rattle.unpack.specs.RecordLaws.{resolved_on, pending_on}
 
 module _ (run : List ℕ) (h : Bits run) (tree words : ℕ) (et : tree ≡ tree_at run) (ew : words ≡ 1 + words_for 2 (count_in run)) (l : tree_at run ≤ length run) (f : Result Found ℕ) where
-  pub says_resolved : kind_in run ≡ 14 → Says run tree (sized words_b words (resolved_in product_sets.value (drop tree run))) f → Says run (tree_at run) (sized words_u 0 (loose_r product_sets.value run)) f
+  pub says_resolved : kind_in run ≡ 14 → Says run tree (sized words_b words (resolved_in (drop tree run))) f → Says run (tree_at run) (sized words_u 0 (loose_r run)) f
   says_resolved k s =
       subst (λ q. Says run (tree_at run) q f) (sym (resolved_on run h k l))
-      (subst (λ t. Says run t (sized words_b (1 + words_for 2 (count_in run)) (resolved_in product_sets.value (drop t run))) f) et
-      (subst (λ w. Says run tree (sized words_b w (resolved_in product_sets.value (drop tree run))) f) ew s))
+      (subst (λ t. Says run t (sized words_b (1 + words_for 2 (count_in run)) (resolved_in (drop t run))) f) et
+      (subst (λ w. Says run tree (sized words_b w (resolved_in (drop tree run))) f) ew s))
 
-  pub says_pending : 14 ≤ kind_in run → (kind_in run ≡ 14 → ⊥) → Says run tree (one_policy true 32 words (drop tree run)) f → Says run (tree_at run) (sized words_u 0 (loose_r product_sets.value run)) f
+  pub says_pending : 14 ≤ kind_in run → (kind_in run ≡ 14 → ⊥) → Says run tree (one_policy true 32 words (drop tree run)) f → Says run (tree_at run) (sized words_u 0 (loose_r run)) f
   says_pending k n s =
       subst (λ q. Says run (tree_at run) q f) (sym (pending_on run h k n l))
       (subst (λ t. Says run t (one_policy true 32 (1 + words_for 2 (count_in run)) (drop t run)) f) et

@@ -14,9 +14,9 @@ use Rattle.model.specs.Outcome.{product_sets}
 use Rattle.model.specs.Policy.{Policy}
 use Rattle.model.specs.Writing.{encode, encode_r, numbered}
 use Rattle.model.specs.Reading.{Parsed, refuse, got, unless}
-use Rattle.model.specs.Products.{Outcome}
+use Rattle.model.specs.Products.{Outcome, loose_r}
 use Rattle.model.specs.Calls as model
-use Rattle.model.specs.Tight.{loose, loose_r, zeros, filled, give_words, UnderNumber}
+use Rattle.model.specs.Tight.{loose, zeros, filled, give_words, UnderNumber}
 use Rattle.laws.proofs.FieldLaws.{Holds, fine, nothing}
 use Rattle.laws.proofs.BitLaws.{Bits}
 use Rattle.laws.specs.Size.{words}
@@ -133,7 +133,7 @@ sheet_restored run at h l = by (loose product_sets.value false 32 run) (restores
 abbrev pub records : Call (UnderNumber Outcome)
 records =
     record {
-      read = loose_r product_sets.value;
+      read = loose_r;
       enc = λ u. numbered u.sheet (encode_r product_sets.number u.held);
       size = words_u;
       long = λ u. length_numbered u.sheet (encode_r product_sets.number u.held) ∙ length_encode_r product_sets.number u.held;

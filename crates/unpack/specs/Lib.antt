@@ -4,6 +4,7 @@ pub mod Places
 pub mod FieldLaws
 pub mod NormalLaws
 pub mod Levels
+pub mod LevelLaws
 pub mod StepLaws
 pub mod RestoreLaws
 pub mod RecordLaws

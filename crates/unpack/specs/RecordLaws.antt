@@ -103,13 +103,6 @@ module _ (run : List ℕ) (h : Bits run) where
       first_bits 4 run (λ k cs. unless (leb 14 k) 5 (by_kind (fields_r value (resolved_in value) cs ∷ fields_r value (pending_in value) cs ∷ []) (k - 14)))
       ∙ ap (λ k. need 4 run (unless (leb 14 k) 5 (by_kind (fields_r value (resolved_in value) (drop 4 run) ∷ fields_r value (pending_in value) (drop 4 run) ∷ []) (k - 14)))) (sym (kind_first run h))
 
-  pub record_ended : length run < 4 → asked ≡ refuse 19
-  record_ended l = ap (sized words_u 0) (by_lead ∙ need_ended 4 run (kinds (kind_in run)) l)
-
-  pub record_bad : 4 ≤ length run → kind_in run < 14 → asked ≡ refuse 5
-  unfolding kinds
-  record_bad n l = ap (sized words_u 0) (by_lead ∙ need_there 4 run (kinds (kind_in run)) n ∙ ap (λ b. unless b 5 (by_kind (fields_r value (resolved_in value) (drop 4 run) ∷ fields_r value (pending_in value) (drop 4 run) ∷ []) (kind_in run - 14))) (lt-leb 14 (kind_in run) l))
-
   resolved_lead : kind_in run ≡ 14 → loose_r value run ≡ need (tree_at run) run (entries_r value (resolved_in value) (field_in 4 16 run) entries (drop (tree_at run) run))
   unfolding kinds
   resolved_lead e = by_lead ∙ ap (λ k. need 4 run (kinds k)) e ∙ lead_is_lem (resolved_in value)

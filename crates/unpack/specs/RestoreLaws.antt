@@ -23,6 +23,7 @@ use Rattle.model.specs.Tight.{loose_c, fields_c, fields12, fields13, fields_p, l
 use Rattle.laws.proofs.BitLaws.{Bits}
 use Rattle.laws.proofs.FieldLaws.{Holds, fine, nothing, if_holds, then_holds}
 use Rattle.laws.proofs.WordLaws.{narrow_drop}
+use Rattle.laws.proofs.NodeLaws.{shape_again}
 use Rattle.bits.specs.Widths.{has_lists, plain_width, mark_width, denied_width}
 use Rattle.unpack.specs.declared.Node.{Node}
 use Rattle.unpack.specs.Nodes.{field_in, fields_in, mark_in, loose_entry, lead_in, kind_in, plain_word, grant_middle, grant_node, permit_middle, permit_node, deny_lead, deny_first, deny_before, deny_middle, deny_after, deny_node, list_node, node_length, node_words, restored_node, node_bits, restored}
@@ -112,11 +113,6 @@ module _ (bs : List ℕ) (h : Bits bs) where
   bits_at : (n : ℕ) → Bits (drop n bs)
   bits_at n = narrow_drop 1 n bs h
 
-  shape_is_lem : (n : ℕ) → n < 2 → shape_bit (shape_of n) ≡ n
-  shape_is_lem zero l = refl
-  shape_is_lem (suc zero) l = refl
-  shape_is_lem (suc (suc n)) l = let z : ⊥ = omega arith in absurd z
-
   pub permit_words_lem : encode_d product_sets.number (permits (permit_read bs h)) ≡ node_words (permit_node bs) bs
   unfolding permit_node node_words
   permit_words_lem =
@@ -172,7 +168,7 @@ module _ (bs : List ℕ) (h : Bits bs) where
       let b = length_fields 10 n (drop width bs) in
       let c = mark_shape (deny_before bs) in
       let d = mark_shape (deny_middle bs) in
-      let sh = shape_is_lem (field_in 4 1 bs) (field_small 4 1 bs h) in
+      let sh = shape_again (field_in 4 1 bs) (field_small 4 1 bs h) in
       let first = ap (λ x. word 13 (x * 134217728 + denied_field product_sets.number (denied_read bs h))) sh ∙ first_13 e in
       let list = ap (λ k. fields_in 10 n (drop k bs)) (let z : width ≡ width + 6 * 0 = omega arith in z) ∙ sym (fields_same 10 n (drop (width + 6 * 0) bs) (bits_at (width + 6 * 0)) (omega arith)) in
       λ i. first i ∷ (c i * 65536 + d i) ∷ b i ∷ pack entry_bits (list i)
@@ -185,7 +181,7 @@ module _ (bs : List ℕ) (h : Bits bs) where
       let width = grant_middle bs + mark_width (mark_in (grant_middle bs) bs) in
       let os = fields_in 6 n (drop width bs) in
       let a = length_fields 6 n (drop width bs) in
-      let sh = shape_is_lem (field_in 4 1 bs) (field_small 4 1 bs h) in
+      let sh = shape_again (field_in 4 1 bs) (field_small 4 1 bs h) in
       let l = lead_12 e in
       let owed : n ≡ field_in 0 12 bs % 128 = (let s = field_small 5 7 bs h in omega arith) in
       let first : word 8 (shape_bit (shape_of (field_in 4 1 bs)) * 134217728 + length os * 1048576 + o) ≡ field_in 0 12 bs * 1048576 + o =

@@ -258,6 +258,13 @@ module _ (bs : List ℕ) (h : Bits bs) where
 
   -- ---- 12 and 13, in a residual
   module _ (d w : ℕ) where
+    stored_need : (s : ℕ) (q : Parsed (Decision Outcome)) → need s bs (as_stored value q) ≡ as_stored value (need s bs q)
+    stored_need s q = by (leb s (length bs))
+      where
+        by : (b : Bool) → cond b (as_stored value q) (refuse 19) ≡ as_stored value (cond b q (refuse 19))
+        by true = refl
+        by false = refl
+
     pub permit_step : kind_in bs ≡ 12 → one_policy true (suc d) w bs ≡ need (node_length (permit_node bs)) bs (got (w + node_count (permit_node bs)) (drop (node_length (permit_node bs)) bs))
     unfolding permit_node
     permit_step e =
@@ -267,13 +274,6 @@ module _ (bs : List ℕ) (h : Bits bs) where
         ∙ sized_need words w l bs (got (stored (permits p)) (drop l bs))
         ∙ ap (λ m. need l bs (got m (drop l bs)))
         (ap₂ (λ x y. w + (2 + words_for 4 x + words_for 2 y)) (length_fields 6 (permit_node bs).obligations (drop (permit_node bs).width bs)) (length_fields 10 (permit_node bs).facts (drop ((permit_node bs).width + 6 * (permit_node bs).obligations) bs)))
-      where
-        stored_need : (s : ℕ) (q : Parsed (Decision Outcome)) → need s bs (as_stored value q) ≡ as_stored value (need s bs q)
-        stored_need s q = by (leb s (length bs))
-          where
-            by : (b : Bool) → cond b (as_stored value q) (refuse 19) ≡ as_stored value (cond b q (refuse 19))
-            by true = refl
-            by false = refl
 
     pub deny_step : kind_in bs ≡ 13 → one_policy true (suc d) w bs ≡ need (node_length (deny_node bs)) bs (got (w + node_count (deny_node bs)) (drop (node_length (deny_node bs)) bs))
     unfolding deny_node
@@ -284,13 +284,6 @@ module _ (bs : List ℕ) (h : Bits bs) where
         ∙ sized_need words w l bs (got (stored (denies p)) (drop l bs))
         ∙ ap (λ m. need l bs (got m (drop l bs)))
         (ap (λ y. w + (3 + words_for 2 y)) (length_fields 10 (deny_node bs).facts (drop (deny_node bs).width bs)) ∙ (let x = words_for 2 (deny_node bs).facts in let z : w + (3 + x) ≡ w + (3 + 0 + x) = omega arith in z))
-      where
-        stored_need : (s : ℕ) (q : Parsed (Decision Outcome)) → need s bs (as_stored value q) ≡ as_stored value (need s bs q)
-        stored_need s q = by (leb s (length bs))
-          where
-            by : (b : Bool) → cond b (as_stored value q) (refuse 19) ≡ as_stored value (cond b q (refuse 19))
-            by true = refl
-            by false = refl
 
   -- A kind that isn't allowed here, a level too many, and bits that end before the kind.
   past_p : (res : Bool) (d j : ℕ) → last_kind res < 6 + j → fields_p value res (λ ds. loose_c d ds) (λ ds. loose value res d ds) j (drop 4 bs) ≡ refuse 5

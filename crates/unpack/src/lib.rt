@@ -4,11 +4,10 @@
 
 ghost use Rattle.std.specs.Prelude.{◌≡◌, Bool, true, false, Some, ◌&&◌, List, ℕ, suc, ◌+◌, ◌-◌, ◌*◌, ◌/◌, ◌^◌, ◌≤◌, ◌<◌, ltb, length, drop, get_or};
 ghost use Rattle.model.specs.Fields.{joined, words_for};
-ghost use Rattle.model.specs.Outcome.{product_sets};
 ghost use Rattle.model.specs.Reading.{levels, Parsed, got};
-ghost use Rattle.model.specs.Products.{last_kind};
+ghost use Rattle.model.specs.Products.{last_kind, resolved_in, loose_r, unpack_sheet, unpack_record};
 ghost use Rattle.model.specs.Bits.{run_of};
-ghost use Rattle.model.specs.Tight.{tight_bytes, obligation_tight_bits, zeros, filled, resolved_in, loose_r, unpack_sheet, unpack_record};
+ghost use Rattle.model.specs.Tight.{tight_bytes, obligation_tight_bits, zeros, filled};
 ghost use Rattle.model.specs.Writing.{obligation_bits};
 ghost use Rattle.laws.specs.FieldAt.{Narrow};
 ghost use Rattle.policy_model.specs.Span.{arms_of};
@@ -25,7 +24,7 @@ use answer::Answer;
 use refusal::Refusal;
 
 // A tight form has at most as many bytes.
-pub const TIGHT_BYTES: usize = 65536;
+const TIGHT_BYTES: usize = 65536;
 
 // A node with lists: its first words put together, two or three, the bits that they take, and how many obligations and facts follow. Past the end bits are 0.
 // That the counts are small (`Small`) is a clause and no ghost field: each definition that makes a `Node` would carry the proof.
@@ -497,7 +496,7 @@ impl Place<'_> {
     // Checks the tree of a Resolved record: one node 12 or 13.
     #[tactic(auto, using(crate::proofs::Steps::resolved))]
     fn check_resolved(&self) -> Result<Found, Refusal>
-        ensures { Says (whole self.now.here) self.now.here.at (sized words_b self.now.words (resolved_in product_sets.value (rest self.now.here))) (by_number result) }
+        ensures { Says (whole self.now.here) self.now.here.at (sized words_b self.now.words (resolved_in (rest self.now.here))) (by_number result) }
     {
         let lead = self.lead()?;
         if lead / policy_model::HALF < policy_model::KIND_PERMIT_WITH_TRACE {
@@ -703,7 +702,7 @@ fn judge(bytes: &[u8], found: Found, most: usize, room: usize) -> Result<(), Ref
 
 // Unpacks a sheet. Its length is known before a word changes.
 pub fn unpack_sheet(bytes: &[u8], out: &mut [u32]) -> Answer
-    ensures { Answered (unpack_sheet product_sets bytes.now (length out.old)) out.old out.new result }
+    ensures { Answered (unpack_sheet bytes.now (length out.old)) out.old out.new result }
 {
     if bytes.len() > TIGHT_BYTES {
         return Err(Refusal::Length);
@@ -721,7 +720,7 @@ pub fn unpack_sheet(bytes: &[u8], out: &mut [u32]) -> Answer
 // Checks a record: kind, the sheet's number, consulted count, the entries, the tree.
 fn check_record(bytes: &[u8]) -> Result<Found, Refusal>
     requires { length bytes.now ≤ tight_bytes }
-    ensures { Says (run_of bytes.now) (tree_at (run_of bytes.now)) (sized words_u 0 (loose_r product_sets.value (run_of bytes.now))) (by_number result) }
+    ensures { Says (run_of bytes.now) (tree_at (run_of bytes.now)) (sized words_u 0 (loose_r (run_of bytes.now))) (by_number result) }
 {
     let start = Place {
         here: Here { bytes, at: 0 },
@@ -774,7 +773,7 @@ fn restore_record(bytes: &[u8], end: usize, out: &mut [u32]) -> usize
 
 // Unpacks a record.
 pub fn unpack_record(bytes: &[u8], out: &mut [u32]) -> Answer
-    ensures { Answered (unpack_record product_sets bytes.now (length out.old)) out.old out.new result }
+    ensures { Answered (unpack_record bytes.now (length out.old)) out.old out.new result }
 {
     if bytes.len() > TIGHT_BYTES {
         return Err(Refusal::Length);

@@ -13,6 +13,7 @@ ghost use Rattle.vectors.specs.Replies.{number_of, Replied, reply_to, requiring}
 ghost use Rattle.vectors.specs.Stored.{number_bytes, number_in, size_of, Whole, Fitted, Ran, told_in, agrees_in};
 ghost use Rattle.vectors.specs.Tallies.{noted_in, step_of, tally_of};
 
+use fact_set::FactSet;
 use partial_policy::Order;
 use refusal::Refusal;
 use std::io;
@@ -71,11 +72,11 @@ fn fill(out: &mut [u32])
     }
 }
 
-// Makes an output of 32 words a set's sixteen numbers, the upper half of each first; another is left as it was.
-fn put_set(set: &[u64; 16], out: &mut [u32])
+// Writes the numbers of a set into an output of two words for each, the upper half first; an output of another length is left as it was.
+fn put_set(set: &FactSet, out: &mut [u32])
     ensures { out.new ≡ set_words set.now out.old }
 {
-    if out.len() != 32 {
+    if out.len() != 2 * fact_set::NUMBERS {
         return;
     }
     for (i, number) in set.iter().enumerate() {
@@ -102,7 +103,7 @@ fn replied(answer: Result<usize, Refusal>) -> Reply
 fn sheet_facts(sheet: &[u32], out: &mut [u32]) -> Reply
     ensures { Replied (requiring (required_facts sheet.now) out.old) out.new result }
 {
-    let mut set = [42405u64; 16];
+    let mut set = [42405u64; fact_set::NUMBERS];
     let facts = required::required_facts(sheet, &mut set);
     put_set(&set, out);
     replied(facts.map(|count| count as usize))
@@ -112,7 +113,7 @@ fn sheet_facts(sheet: &[u32], out: &mut [u32]) -> Reply
 fn record_facts(words: &[u32], out: &mut [u32]) -> Reply
     ensures { Replied (requiring (required_residual_facts words.now) out.old) out.new result }
 {
-    let mut set = [42405u64; 16];
+    let mut set = [42405u64; fact_set::NUMBERS];
     let facts = required::required_residual_facts(words, &mut set);
     put_set(&set, out);
     replied(facts.map(|count| count as usize))
@@ -240,12 +241,12 @@ fn agrees(call: Call, case: &[u8]) -> bool
 // ---- tallies
 
 // One more answer was replayed, and agrees or not, as was just found.
-fn noted(tally: Tally, agrees: bool, place: usize) -> Tally
+fn noted(tally: Tally, agreed: bool, place: usize) -> Tally
     requires { (tally.replayed + 1 < 2 ^ 64) × (tally.differ ≤ tally.replayed) }
-    ensures { result ≡ noted_in tally agrees place }
+    ensures { result ≡ noted_in tally agreed place }
 {
     let replayed = tally.replayed + 1;
-    if agrees {
+    if agreed {
         return Tally { replayed, ..tally };
     }
     Tally {

@@ -2,13 +2,11 @@
 // when it is accepted, and the call's value. Each export is a function of its own, as C has no type for a table or an order.
 #![tactic(auto)]
 
-ghost use Rattle.model.specs.Products.{evaluate, required_facts, required_residual_facts, is_permit_constant, is_deny_constant, carries_obligation, partial_evaluate, narrow_residual, complete_residual, evaluate_by, partial_evaluate_by, narrow_residual_by, complete_residual_by};
+ghost use Rattle.model.specs.Products.{evaluate, required_facts, required_residual_facts, is_permit_constant, is_deny_constant, carries_obligation, partial_evaluate, narrow_residual, complete_residual, evaluate_by, partial_evaluate_by, narrow_residual_by, complete_residual_by, pack_sheet, pack_record, unpack_sheet, unpack_record};
 ghost use Rattle.model.specs.Partial.{permits_first, sheet_order};
 ghost use Rattle.model.specs.Register.{sheet_in_force};
 ghost use Rattle.model.specs.Join.{join_tables};
 ghost use Rattle.model.specs.Windows.{apply_windows};
-ghost use Rattle.model.specs.Outcome.{product_sets};
-ghost use Rattle.model.specs.Tight.{pack_sheet, pack_record, unpack_sheet, unpack_record};
 ghost use Rattle.model.specs.Batch.{evaluate_batch};
 ghost use Rattle.std.specs.Prelude.{◌≡◌, ℕ, length};
 ghost use Rattle.std.proofs.Math.Option.{none, some};
@@ -358,7 +356,7 @@ pub extern "C" fn vierskof_apply_windows(
 // Packs a sheet in the tight form, and writes the bytes.
 #[unsafe(no_mangle)]
 pub extern "C" fn vierskof_pack_sheet(sheet: &[u32], out: &mut [u8]) -> u64
-    ensures { Writes (pack_sheet product_sets sheet.now (length out.old)) out.old out.new result }
+    ensures { Writes (pack_sheet sheet.now (length out.old)) out.old out.new result }
 {
     returned(pack::pack_sheet(sheet, out))
 }
@@ -366,7 +364,7 @@ pub extern "C" fn vierskof_pack_sheet(sheet: &[u32], out: &mut [u8]) -> u64
 // Packs a record.
 #[unsafe(no_mangle)]
 pub extern "C" fn vierskof_pack_record(residual: &[u32], out: &mut [u8]) -> u64
-    ensures { Writes (pack_record product_sets residual.now (length out.old)) out.old out.new result }
+    ensures { Writes (pack_record residual.now (length out.old)) out.old out.new result }
 {
     returned(pack::pack_record(residual, out))
 }
@@ -374,7 +372,7 @@ pub extern "C" fn vierskof_pack_record(residual: &[u32], out: &mut [u8]) -> u64
 // Unpacks a sheet, and writes its words.
 #[unsafe(no_mangle)]
 pub extern "C" fn vierskof_unpack_sheet(bytes: &[u8], out: &mut [u32]) -> u64
-    ensures { Writes (unpack_sheet product_sets bytes.now (length out.old)) out.old out.new result }
+    ensures { Writes (unpack_sheet bytes.now (length out.old)) out.old out.new result }
 {
     returned(unpack::unpack_sheet(bytes, out))
 }
@@ -382,7 +380,7 @@ pub extern "C" fn vierskof_unpack_sheet(bytes: &[u8], out: &mut [u32]) -> u64
 // Unpacks a record.
 #[unsafe(no_mangle)]
 pub extern "C" fn vierskof_unpack_record(bytes: &[u8], out: &mut [u32]) -> u64
-    ensures { Writes (unpack_record product_sets bytes.now (length out.old)) out.old out.new result }
+    ensures { Writes (unpack_record bytes.now (length out.old)) out.old out.new result }
 {
     returned(unpack::unpack_record(bytes, out))
 }

@@ -1,7 +1,7 @@
 -- Counts of conditions: a node by its head, and arms. Assumes nothing.
 use mathlib.Core.Path.{◌≡◌, refl, sym, ◌∙◌, ap, subst}
 use mathlib.Core.Bool.{Bool, true, false, not, cond, beq}
-use mathlib.Core.List.{List, [], ◌∷◌}
+use mathlib.Core.List.{List, ◌∷◌}
 use Rattle.std.specs.Prelude.{Option, Some, None}
 use Prim.Native.Nat.{ℕ, zero, suc, ◌+◌, ◌-◌, ◌/◌, ◌%◌, ◌≤◌, ◌<◌}
 use native.Mathlib.Omega.{arith}
@@ -11,8 +11,11 @@ use Rattle.model.specs.Condition.{Condition, always, never, has, not_c, all_c, a
 use Rattle.model.specs.Visits.{visits_c}
 use Rattle.model.specs.Reading.{Parsed, refuse, got, next, many, read_condition}
 use Rattle.laws.proofs.FieldLaws.{fine, nothing}
+use Rattle.laws.proofs.NodeLaws.{condition_none}
+use Rattle.laws.proofs.TruthLaws.{truth_flip}
 use Rattle.laws.specs.Size.{words_c, words_cs}
 use Rattle.facts.specs.Answers.{is_present}
+use Rattle.facts.specs.AnswerLaws.{has_value}
 use Rattle.policy_model.specs.declared.ConditionHead.{ConditionHead}
 use Rattle.policy_model.specs.declared.ConditionHead.TheVariants.{Always, Never, Has, Not, All, Any, BadKind, BadField}
 use Rattle.policy_model.specs.Heads.{condition_head, condition_node}
@@ -23,7 +26,7 @@ use Rattle.policy_model.proofs.Conditions.{condition_leaves}
 use Rattle.visits.specs.declared.Visit.{Visit}
 use Rattle.visits.specs.Holding.{holds_c, holds_cs, visits_cs}
 use Rattle.visits.specs.Counting.{counted_by, Counts}
-use Rattle.visits.proofs.Holding.{has_holds, flip_holds, all_holds, any_holds, all_nodes, any_nodes, some_c}
+use Rattle.visits.proofs.Holding.{all_holds, any_holds, all_nodes, any_nodes, some_c}
 use Rattle.visits.proofs.Counting.{counted_as, flipped, flipped_is, refused, none_left, leaf, below, some_arm, arms_none, arm_first, arm_over, arms_passed}
 
 module _ (T : Table) (W : List ℕ) (at allowance n : ℕ) where
@@ -35,12 +38,8 @@ module _ (T : Table) (W : List ℕ) (at allowance n : ℕ) where
   CountsCs stop depth arms r = Counts words_cs (holds_cs stop T) (visits_cs stop T) at allowance n (many cnil ccons (read_condition depth) arms (drop at W)) r
 
   -- ---- no word, no level, no node left
-  nothing_there : (depth : ℕ) → read_condition depth [] ≡ refuse 6
-  nothing_there zero = refl
-  nothing_there (suc depth) = refl
-
   pub no_words : (depth : ℕ) (r : Option Visit) → length W ≤ at → CountsC depth r
-  no_words depth r h = refused words_c (holds_c T) (visits_c T) at allowance n (read_condition depth (drop at W)) (ap (read_condition depth) (no_word W at h) ∙ nothing_there depth)
+  no_words depth r h = refused words_c (holds_c T) (visits_c T) at allowance n (read_condition depth (drop at W)) (ap (read_condition depth) (no_word W at h) ∙ condition_none depth)
 
   pub no_levels : (depth : ℕ) (r : Option Visit) → at < length W → depth ≡ 0 → CountsC depth r
   no_levels depth r lt z =
@@ -77,7 +76,7 @@ module _ (T : Table) (W : List ℕ) (at allowance n : ℕ) where
 
     pub has_counted : (f : ℕ) (v : Bool) (r : Option Visit) → Has f ≡ condition_head (get_or W at 0) → v ≡ is_present (T f) → r ≡ counted_by allowance (n + 1) v (at + 1) → CountsC depth r
     unfolding condition_node
-    has_counted f v r e i p = by_head (Has f) r e (leaf words_c (holds_c T) (visits_c T) at allowance n (has f) (drop (at + 1) W) v (Node (Has f)) r refl p (i ∙ has_holds f (T f)) refl refl)
+    has_counted f v r e i p = by_head (Has f) r e (leaf words_c (holds_c T) (visits_c T) at allowance n (has f) (drop (at + 1) W) v (Node (Has f)) r refl p (i ∙ has_value f (T f)) refl refl)
 
     -- A word that one division shows to be a Has.
     pub has_word_counted : (v : Bool) (r : Option Visit) → get_or W at 0 / 1024 ≡ 524288 → v ≡ is_present (T (get_or W at 0 % 1024)) → r ≡ counted_by allowance (n + 1) v (at + 1) → CountsC depth r
@@ -93,7 +92,7 @@ module _ (T : Table) (W : List ℕ) (at allowance n : ℕ) where
         flips (refuse m) c = record { says = nothing }
         flips (got x vs) c = record {
           says = fine (ap flipped c.says.it ∙ flipped_is allowance (n + 1 + visits_c T x) (holds_c T x) (at + 1 + words_c x)
-              ∙ counted_as allowance (omega arith) (sym (flip_holds (eval_condition T x))) (omega arith));
+              ∙ counted_as allowance (omega arith) (sym (truth_flip (eval_condition T x))) (omega arith));
         }
 
     -- Without arms All is false.

@@ -11,7 +11,7 @@ use lib.Dec.{leb}
 use lib.ListN.{drop}
 use lib.Seq.{drop-drop}
 use Rattle.model.specs.Reading.{Parsed, refuse, got, next, many}
-use Rattle.laws.proofs.FieldLaws.{Holds, fine, nothing, weaker, then_holds, both_hold}
+use Rattle.laws.proofs.FieldLaws.{Holds, fine, nothing, weaker, then_holds, both_hold, anything}
 use Rattle.policy_model.proofs.Checking.{Leaves}
 use Rattle.visits.specs.declared.Visit.{Visit}
 use Rattle.visits.specs.Counting.{counted_by, Counts}
@@ -148,10 +148,6 @@ module _ {A B : Type 0} (nil : B) (cons : A → B → B) (size : A → ℕ) (siz
         then_holds (many nil cons p (arms - 1) vs) (λ b us. got (cons a b) us) (anything (many nil cons p (arms - 1) vs)) (λ b us _.
         fine (over_is allowance (n + count (cons a b)) (values (cons a b)) (at + sizes (cons a b)) (omega (arith, was_over allowance (n + nodes a) (value a) (at + size a) x, more a b))))));
   }
-    where
-      anything : (q : Parsed B) → Holds (λ _ _. Unit {0}) q
-      anything (refuse k) = nothing
-      anything (got b us) = fine tt
 
   -- The arms after the one that decides are passed over.
   pub arms_passed : (v : Bool) (at arms n end : ℕ) (r : Option Visit) → r ≡ counted_by allowance n v end → Holds (λ b rest. end ≡ at + sizes b) (many nil cons p arms (drop at W)) →

@@ -1,31 +1,21 @@
 -- Whether a node holds and the nodes visited are the model's, whatever the outcomes. Assumes nothing.
 use mathlib.Core.Path.{◌≡◌, refl, ◌∙◌, ap, ap₂}
-use mathlib.Core.Bool.{Bool, true, false, not, cond, ◌||◌, beq}
+use mathlib.Core.Bool.{Bool, true, false, cond, ◌||◌, beq}
 use mathlib.Core.Option.{Option, none, some}
 use mathlib.Core.List.{List, [], ◌∷◌}
 use Prim.Native.Nat.{ℕ, ◌+◌, ◌≤◌}
 use native.Mathlib.Omega.{arith}
-use Rattle.model.specs.Facts.{Presence, absent, present, unknown, silent, Table}
+use Rattle.model.specs.Facts.{Table}
 use Rattle.model.specs.Outcome.{Outcomes}
-use Rattle.model.specs.Condition.{Condition, always, never, has, not_c, all_c, any_c, Conditions, cnil, ccons, ConditionEval, satisfied, unsatisfied, eval_has, flip, both, either, eval_condition, eval_condition_all, eval_condition_any}
+use Rattle.model.specs.Condition.{Condition, always, never, has, not_c, all_c, any_c, Conditions, cnil, ccons, ConditionEval, satisfied, unsatisfied, both, either, eval_condition, eval_condition_all, eval_condition_any}
 use Rattle.model.specs.Decision.{Permit, Denial, Decision, permits, denies, meet_in, join_in}
 use Rattle.model.specs.Policy.{Grant, Policy, permit, deny, grant, all, any, or_else, stored, Policies, pnil, pcons}
 use Rattle.model.specs.Evaluate.{eval_grant, first_of, first_deny, all_from, any_from, eval_policy, eval_policies}
 use Rattle.model.specs.Visits.{if_true, if_false, if_permits, if_denies, visits_c, visits_all_c, visits_any_c, visits, visits_all, visits_any}
-use Rattle.facts.specs.Answers.{is_present}
-use Rattle.visits.specs.Holding.{is_satisfied, is_permit, unless_none, holds_c, holds_cs, visits_cs, holds_p, holds_ps, holds_any, nodes_p, nodes_ps, nodes_any}
+use Rattle.visits.specs.Holding.{is_permit, unless_none, holds_c, holds_cs, visits_cs, holds_p, holds_ps, holds_any, nodes_p, nodes_ps, nodes_any}
+use Rattle.laws.specs.Truth.{is_satisfied}
 
 -- ---- conditions
-pub has_holds : (f : ℕ) (p : Presence) → is_present p ≡ is_satisfied (eval_has f p)
-has_holds f absent = refl
-has_holds f present = refl
-has_holds f unknown = refl
-has_holds f silent = refl
-
-pub flip_holds : (v : ConditionEval) → is_satisfied (flip v) ≡ not (is_satisfied v)
-flip_holds (satisfied fs) = refl
-flip_holds (unsatisfied fs) = refl
-
 both_holds : (v w : ConditionEval) → is_satisfied (both v w) ≡ cond (beq (is_satisfied v) false) false (is_satisfied w)
 both_holds (unsatisfied fs) w = refl
 both_holds (satisfied fs) (unsatisfied gs) = refl

@@ -8,20 +8,21 @@ use native.Mathlib.Omega.{arith}
 use borrow.Author.Tests.{le-leb, lt-leb}
 use lib.ListN.{length, drop, get_or}
 use lib.Seq.{drop-drop}
+use Rattle.model.specs.Fields.{words_for}
 use Rattle.model.specs.Facts.{Table}
 use Rattle.model.specs.Outcome.{product_sets}
-use Rattle.model.specs.Condition.{Condition}
-use Rattle.model.specs.Policy.{Grant, Policy, permit, deny, grant, all, any, or_else, pnil, pcons}
+use Rattle.model.specs.Policy.{Policy, permit, deny, all, any, or_else, pnil, pcons}
 use Rattle.model.specs.Visits.{visits_c}
-use Rattle.model.specs.Writing.{obligation_bits}
-use Rattle.model.specs.Reading.{Parsed, refuse, got, next, whole, many, mark, shape_of, obligation, read_list, sheet_length, read_condition}
+use Rattle.model.specs.Reading.{Parsed, refuse, got, next, whole, many, sheet_length, read_condition}
 use Rattle.model.specs.Levels.{outcomes_of}
 use Rattle.model.specs.Products.{Outcome, read_policy}
-use Rattle.laws.proofs.FieldLaws.{Holds, fine, nothing, if_holds, weaker, then_holds, both_hold}
+use Rattle.laws.proofs.FieldLaws.{Holds, fine, nothing, if_holds, weaker, itself, held_at}
 use Rattle.laws.specs.Size.{words_c, words, wordss}
 use Rattle.laws.proofs.Deeper.{deeper, follows_got}
-use Rattle.laws.proofs.ReadForm.{ok_obligations}
+use Rattle.laws.proofs.GrantLaws.{grant_read}
+use Rattle.laws.proofs.NodeLaws.{policy_none}
 use Rattle.facts.specs.Answers.{is_present}
+use Rattle.facts.specs.AnswerLaws.{has_value}
 use Rattle.policy_model.specs.declared.DenyShape.{DenyShape}
 use Rattle.policy_model.specs.declared.PolicyHead.{PolicyHead}
 use Rattle.policy_model.specs.declared.PolicyHead.TheVariants.{Permit, Deny, Grant as GrantHead, All, Any, OrElse, PermitWithTrace, DenyWithTrace, BadKind, BadField}
@@ -31,51 +32,17 @@ use Rattle.policy_model.specs.Plain.{plain_grant, plain_policy}
 use Rattle.policy_model.specs.PlainLaws.{plain_reads}
 use Rattle.policy_model.specs.Span.{Skipped}
 use Rattle.policy_model.proofs.Checking.{word_at, no_word}
-use Rattle.policy_model.proofs.Quads.{obligations_leave}
 use Rattle.policy_model.proofs.Policies.{policy_leaves}
+use Rattle.policy_model.proofs.Skipping.{grant_says}
+use Rattle.grant.specs.Fields.{obligations_at, before_condition_at}
 use Rattle.visits.specs.declared.Visit.{Visit}
 use Rattle.visits.specs.Holding.{holds_c, holds_p, holds_ps, holds_any, nodes_p, nodes_ps, nodes_any}
 use Rattle.visits.specs.Counting.{counted_by, Counts, visits_within, CountsSheet}
-use Rattle.visits.proofs.Holding.{has_holds, some_p, visits_are}
+use Rattle.visits.proofs.Holding.{some_p, visits_are}
 use Rattle.visits.proofs.Counting.{counted_as, over_is, was_within, was_over, refused, none_left, leaf, below, some_arm, arms_none, arm_first, arm_over, arms_passed}
 use Rattle.visits.proofs.Conditions.{go_on_at, stops_at}
 
 -- ---- reading
-itself : {A : Type 0} (q : Parsed A) → Holds (λ a ws. q ≡ got a ws) q
-itself (refuse n) = nothing
-itself (got a ws) = fine refl
-
-held_at : {A : Type 0} {Q : A → List ℕ → Type 0} {q : Parsed A} {a : A} {ws : List ℕ} → Holds Q q → q ≡ got a ws → Q a ws
-held_at {Q = Q} h e = (subst (Holds Q) e h).it
-
-anything : {A : Type 0} (q : Parsed A) → Holds (λ _ _. Unit {0}) q
-anything (refuse n) = nothing
-anything (got a ws) = fine tt
-
--- A grant: n obligations after its second word, then the condition.
-record ReadsGrant (depth n : ℕ) (ws : List ℕ) (p : Policy Outcome) (rest : List ℕ) : Type 0 where
-  clause : Grant Outcome
-  inner : Condition
-  policy_is : p ≡ grant clause inner
-  long : length clause.obligations ≡ n
-  below_it : read_condition depth (drop ((n + 3) / 4) (drop 1 ws)) ≡ got inner rest
-
-grant_reads : (depth : ℕ) (shape : DenyShape) (n o : ℕ) (ws : List ℕ) → Holds (ReadsGrant depth n ws) (grant_node (λ vs. read_condition depth vs) shape n o ws)
-unfolding grant_node
-grant_reads depth shape n o [] = nothing
-grant_reads depth shape n o (w ∷ ws) =
-    then_holds (mark (w / 65536)) _ (anything (mark (w / 65536))) (λ l _ _.
-    then_holds (mark (w % 65536)) _ (anything (mark (w % 65536))) (λ m _ _.
-    then_holds (read_list obligation obligation_bits n ws) _ (both_hold (read_list obligation obligation_bits n ws) (ok_obligations n ws) (obligations_leave n ws)) (λ os vs h.
-    then_holds (read_condition depth vs) _ (itself (read_condition depth vs)) (λ c us e.
-    fine (record {
-      clause = record { outcome = o; obligations = os; label = l; reason = m; shape = shape_of (bit_of shape) };
-      inner = c;
-      policy_is = refl;
-      long = h.0.1;
-      below_it = ap (λ k. read_condition depth (drop ((k + 3) / 4) ws)) (sym h.0.1) ∙ ap (read_condition depth) h.1 ∙ e;
-    })))))
-
 -- In a sheet no head is that of a 12 or a 13.
 abbrev OfSheet : PolicyHead → Type 0
 OfSheet (Permit o) = Unit {0}
@@ -116,12 +83,8 @@ module _ (T : Table) (W : List ℕ) (at allowance n : ℕ) where
   CountsAny sofar depth arms r = Counts wordss (holds_any T sofar) (nodes_any T) at allowance n (many pnil pcons (read_policy false depth) arms (drop at W)) r
 
   -- ---- no word, no level, no node left
-  nothing_there : (depth : ℕ) → read_policy false depth [] ≡ refuse 6
-  nothing_there zero = refl
-  nothing_there (suc depth) = refl
-
   pub no_words : (depth : ℕ) (r : Option Visit) → length W ≤ at → CountsP depth r
-  no_words depth r h = refused words (holds_p T) (nodes_p T) at allowance n (read_policy false depth (drop at W)) (ap (read_policy false depth) (no_word W at h) ∙ nothing_there depth)
+  no_words depth r h = refused words (holds_p T) (nodes_p T) at allowance n (read_policy false depth (drop at W)) (ap (read_policy false depth) (no_word W at h) ∙ policy_none product_sets.value false depth)
 
   pub no_levels : (depth : ℕ) (r : Option Visit) → at < length W → depth ≡ 0 → CountsP depth r
   no_levels depth r lt z =
@@ -162,17 +125,18 @@ module _ (T : Table) (W : List ℕ) (at allowance n : ℕ) where
     deny_counted r e p = by_head Deny r e (leaf words (holds_p T) (nodes_p T) at allowance n deny (drop (at + 1) W) false (Node Deny) r refl p refl refl refl)
 
     -- A grant counts besides its condition.
-    pub grant_counted : (shape : DenyShape) (k o c : ℕ) (r : Option Visit) → GrantHead shape k o ≡ policy_head (get_or W at 0) false → c ≡ at + 2 + (k + 3) / 4 →
+    pub grant_counted : (shape : DenyShape) (k o c : ℕ) (r : Option Visit) → GrantHead shape k o ≡ policy_head (get_or W at 0) false → c ≡ at + before_condition_at W at →
         Counts words_c (holds_c T) (visits_c T) c allowance (n + 1) (read_condition (depth - 1) (drop c W)) r → CountsP depth r
-    unfolding policy_node
+    unfolding policy_node grant_node
     grant_counted shape k o c r e p a =
+        let owed : words_for 4 k ≡ words_for 4 (obligations_at W at) = ap (words_for 4) (grant_says false (get_or W at 0) shape k o e).0 in
         by_head (GrantHead shape k o) r e (record {
           says = weaker (Node (GrantHead shape k o)) (λ t rest g.
               let there : drop ((k + 3) / 4) (drop 1 (drop (at + 1) W)) ≡ drop c W =
               drop-drop ((k + 3) / 4) 1 (drop (at + 1) W) ∙ drop-drop (1 + (k + 3) / 4) (at + 1) W ∙ ap (λ i. drop i W) (let s : at + 1 + (1 + (k + 3) / 4) ≡ c = omega arith in s) in
-              let told = held_at a.says (ap (read_condition (depth - 1)) (sym there) ∙ g.below_it) in
+              let told = held_at a.says (ap (read_condition (depth - 1)) (sym there) ∙ g.below) in
               told ∙ counted_as allowance (omega (arith, ap (nodes_p T) g.policy_is)) (sym (ap (holds_p T) g.policy_is)) (omega (arith, ap words g.policy_is, g.long)))
-              (grant_reads (depth - 1) shape k o (drop (at + 1) W));
+              (grant_read product_sets.value (read_condition (depth - 1)) (bit_of shape) k o (drop (at + 1) W));
         })
 
     -- Without arms All is false; with arms it is what they come to.
@@ -237,7 +201,7 @@ module _ (T : Table) (W : List ℕ) (at allowance n : ℕ) where
           let reads = follows_got (deeper product_sets.value false depth (suc (suc depth)) (drop at W) (omega arith)) e in
           let is : t ≡ plain_policy (get_or W at 0) (get_or W (at + 2) 0) = (let both = sym reads ∙ plain_reads W at plain true depth in let s : t ≡ plain_policy (get_or W at 0) (get_or W (at + 2) 0) = cc in s) in
           p (is_present (T (get_or W (at + 2) 0 % 1024))) refl
-          ∙ counted_as allowance (omega (arith, ap (nodes_p T) is)) (has_holds (get_or W (at + 2) 0 % 1024) (T (get_or W (at + 2) 0 % 1024)) ∙ sym (ap (holds_p T) is)) (omega (arith, ap words is)))
+          ∙ counted_as allowance (omega (arith, ap (nodes_p T) is)) (has_value (get_or W (at + 2) 0 % 1024) (T (get_or W (at + 2) 0 % 1024)) ∙ sym (ap (holds_p T) is)) (omega (arith, ap words is)))
           (itself (read_policy false depth (drop at W)));
     }
 

@@ -3,14 +3,11 @@
 use Rattle.std.specs.Prelude.{Bool, true, false, cond, not, ◌||◌, ℕ, ◌+◌}
 use Rattle.std.specs.Bool.{beq}
 use Rattle.model.specs.Facts.{Table}
-use Rattle.model.specs.Condition.{Condition, Conditions, cnil, ccons, ConditionEval, satisfied, unsatisfied, eval_condition}
+use Rattle.model.specs.Condition.{Condition, Conditions, cnil, ccons, eval_condition}
 use Rattle.model.specs.Decision.{Decision, permits, denies}
 use Rattle.model.specs.Policy.{Policy, permit, deny, grant, all, any, or_else, stored, Policies, pnil, pcons}
 use Rattle.model.specs.Visits.{visits_c}
-
-abbrev pub is_satisfied : ConditionEval → Bool
-is_satisfied (satisfied fs) = true
-is_satisfied (unsatisfied fs) = false
+use Rattle.laws.specs.Truth.{is_satisfied}
 
 abbrev pub is_permit : {O : Type 0} → Decision O → Bool
 is_permit (permits p) = true

@@ -135,20 +135,13 @@ impl Walk<'_> {
         }
         let next = at + 1;
         let count = nodes + 1;
-        let word = self.words[at];
-        if word / policy_model::HALF == policy_model::PERMIT {
-            return self.counted(count, true, next);
-        }
-        if policy_model::plain_grant(self.words, at) {
-            return self.visit_plain(at, nodes);
-        }
         let below = depth - 1;
-        match policy_model::policy_head(word, false) {
+        match policy_model::policy_head(self.words[at], false) {
             PolicyHead::Permit(_) => self.counted(count, true, next),
             PolicyHead::Deny => self.counted(count, false, next),
-            PolicyHead::Grant { obligations, .. } => {
-                let condition = next + 1 + policy_model::obligation_words(obligations);
-                self.visit_condition(condition, below, count)
+            PolicyHead::Grant { .. } => {
+                let before = grant::before_condition_in(self.words, at) as usize;
+                self.visit_condition(at + before, below, count)
             }
             PolicyHead::All(0) => self.counted(count, false, next),
             PolicyHead::All(arms) => self.visit_policies(next, below, arms, false, count),
@@ -161,10 +154,30 @@ impl Walk<'_> {
         }
     }
 
+    // The same of an arm of a list. A Permit and a plain Grant, the commonest arms of a wide list, are counted here, with no call of `visit_policy`. It is
+    // compiled into the list rules, so that a counted arm isn't laid in memory.
+    #[cycle(policy_visits)]
+    #[inline(always)]
+    fn visit_arm(&self, at: usize, depth: usize, nodes: u32) -> Option<Visit>
+        ensures { Counts words_t (holds_p (table_of self.now.facts.now)) (nodes_p (table_of self.now.facts.now)) at self.now.allowance nodes (read_policy false depth (drop at self.now.words.now)) result }
+    {
+        if self.words.len() <= at || depth == 0 || self.allowance <= nodes {
+            return None;
+        }
+        if self.words[at] / policy_model::HALF == policy_model::PERMIT {
+            return self.counted(nodes + 1, true, at + 1);
+        }
+        if policy_model::plain_grant(self.words, at) {
+            return self.visit_plain(at, nodes);
+        }
+        self.visit_policy(at, depth, nodes)
+    }
+
     // The `arms` from `at` of an All, up to its deny (`stop` false), or an OrElse's two, up to a permit (`stop` true).
     // Beside `visit_conditions`: one rule for both would take a trait of the two cycles, with a member for each reading, size, value and count, for a loop of
-    // nine lines.
+    // nine lines. It is compiled into `visit_policy`, so that a level takes one call.
     #[cycle(policy_visits)]
+    #[inline(always)]
     fn visit_policies(
         &self,
         at: usize,
@@ -178,7 +191,7 @@ impl Walk<'_> {
         let mut next = at;
         let mut count = nodes;
         for left in (0..arms).rev() {
-            let arm = self.visit_policy(next, depth, count)?;
+            let arm = self.visit_arm(next, depth, count)?;
             next = arm.next;
             count = arm.nodes;
             if arm.holds == stop {
@@ -198,7 +211,7 @@ impl Walk<'_> {
         let mut count = nodes;
         let mut permits = false;
         for _ in 0..arms {
-            let arm = self.visit_policy(next, depth, count)?;
+            let arm = self.visit_arm(next, depth, count)?;
             next = arm.next;
             count = arm.nodes;
             permits |= arm.holds;

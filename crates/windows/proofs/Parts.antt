@@ -3,26 +3,24 @@ use mathlib.Core.Path.{◌≡◌, refl, sym, ◌∙◌, ap, ap₂, subst}
 use mathlib.Core.Bool.{Bool, true, false, cond, not, ◌&&◌, ◌||◌, and-true, and-false}
 use mathlib.Core.Option.{none}
 use mathlib.Core.List.{List, [], ◌∷◌, ◌++◌, map, append_assoc, reverse}
-use Prim.Native.Nat.{ℕ, zero, suc, ◌+◌, ◌-◌, ◌*◌, ◌/◌, ◌%◌, ◌^◌, ◌≤◌, ◌<◌}
+use Prim.Native.Nat.{ℕ, zero, suc, ◌/◌, ◌%◌, ◌≤◌, ◌<◌}
 use native.Mathlib.Omega.{arith}
-use lib.Bits.{bit_and, and_high}
 use lib.Dec.{eqb, leb}
 use borrow.Author.Tests.{le-leb, lt-leb, not-false}
-use lib.ListN.{length, drop, get_or, set}
+use lib.ListN.{length, drop, set}
 use Rattle.std.proofs.lemmas.List.{map-append, reverse-append}
 use Rattle.std.specs.Borrow.{Bor}
-use Rattle.model.specs.Fields.{split, packed}
+use Rattle.model.specs.Fields.{packed}
 use Rattle.model.specs.Facts.{Presence, unknown, table_bytes, table_fields}
 use Rattle.model.specs.Writing.{presence_field}
 use Rattle.model.specs.Windows.{Window, windows_of, right_window, right_windows, decided, becomes, named, set_fields, bad_date, bad_list, windows_fault, windowed_table, apply_windows}
 use Rattle.model.specs.Calls.{refusal, wrote, unless_fault}
 use Rattle.model.specs.Calendar.{Date, exists, unknown_date}
 use Rattle.laws.proofs.Pairs.{pairs_are}
-use Rattle.laws.proofs.ShiftLaws.{split_shift}
 use Rattle.laws.proofs.WordLaws.{length_packed}
 use Rattle.laws.proofs.UnpackedLaws.{fields_packed, packed_fields, length_fields}
 use Rattle.laws.proofs.WindowLaws.{Judged, length_set_fields, narrow_set_fields}
-use Rattle.laws.proofs.FieldSetLaws.{unit_at, replaced}
+use Rattle.laws.proofs.OverlapLaws.{both_exchanged}
 use Rattle.std.specs.Prelude.{Ok}
 use Rattle.std.specs.Simd.{first_chunks}
 use Rattle.answer.specs.Answers.{Answered}
@@ -30,55 +28,6 @@ use Rattle.windows.specs.Setting.{window_in, all_right, held_as, fields_by, set_
 use Rattle.windows.specs.declared.Ages.{Ages}
 use Rattle.windows.specs.declared.Verdict.TheVariants.{Closed, Open}
 use Rattle.windows.specs.SettingLaws.{by_same, by_none, set_fields_by, ages_of, decided_fields, set_by, then_set, set_one, set_none}
-
--- ---- one field of a byte
-abbrev old_of : ℕ → ℕ → ℕ
-old_of byte place = byte / 2 ^ (6 - place * 2) % 4
-
-abbrev one_at : ℕ → ℕ
-one_at place = 64 / 2 ^ (place * 2)
-
-four : (P : ℕ → Type 0) → P 0 → P 1 → P 2 → P 3 → (n : ℕ) → n < 4 → P n
-four P a b c d zero h = a
-four P a b c d (suc zero) h = b
-four P a b c d (suc (suc zero)) h = c
-four P a b c d (suc (suc (suc zero))) h = d
-four P a b c d (suc (suc (suc (suc n)))) h = absurd (omega arith)
-
-one_is : (place : ℕ) → place < 4 → unit_at 2 4 place ≡ one_at place
-one_is = four (λ k. unit_at 2 4 k ≡ one_at k) refl refl refl refl
-
--- What the bits of a field count in a byte.
-abbrev pub in_field : ℕ → ℕ → ℕ
-in_field byte place = bit_and byte (192 / 2 ^ (place * 2))
-
-in_field_lem : (byte place : ℕ) → place < 4 → in_field byte place ≡ old_of byte place * one_at place
-in_field_lem byte = four (λ k. in_field byte k ≡ old_of byte k * one_at k) (and_high byte 2 6) (and_high byte 2 4) (and_high byte 2 2) (and_high byte 2 0)
-
--- All four fields of 85 times a value are the value.
-all_four : (place value : ℕ) → place < 4 → value < 4 → old_of (value * 85) place ≡ value
-all_four place value p v =
-    four (λ k. (n : ℕ) → n < 4 → old_of (n * 85) k ≡ n)
-    (four (λ n. old_of (n * 85) 0 ≡ n) refl refl refl refl) (four (λ n. old_of (n * 85) 1 ≡ n) refl refl refl refl)
-    (four (λ n. old_of (n * 85) 2 ≡ n) refl refl refl refl) (four (λ n. old_of (n * 85) 3 ≡ n) refl refl refl refl) place p value v
-
-pub record Placed (byte place value : ℕ) : Type 0 where
-  pub held : in_field byte place ≤ byte
-  pub fits : byte - in_field byte place + in_field (value * 85) place < 256
-  pub fields : split 2 4 (byte - in_field byte place + in_field (value * 85) place) ≡ set (split 2 4 byte) place value
-
-pub placed : (byte place value : ℕ) → byte < 256 → place < 4 → value < 4 → Placed byte place value
-placed byte place value b p v =
-    let r = replaced 2 3 place byte value p b v in
-    let old : get_or (split 2 4 byte) place 0 ≡ old_of byte place = sym (split_shift 2 3 place byte b (omega arith)) in
-    let one = one_is place p in
-    let taken : get_or (split 2 4 byte) place 0 * unit_at 2 4 place ≡ in_field byte place = ap₂ (λ x y. x * y) old one ∙ sym (in_field_lem byte place p) in
-    let added : value * unit_at 2 4 place ≡ in_field (value * 85) place = ap₂ (λ x y. x * y) (sym (all_four place value p v)) one ∙ sym (in_field_lem (value * 85) place p) in
-    record {
-      held = subst (λ x. x ≤ byte) taken r.held;
-      fits = subst (λ x. byte - x + in_field (value * 85) place < 256) taken (subst (λ y. byte - get_or (split 2 4 byte) place 0 * unit_at 2 4 place + y < 256) added r.fits);
-      fields = sym (ap₂ (λ x y. split 2 4 (byte - x + y)) taken added) ∙ r.fields;
-    }
 
 -- ---- a list by the two words of each window
 pub windows_are : (list : List ℕ) (ps : List (List ℕ)) → ps ≡ first_chunks 2 (length list / 2) list → map window_in ps ≡ windows_of list
@@ -91,13 +40,7 @@ right_pairs (w ∷ []) n h = refl
 right_pairs (w ∷ v ∷ list) zero h = absurd (omega arith)
 right_pairs (w ∷ v ∷ list) (suc n) h =
     let same : length (w ∷ v ∷ list) % 2 ≡ length list % 2 = omega arith in
-    rw (same, right_pairs list n (omega arith)) (in_front (right_window w v) (eqb (length list % 2) 0) (all_right (first_chunks 2 n list)))
-  where
-    in_front : (a b c : Bool) → (a && (b && c)) ≡ (b && (a && c))
-    in_front true true c = refl
-    in_front true false c = refl
-    in_front false true c = refl
-    in_front false false c = refl
+    rw (same, right_pairs list n (omega arith)) (both_exchanged (right_window w v) (eqb (length list % 2) 0) (all_right (first_chunks 2 n list)))
 
 pub long_bad : (list : List ℕ) → 64 < length list → true ≡ bad_list list
 long_bad list h = sym (ap (λ b. not (right_windows list && b)) (lt-leb (length list) 64 h) ∙ ap not (and-false (right_windows list)))

@@ -1,9 +1,8 @@
 -- Fields set one by one, and all of them at once.
-use Rattle.std.specs.Prelude.{◌≡◌, refl, Bool, true, false, cond, not, ◌&&◌, ◌||◌, List, [], ◌∷◌, ◌++◌, ℕ, zero, suc, ◌+◌, ◌/◌, ◌%◌, ◌<◌, eqb, ℤ, pos, negsuc, length, get_or, set}
+use Rattle.std.specs.Prelude.{◌≡◌, refl, Bool, true, false, cond, not, ◌&&◌, ◌||◌, List, [], ◌∷◌, ℕ, zero, suc, ◌+◌, ◌<◌, eqb, ℤ, pos, negsuc, set}
 use Rattle.std.proofs.Common.{sym, ◌∙◌, ap, ap₂, arith, eq-eqb, ne_eqb}
 use Rattle.std.proofs.Math.Bool.{and-true, and-false}
-use Rattle.model.specs.Fields.{split}
-use Rattle.model.specs.Facts.{Presence, table_fields}
+use Rattle.model.specs.Facts.{Presence}
 use Rattle.model.specs.Writing.{presence_field}
 use Rattle.model.specs.Calendar.{Date, age_in_days, age_in_years}
 use Rattle.model.specs.Windows.{Window, within, holds_age, open_holds, closed_holds, verdict, decided, some_of, named, set_fields}
@@ -109,15 +108,3 @@ module _ (reading today : Date) where
       (some_same (held_as Closed ages_of) (closed_holds reading today) (λ w. ap (λ b. not w.opens && b) (held_is w)) ws f)
       (some_same (held_as Open ages_of) (open_holds reading today) (λ w. ap (λ b. w.opens && b) (held_is w)) ws f)
       ∙ in_turn (named ws f) (some_of (open_holds reading today) ws f) (some_of (closed_holds reading today) ws f) q (none_named (open_holds reading today) ws f) (none_named (closed_holds reading today) ws f)
-
--- ---- one field of a table
-pub fields_set : (bs : List ℕ) (f v r : ℕ) → f / 4 < length bs → split 2 4 r ≡ set (split 2 4 (get_or bs (f / 4) 0)) (f % 4) v → table_fields (set bs (f / 4) r) ≡ set (table_fields bs) f v
-fields_set [] f v r h e = absurd (omega arith)
-fields_set (b ∷ bs) zero v r h e = ap (λ l. l ++ table_fields bs) e
-fields_set (b ∷ bs) (suc zero) v r h e = ap (λ l. l ++ table_fields bs) e
-fields_set (b ∷ bs) (suc (suc zero)) v r h e = ap (λ l. l ++ table_fields bs) e
-fields_set (b ∷ bs) (suc (suc (suc zero))) v r h e = ap (λ l. l ++ table_fields bs) e
-fields_set (b ∷ bs) (suc (suc (suc (suc f)))) v r h e =
-    let q : suc (suc (suc (suc f))) / 4 ≡ suc (f / 4) = omega arith in
-    let m : suc (suc (suc (suc f))) % 4 ≡ f % 4 = omega arith in
-    rw q (ap (λ l. split 2 4 b ++ l) (fields_set bs f v r (omega arith) (rw (q, m) at e)))

@@ -1,10 +1,9 @@
 // Retention windows: the facts that a list names, set in a table by the age of a reading.
 #![tactic(auto)]
 
-ghost use Rattle.std.specs.Prelude.{◌≡◌, Bool, ◌<◌, length, map, set};
+ghost use Rattle.std.specs.Prelude.{◌≡◌, Bool, length, map};
 ghost use Rattle.std.proofs.Math.Option.{none};
-ghost use Rattle.model.specs.Fields.{split};
-ghost use Rattle.model.specs.Facts.{fact_count, table_fields};
+ghost use Rattle.model.specs.Facts.{table_fields};
 ghost use Rattle.model.specs.Windows.{Window as Meant, bad_list, windows_fault, windowed_table, apply_windows};
 ghost use Rattle.facts.specs.Answers.{presence_number};
 ghost use Rattle.answer.specs.Answers.{Answered};
@@ -154,25 +153,6 @@ fn is_bad_list(list: &[u32]) -> bool
     !all_right(windows)
 }
 
-// A byte of a table with a value in one of its four fields: 85 times the value has it in all four. The place is a shift, so nothing branches on it.
-fn with_field(byte: u8, place: u32, value: u8) -> u8
-    requires { (place < 4) × (value < 4) }
-    ensures { split 2 4 result ≡ set (split 2 4 byte) place value }
-{
-    let mask = 192 >> (place * 2);
-    byte - (byte & mask) + (value * 85 & mask)
-}
-
-// Sets the field of a fact.
-#[tactic(auto, using(crate::specs::SettingLaws::fields_set))]
-fn set_field(out: &mut [u8; facts::TABLE_BYTES], fact: u32, value: Presence)
-    requires { fact < fact_count }
-    ensures { table_fields out.new ≡ set (table_fields out.old) fact (presence_number value) }
-{
-    let at = (fact / 4) as usize;
-    out[at] = with_field(out[at], fact % 4, value as u8);
-}
-
 // Sets every fact of which some window is such a one to a value.
 fn set_each<F: Fn(Window) -> bool>(
     windows: &[[u32; 2]],
@@ -186,7 +166,7 @@ fn set_each<F: Fn(Window) -> bool>(
     for words in windows.iter().rev() {
         let window = Window::of(*words);
         if such(window) {
-            set_field(out, window.fact, value);
+            facts::set_presence(out, window.fact, value);
         }
     }
 }

@@ -4,4 +4,4 @@ use Rattle.completion.proofs.Loading.{Loading}
 use Rattle.completion.proofs.load_consulted.Given as goal
 
 abbrev pub invariant-loop-i : goal.invariant-loop-i
-invariant-loop-i l = Loading l.words l.count (held l.initial.consulted) (held l.consulted) l.i
+invariant-loop-i l = Loading l.words l.prior (held l.initial.consulted) (held l.consulted) l.i

@@ -4,4 +4,4 @@ use Rattle.decision.specs.Answers.{Masked}
 use Rattle.decision.proofs.with_bits.Given as goal
 
 abbrev pub invariant-loop-obligation : goal.invariant-loop-obligation
-invariant-loop-obligation l = Masked l.mask (take l.obligation-index l.obligations) l.all
+invariant-loop-obligation l = Masked l.mask (take l.obligation-index l.numbers) l.all

@@ -6,8 +6,8 @@ use Rattle.model.specs.Fields.{words_for}
 use Rattle.model.specs.Listing.{text, newline}
 use Rattle.listing.specs.declared.Listed.TheVariants.{Consulted}
 use Rattle.listing.specs.Texts.{Wrote, fields_text, decision_text, record_text}
-use Rattle.listing.specs.Writers.{wrote_as, wrote_then}
-use Rattle.listing.specs.RecordTexts.{record_listed}
+use Rattle.listing.specs.WriterLaws.{wrote_as, wrote_then}
+use Rattle.listing.specs.RecordTextLaws.{record_listed}
 use Rattle.listing.proofs.list_record.Goals as goal
 
 pub returns-clause-listing : goal.returns-clause-listing

@@ -3,8 +3,8 @@ use native.Mathlib.Omega.{arith}
 use lib.ListN.{length-take, length-drop}
 use Rattle.model.specs.Listing.{text, newline}
 use Rattle.listing.specs.declared.Listed.TheVariants.{Consulted}
-use Rattle.listing.specs.Writers.{copied_whole, wrote_then}
-use Rattle.listing.specs.ListTexts.{length_named}
+use Rattle.listing.specs.WriterLaws.{copied_whole, wrote_then}
+use Rattle.listing.specs.ListTextLaws.{length_named}
 use Rattle.listing.proofs.put_consulted.Goals as goal
 
 pub copy-requires : goal.copy-requires

@@ -1,6 +1,6 @@
 -- `listing::put_products` meets its contract. Assumes nothing.
 use Rattle.model.specs.Listing.{text}
-use Rattle.listing.specs.Writers.{copied_whole, wrote_then}
+use Rattle.listing.specs.WriterLaws.{copied_whole, wrote_then}
 use Rattle.listing.proofs.put_products.Goals as goal
 
 pub returns : goal.returns

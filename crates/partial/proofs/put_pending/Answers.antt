@@ -15,7 +15,7 @@ pub returns : goal.returns
 returns c =
     let left = c.in-Some.ensures.lookup.0 in
     let all : c.args.size - 0 ≡ c.args.size = omega arith in
-    let front = c.write_front-front.ensures in
+    let front = c.write_front-behind.ensures in
     let words = c.entry_words.ensures in
     rw words
     (put_written (rw words at c.if-total-gt-LIMIT.false) (rw words at c.if-out-total.false) left.1 (rw all at left.2) front.0 front.1 (omega arith) c.copy_from_slice.ensures.after)

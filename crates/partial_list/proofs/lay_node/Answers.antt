@@ -1,4 +1,4 @@
--- `partial_policy::lay_node` meets its contract. Assumes nothing.
+-- `partial_list::lay_node` meets its contract. Assumes nothing.
 use native.Mathlib.Omega.{arith}
 use Rattle.partial_list.proofs.Adding.{node_behind}
 use borrow.Author.Rules.{rules}

@@ -12,7 +12,7 @@ pub returns : goal.returns
 returns c =
     let args = c.args in
     let first = permit_front args.outcome (length args.obligations.now) args.label (length args.facts.now) in
-    let front = c.write_permit_front-front.ensures in
+    let front = c.write_permit_front-behind.ensures in
     let obligations = c.pack_obligations.ensures in
     let facts = c.pack_entries.ensures in (
       omega (arith, front.0, obligations.0, facts.0),

@@ -6,7 +6,7 @@ use native.Mathlib.Omega.{arith}
 use lib.ListN.{length, take, drop, replicate, length-drop}
 use lib.Seq.{length-take-le, take_all, take_at, drop-drop}
 use Rattle.sitting.specs.Requests.{from_table}
-use Rattle.listing.specs.Writers.{wrote_as}
+use Rattle.listing.specs.WriterLaws.{wrote_as}
 use Rattle.sitting.proofs.Requesting.{no_count, no_words, many_words, words_cut, words_read, words_long}
 use borrow.Author.Rules.{rules}
 use Rattle.sitting.proofs.list_request.Goals as goal

@@ -3,7 +3,7 @@ use mathlib.Core.Path.{sym}
 use Prim.Native.Nat.{◌+◌, ◌-◌}
 use native.Mathlib.Omega.{arith}
 use lib.ListN.{drop, length-drop}
-use Rattle.listing.specs.Writers.{wrote_as}
+use Rattle.listing.specs.WriterLaws.{wrote_as}
 use Rattle.sitting.proofs.Requesting.{no_size, long_table, table_cut, table_read}
 use Rattle.sitting.proofs.list_table.Goals as goal
 

@@ -12,12 +12,12 @@ use Rattle.listing.proofs.Words.{store_next}
 use Rattle.vectors.specs.Words.{half_at, halves}
 use Rattle.vectors.proofs.put_set.Goals as goal
 
-pub returns-then-out-ne32 : goal.returns-then-out-ne32
-returns-then-out-ne32 c = sym (ap (λ b. cond b (halves c.args.set.now) c.args.out.now) (ne_eqb _ _ c.if-out-ne32.true))
+pub returns-then-out : goal.returns-then-out
+returns-then-out c = sym (ap (λ b. cond b (halves c.args.set.now) c.args.out.now) (ne_eqb _ _ c.if-out.true))
 
 pub loop-i-init : goal.loop-i-init
 unfolding firsts
-loop-i-init c = (c.if-out-ne32.false, refl)
+loop-i-init c = (c.if-out.false, refl)
 
 -- The two halves of the i-th number.
 upper : (set : List ℕ) (i : ℕ) → get_or set i 0 / 4294967296 ≡ half_at set (2 * i)

@@ -20,7 +20,7 @@ loop-words-preserved-then-such g c =
     let w = c.of-window.result in (
       still_all loop.yielded y _ _ _ c.in-Some.ensures.steps loop.invariant.0,
       λ f h. one_set f (presence_number c.args.value) (table_fields c.args.out.now) loop.yielded y (window_meant w) c.of-window.ensures.meant
-          (h w c.such.result c.such.ensures) c.if-such.true (loop.invariant.1 f h) c.set_field.ensures,
+          (h w c.such.result c.such.ensures) c.if-such.true (loop.invariant.1 f h) c.set_presence.ensures,
     )
 
 pub loop-words-preserved : goal.loop-words-preserved

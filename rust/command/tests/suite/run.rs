@@ -155,7 +155,7 @@ chmod +x target/release/vierskof",
     assert_eq!((status, printed.as_str()), (Some(0), "listed\n"));
     let lines: Vec<&str> = steps.lines().collect();
     assert!(lines[0].starts_with("run: proving and building"), "{steps}");
-    let last = "minutes on two cores with an older kit";
+    let last = "minutes";
     assert!(lines[0].ends_with(last), "{steps}");
     let proving = ["rt: proving model", "rt: proving calls"];
     assert_eq!(lines[1..], proving);

@@ -8,4 +8,4 @@ use Rattle.batch.proofs.Desk.run.Given as goal
 
 abbrev pub invariant-loop-i : goal.invariant-loop-i
 invariant-loop-i l =
-    Standing (outcomes_of (carried l.self.outcomes)) (entries_of l.self.entries.now) l.self.sheets.now l.whole l.allowance l.initial.replies l.initial.out l.replies l.out l.left l.used l.i
+    Standing (outcomes_of (carried l.self.outcomes)) (entries_of l.self.entries.now) l.self.sheets.now l.whole l.allowance l.initial.replies l.initial.out l.replies l.out l.unspent l.used l.i

@@ -4,4 +4,4 @@ use Rattle.decision.specs.Uniting.{Grown}
 use Rattle.decision.proofs.Union.append_all.Given as goal
 
 abbrev pub invariant-loop-obligation : goal.invariant-loop-obligation
-invariant-loop-obligation l = Grown (take l.obligation-index l.obligations) l.initial.buf l.buf l.initial.self l.self
+invariant-loop-obligation l = Grown (take l.obligation-index l.numbers) l.initial.buf l.buf l.initial.self l.self

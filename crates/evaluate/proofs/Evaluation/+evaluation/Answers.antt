@@ -6,7 +6,7 @@ use Prim.Native.Nat.{◌+◌, ◌-◌}
 use native.Mathlib.Omega.{arith}
 use borrow.Author.Tests.{not-true, not-false}
 use Rattle.evaluate.proofs.Folds.{lent_folds}
-use Rattle.evaluate.proofs.Evaluating.{by_head, eval_end, eval_limit, eval_bad, eval_permit, eval_permit_word, eval_deny, permit_stored, deny_stored}
+use Rattle.evaluate.proofs.Evaluating.{by_head, eval_end, eval_limit, eval_bad, eval_permit, eval_permit_word, eval_grant_word, eval_deny, permit_stored, deny_stored}
 use Rattle.evaluate.proofs.Arms.{arms_none, arms_passed, all_more, all_stop, any_more, all_node, any_node, or_permits, or_denies}
 use Rattle.evaluate.proofs.Evaluation.+evaluation.Goals as goal
 use Rattle.evaluate.proofs.Evaluation.+evaluation.Goals.{eval_policy-then-self-at-via-then-self-at, eval_policy-then-self-at-via-else-self-at+then-depth-eq0}
@@ -62,6 +62,10 @@ eval_arm-returns-then-self-at t c = rw c.denied.ensures (eval_end c.if-self-at.t
 pub eval_arm-returns-then-word-eq-PERMIT : goal.eval_arm-returns-then-word-eq-PERMIT
 eval_arm-returns-then-word-eq-PERMIT t c =
     rw c.permitted.ensures (eval_permit_word _ _ _ _ _ _ _ c.if-self-at.false c.if-word-eq-PERMIT.true)
+
+pub eval_arm-returns-then-depth-ne0 : goal.eval_arm-returns-then-depth-ne0
+eval_arm-returns-then-depth-ne0 t c =
+    eval_grant_word c.if-self-at.false c.if-depth-ne0.true (λ shape n o. c.eval_grant.ensures _ shape n o _) c.if-word-eq-KIND_GRANT.true
 
 pub eval_or_else-returns-then-decision : goal.eval_or_else-returns-then-decision
 eval_or_else-returns-then-decision t c =

@@ -8,8 +8,8 @@ use native.Mathlib.Omega.{arith}
 use lib.ListN.{length, length-append, length-take, length-drop}
 use Rattle.model.specs.Listing.{text}
 use Rattle.listing.specs.Texts.{most_of, field_text, fields_text}
-use Rattle.listing.specs.Writers.{copied_whole, wrote_as, wrote_then}
-use Rattle.listing.specs.ListTexts.{fields_none, fields_one, fields_more, length_fields}
+use Rattle.listing.specs.WriterLaws.{copied_whole, wrote_as, wrote_then}
+use Rattle.listing.specs.ListTextLaws.{fields_none, fields_one, fields_more, length_fields}
 use Rattle.listing.proofs.Lists.{room_left}
 use Rattle.listing.proofs.Fields.put_fields.Goals as goal
 

@@ -6,7 +6,7 @@ use native.Mathlib.Omega.{arith}
 use lib.ListN.{get_or}
 use Rattle.model.specs.Listing.{text, digits}
 use Rattle.listing.specs.Texts.{permit_lists, permit_text}
-use Rattle.listing.specs.Writers.{wrote_as, wrote_then}
+use Rattle.listing.specs.WriterLaws.{wrote_as, wrote_then}
 use Rattle.listing.proofs.Node.put_permit.Goals as goal
 
 pub returns : goal.returns

@@ -1,7 +1,7 @@
 -- `check` of Place meets its contract: what is asked of the nodes that are due, at this level and then at those above, is what is asked of the whole. Assumes nothing.
 use Rattle.std.proofs.Common.{◌≡◌, ◌∙◌, sym, arith, rules, length-set, drop, Err}
 use Rattle.unpack.specs.Places.{whole}
-use Rattle.unpack.specs.Levels.{one_due, opened, passed, turned_back_lem, level_done, all_done}
+use Rattle.unpack.specs.LevelLaws.{one_due, opened, passed, turned_back_lem, level_done, all_done}
 use Rattle.unpack.proofs.Place.check.Goals as goal
 
 pub loop-left-init : goal.loop-left-init

@@ -1,5 +1,5 @@
 -- The cycle of calls of `visits::Walk::visit_policy` meets its contracts: a policy by its head; arms by a loop, whose invariant is that what answers for the
--- arms that are left answers for all. The measure is the depth, and within a level the list rules, then the policy. Assumes nothing.
+-- arms that are left answers for all. The measure is the depth, and within a level the list rules, then an arm, then the policy. Assumes nothing.
 use mathlib.Core.Bool.{false}
 use Prim.Native.Nat.{◌+◌, ◌-◌, ◌*◌}
 use Rattle.model.specs.Facts.{table_of}
@@ -8,13 +8,16 @@ use Rattle.visits.proofs.Counting.{Going}
 use Rattle.visits.proofs.Walk.+policy_visits.Given as goal
 
 abbrev pub decreases-visit_any : goal.decreases-visit_any
-decreases-visit_any l = l.depth * 2 + 1
+decreases-visit_any l = l.depth * 3 + 2
+
+abbrev pub decreases-visit_arm : goal.decreases-visit_arm
+decreases-visit_arm l = l.depth * 3 + 1
 
 abbrev pub decreases-visit_policies : goal.decreases-visit_policies
-decreases-visit_policies l = l.depth * 2 + 1
+decreases-visit_policies l = l.depth * 3 + 2
 
 abbrev pub decreases-visit_policy : goal.decreases-visit_policy
-decreases-visit_policy l = l.depth * 2
+decreases-visit_policy l = l.depth * 3
 
 abbrev pub invariant-visit_any-loop : goal.invariant-visit_any-loop
 invariant-visit_any-loop l =

@@ -1,7 +1,7 @@
--- `windows::with_field` meets its contract: what the field counts is taken away, and what the new value counts added. Assumes nothing.
+-- `facts::with_field` meets its contract: what the field counts is taken away, and what the new value counts added. Assumes nothing.
 use native.Mathlib.Omega.{arith}
-use Rattle.windows.proofs.Parts.{placed}
-use Rattle.windows.proofs.with_field.Goals as goal
+use Rattle.facts.proofs.Setting.{placed}
+use Rattle.facts.proofs.with_field.Goals as goal
 
 pub overflow_sub-result : goal.overflow_sub-result
 overflow_sub-result c = (placed c.args.byte c.args.place c.args.value (omega arith) (omega arith) (omega arith)).held

@@ -25,14 +25,15 @@ use Rattle.laws.proofs.FieldLaws.{Holds}
 use Rattle.laws.proofs.FieldAtLaws.{fields_held, narrow_below, narrow_entries, presence_few, seen_back}
 use Rattle.laws.proofs.Lengths.{length_pack}
 use Rattle.laws.specs.Form.{IfThere, Countable, FormP, FormN, FormD}
-use Rattle.laws.specs.Products.{InRange, written_products}
-use Rattle.laws.proofs.ReadBack.{shape_back, shape_small}
+use Rattle.laws.specs.Products.{InRange}
+use Rattle.laws.proofs.ProductLaws.{written_products}
+use Rattle.laws.proofs.NodeLaws.{shape_back, shape_small}
 use Rattle.laws.proofs.ReadForm.{Named, OkRecord, ok_record}
 use Rattle.laws.proofs.Canon.{same_record}
 use Rattle.listing.specs.declared.Listed.TheVariants.{Obligations, Facts, Consulted as Entries}
 use Rattle.listing.specs.Texts.{Wrote, lists_room, decision_room, consulted_room, listing_room, field_text, fields_text, permit_lines, deny_head, deny_lines, permit_lists, permit_text, deny_text, decision_text, record_text, ListedBody, ListedAs}
-use Rattle.listing.specs.Writers.{wrote_as}
-use Rattle.listing.specs.ListTexts.{length_fields}
+use Rattle.listing.specs.WriterLaws.{wrote_as}
+use Rattle.listing.specs.ListTextLaws.{length_fields}
 
 -- ---- obligations, facts and entries from their words
 entry_same : (e : Entry) → e.fact < fact_count → field_text Entries (entry_field e) ≡ entry_text e

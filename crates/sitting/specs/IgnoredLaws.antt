@@ -1,6 +1,7 @@
 -- Later bytes are ignored: a request's first bytes, as many as one that is read whole may have, give its listing. Document 01, "Listing".
 use Rattle.std.specs.Prelude.{◌≡◌, refl, Bool, true, false, ◌&&◌, List, [], ◌∷◌, ℕ, zero, suc, ◌+◌, ◌-◌, ◌*◌, ◌≤◌, leb, take}
 use Rattle.std.proofs.Common.{◌∙◌, ap, arith, leb-true}
+use Rattle.std.proofs.lemmas.Bool.{and_parts}
 use Rattle.model.specs.Facts.{table_bytes, known_facts, table_fault}
 use Rattle.model.specs.Reading.{Parsed, refuse, got, next, many}
 use Rattle.model.specs.Listing.{number_from, words_from, bytes_from, checked, on_bytes, unless_refused, sitting}
@@ -67,17 +68,13 @@ pub later_ignored : (input : List ℕ) → sitting (take request_bytes input) �
 later_ignored input =
     ap (λ q. on_bytes q listed) (number_cut 0 2 16642 input)
     ∙ on_cut 16642 (number_from 0 2 input) listed listed (λ count vs. unless_same (leb 1 count && leb count 4096) 1 (read count (take 16642 vs)) (read count vs)
-    (λ few. in_words count vs (leb-true count 4096 (second (leb 1 count) (leb count 4096) few))))
+    (λ few. in_words count vs (leb-true count 4096 (and_parts (leb 1 count) (leb count 4096) few).1)))
   where
     read : ℕ → List ℕ → List ℕ
     read count vs = on_bytes (words_from count vs) from_table
 
     listed : ℕ → List ℕ → List ℕ
     listed count vs = unless_refused (leb 1 count && leb count 4096) 1 (read count vs)
-
-    second : (a b : Bool) → (a && b) ≡ true → b ≡ true
-    second true b h = h
-    second false b h = cc
 
     in_words : (count : ℕ) (vs : List ℕ) → count ≤ 4096 → read count (take 16642 vs) ≡ read count vs
     in_words count vs few =

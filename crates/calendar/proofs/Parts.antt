@@ -1,18 +1,25 @@
--- The calendar's table, and the days of whole years without a sum. Assumes nothing.
+-- The calendar's tables, and the days of whole years without a sum. Assumes nothing.
 use mathlib.Core.Path.{◌≡◌, refl, ◌∙◌, ap}
 use mathlib.Core.Bool.{Bool, true, false, cond, not, ◌&&◌, ◌||◌}
 use mathlib.Core.List.{List, [], ◌∷◌}
 use Prim.Native.Nat.{ℕ, zero, suc, ◌+◌, ◌-◌, ◌*◌, ◌/◌, ◌%◌, ◌≤◌, ◌<◌}
 use native.Mathlib.Omega.{arith}
 use borrow.Author.Tests.{eqb-true, eqb-false}
-use lib.Dec.{eqb, eqb-suc-suc, eqb-suc-zero}
+use lib.Dec.{eqb, ltb, eqb-suc-suc, eqb-suc-zero}
 use lib.ListN.{get_or, take}
 use Rattle.model.specs.Required.{total}
-use Rattle.model.specs.Calendar.{Date, leap, months, month_days, first_year, exists, years_days}
-use Rattle.laws.proofs.CalendarLaws.{real, small, month_on, total_few}
+use Rattle.model.specs.Calendar.{Date, leap, months, month_days, first_year, last_year, exists, years_days, day_number}
+use Rattle.laws.proofs.CalendarLaws.{real, small}
 
 abbrev pub days_of : List ℕ
 days_of = 0 ∷ 31 ∷ 28 ∷ 31 ∷ 30 ∷ 31 ∷ 30 ∷ 31 ∷ 31 ∷ 30 ∷ 31 ∷ 30 ∷ 31 ∷ []
+
+abbrev pub days_before : List ℕ
+days_before = 0 ∷ 0 ∷ 31 ∷ 59 ∷ 90 ∷ 120 ∷ 151 ∷ 181 ∷ 212 ∷ 243 ∷ 273 ∷ 304 ∷ 334 ∷ []
+
+-- A table of a common year, and one day more from 29 February on.
+abbrev in_table : List ℕ → ℕ → Bool → ℕ
+in_table table m longer = cond longer 1 0 + get_or table m 0
 
 abbrev months_if : Bool → List ℕ
 months_if b = 31 ∷ cond b 29 28 ∷ 31 ∷ 30 ∷ 31 ∷ 30 ∷ 31 ∷ 31 ∷ 30 ∷ 31 ∷ 30 ∷ 31 ∷ []
@@ -51,36 +58,57 @@ pub years_closed : (n : ℕ) → n < 300 → Closed n
 years_closed zero h = refl
 years_closed (suc n) h = year_more n h (years_closed n (omega arith)) _ _ _ refl refl refl (year_long (leap (first_year + n)))
 
--- ---- the number of a day
-year_most : (b : Bool) → total (months_if b) ≤ 366
-year_most true = omega arith
-year_most false = omega arith
+before_if : (m : ℕ) (b : Bool) → m ≤ 12 → total (take (m - 1) (months_if b)) ≡ in_table days_before m (ltb 2 m && b)
+before_if zero b h = refl
+before_if (suc zero) b h = refl
+before_if (suc (suc zero)) b h = refl
+before_if (suc (suc (suc zero))) true h = refl
+before_if (suc (suc (suc zero))) false h = refl
+before_if (suc (suc (suc (suc zero)))) true h = refl
+before_if (suc (suc (suc (suc zero)))) false h = refl
+before_if (suc (suc (suc (suc (suc zero))))) true h = refl
+before_if (suc (suc (suc (suc (suc zero))))) false h = refl
+before_if (suc (suc (suc (suc (suc (suc zero)))))) true h = refl
+before_if (suc (suc (suc (suc (suc (suc zero)))))) false h = refl
+before_if (suc (suc (suc (suc (suc (suc (suc zero))))))) true h = refl
+before_if (suc (suc (suc (suc (suc (suc (suc zero))))))) false h = refl
+before_if (suc (suc (suc (suc (suc (suc (suc (suc zero)))))))) true h = refl
+before_if (suc (suc (suc (suc (suc (suc (suc (suc zero)))))))) false h = refl
+before_if (suc (suc (suc (suc (suc (suc (suc (suc (suc zero))))))))) true h = refl
+before_if (suc (suc (suc (suc (suc (suc (suc (suc (suc zero))))))))) false h = refl
+before_if (suc (suc (suc (suc (suc (suc (suc (suc (suc (suc zero)))))))))) true h = refl
+before_if (suc (suc (suc (suc (suc (suc (suc (suc (suc (suc zero)))))))))) false h = refl
+before_if (suc (suc (suc (suc (suc (suc (suc (suc (suc (suc (suc zero))))))))))) true h = refl
+before_if (suc (suc (suc (suc (suc (suc (suc (suc (suc (suc (suc zero))))))))))) false h = refl
+before_if (suc (suc (suc (suc (suc (suc (suc (suc (suc (suc (suc (suc zero)))))))))))) true h = refl
+before_if (suc (suc (suc (suc (suc (suc (suc (suc (suc (suc (suc (suc zero)))))))))))) false h = refl
+before_if (suc (suc (suc (suc (suc (suc (suc (suc (suc (suc (suc (suc (suc m))))))))))))) b h = absurd (omega arith)
 
--- The days of the whole years and of the month before a date, and those of the year's months before m.
-abbrev pub sofar : Date → ℕ → ℕ
-sofar d m = years_days (d.year - first_year) + (d.day - 1) + total (take (m - 1) (months d.year))
+pub before_table : (y m : ℕ) → m ≤ 12 → total (take (m - 1) (months y)) ≡ in_table days_before m (ltb 2 m && leap y)
+before_table y m h = before_if m (leap y) h
 
--- They are few, and a month more adds its days.
+-- ---- the number of a day, by table and closed form
 pub record Counted (d : Date) : Type 0 where
-  pub from_first : first_year ≤ d.year
-  pub some_day : 1 ≤ d.day
+  pub year_low : first_year ≤ d.year
+  pub year_high : d.year ≤ last_year
+  pub month_high : d.month ≤ 12
+  pub day_low : 1 ≤ d.day
+  pub number : day_number d ≡ years_days (d.year - first_year) + in_table days_before d.month (ltb 2 d.month && leap d.year) + (d.day - 1)
   pub few : years_days (d.year - first_year) ≤ 110000
-  pub small : d.day ≤ 31
-  pub below : (m : ℕ) → sofar d m ≤ 111000
-  pub more : (m : ℕ) → 1 ≤ m → m < d.month → sofar d (m + 1) ≡ sofar d m + month_days d.year m
+  pub little : in_table days_before d.month (ltb 2 d.month && leap d.year) + (d.day - 1) ≤ 400
 
 pub counted : (d : Date) → exists d ≡ true → Counted d
 counted d h =
     let r = real d h in
     let s = small d r in
-    let years : years_days (d.year - first_year) ≤ 110000 = omega (arith, years_closed (d.year - first_year) (omega (arith, r.to_last)), r.to_last) in
+    let table = before_table d.year d.month s.month_high in
+    let n = d.year - first_year in
     record {
-      from_first = r.from_first;
-      some_day = r.some_day;
-      few = years;
-      small = s.day_high;
-      below = λ m. omega (arith, total_few (m - 1) (months d.year), year_most (leap d.year), s.day_high, years);
-      more = λ m l k.
-          let on : total (take (m + 1 - 1) (months d.year)) ≡ total (take m (months d.year)) = ap (λ n. total (take n (months d.year))) (let e : m + 1 - 1 ≡ m = omega arith in e) in
-          omega (arith, month_on d.year m l (omega (arith, s.month_high)));
+      year_low = r.from_first;
+      year_high = r.to_last;
+      month_high = s.month_high;
+      day_low = r.some_day;
+      number = ap (λ x. years_days n + x + (d.day - 1)) table;
+      few = omega (arith, years_closed n (omega (arith, r.to_last)), r.to_last);
+      little = omega (arith, table, s.before_month, s.day_high);
     }

@@ -219,8 +219,15 @@ fn run(call: Call, case: &[u8], words: &mut [u32], expected: &mut [u32], out: &m
     call.answer(sheet, words, &case[NUMBERS..start], out)
 }
 
-// Whether the proved call answers as the stored answer at the front says. One that is longer than its room is no answer.
-fn agrees(call: Call, case: &[u8]) -> bool
+// Whether the proved call answers as the stored answer at the front says. One that is longer than its room is no answer. The buffers are lent to one answer
+// after the other, since to clear them takes longer than most calls.
+fn agrees(
+    call: Call,
+    case: &[u8],
+    words: &mut [u32; SIZES],
+    expected: &mut [u32; SIZES],
+    out: &mut [u32; SIZES],
+) -> bool
     requires { Whole case.now }
     ensures { result ≡ agrees_in call case.now }
 {
@@ -229,9 +236,6 @@ fn agrees(call: Call, case: &[u8]) -> bool
     if room < number_in(case, 6) {
         return false;
     }
-    let mut words = [0u32; SIZES];
-    let mut expected = [0u32; SIZES];
-    let mut out = [0u32; SIZES];
     let expected = &mut expected[..room];
     let out = &mut out[..room];
     let given = run(call, case, &mut words[..count], expected, out);
@@ -257,14 +261,22 @@ fn noted(tally: Tally, agreed: bool, place: usize) -> Tally
 }
 
 // The stored answer at the front, if it is one of the call.
-fn step(call: Call, case: &[u8], tally: Tally, place: usize) -> Tally
+fn step(
+    call: Call,
+    case: &[u8],
+    tally: Tally,
+    place: usize,
+    words: &mut [u32; SIZES],
+    expected: &mut [u32; SIZES],
+    out: &mut [u32; SIZES],
+) -> Tally
     requires { Whole case.now × (tally.replayed + 1 < 2 ^ 64) × (tally.differ ≤ tally.replayed) }
     ensures { result ≡ step_of call case.now place tally }
 {
     if number_in(case, 0) != call.number() {
         return tally;
     }
-    noted(tally, agrees(call, case), place)
+    noted(tally, agrees(call, case, words, expected, out), place)
 }
 
 // The stored answers of a call, while they are whole. Each takes some bytes, so there are fewer than bytes.
@@ -276,12 +288,16 @@ fn tally_of(call: Call, cases: &[u8]) -> Tally
         differ: 0,
         first: None,
     };
+    let words = &mut [0u32; SIZES];
+    let expected = &mut [0u32; SIZES];
+    let out = &mut [0u32; SIZES];
     let mut at = 0;
     for before in 0..cases.len() {
         let Some(size) = size_of(&cases[at..]) else {
             return tally;
         };
-        tally = step(call, &cases[at..], tally, before + 1);
+        let case = &cases[at..];
+        tally = step(call, case, tally, before + 1, words, expected, out);
         at += size;
     }
     tally

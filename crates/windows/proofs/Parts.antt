@@ -21,10 +21,10 @@ use Rattle.laws.proofs.WordLaws.{length_packed}
 use Rattle.laws.proofs.UnpackedLaws.{fields_packed, packed_fields, length_fields}
 use Rattle.laws.proofs.WindowLaws.{Judged, length_set_fields, narrow_set_fields}
 use Rattle.laws.proofs.OverlapLaws.{both_exchanged}
-use Rattle.std.specs.Prelude.{Ok}
+use Rattle.std.specs.Prelude.{Ok, Option, Some, None}
 use Rattle.std.specs.Simd.{first_chunks}
 use Rattle.answer.specs.Answers.{Answered}
-use Rattle.windows.specs.Setting.{window_in, all_right, held_as, fields_by, set_where, marked}
+use Rattle.windows.specs.Setting.{window_in, all_right, or_above, between, held_as, fields_by, set_where, marked}
 use Rattle.windows.specs.declared.Ages.{Ages}
 use Rattle.windows.specs.declared.Verdict.TheVariants.{Closed, Open}
 use Rattle.windows.specs.SettingLaws.{by_same, by_none, set_fields_by, ages_of, decided_fields, set_by, then_set, set_one, set_none}
@@ -55,6 +55,11 @@ module _ (list : List ℕ) (ps : List (List ℕ)) (are : ps ≡ first_chunks 2 (
   pub bad_rest : eqb (length list % 2) 0 ≡ true → length list ≤ 64 → not (all_right ps) ≡ bad_list list
   bad_rest h k = sym (bad_by ∙ ap₂ (λ a b. not ((a && all_right ps) && b)) h (le-leb (length list) 64 k) ∙ ap not (and-true (all_right ps)))
 
+-- ---- an age against the ages of a window
+pub held_number : (first last : ℕ) (age : Option ℕ) → last < 4294967296 → (leb first (or_above age) && leb (or_above age) last) ≡ between first last age
+held_number first last (Some n) h = refl
+held_number first last None h = ap (λ b. leb first 4294967296 && b) (lt-leb 4294967296 last h) ∙ and-false (leb first 4294967296)
+
 -- ---- a turn of a loop from the last window to the first
 -- The windows that were yielded, in the list's order.
 abbrev pub yielded_last : List (Bor (List ℕ)) → List (List ℕ)
@@ -76,7 +81,7 @@ module _ (such : Window → Bool) (value : ℕ) (fields : List ℕ) where
   SetBy ps now = now ≡ fields_by (set_where such value (map window_in ps)) 0 fields
 
   pub none_set : SetBy [] fields
-  none_set = sym (by_none (set_where such value []) (λ f q. refl) 0 fields)
+  none_set = sym (by_none (set_where such value []) 0 (λ f q _. refl) fields)
 
   module _ (ys : List (Bor (List ℕ))) (y : Bor (List ℕ)) (w : Window) (is : w ≡ window_in y.now) where
     abbrev Ws : List Window

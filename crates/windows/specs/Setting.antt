@@ -46,6 +46,11 @@ all_right = list_all right_in
 abbrev pub counted_in : Unit → Ages → Option ℕ
 counted_in unit ages = cond (are_years unit) ages.years ages.days
 
+-- An age as it is compared: none is above every last one.
+abbrev pub or_above : Option ℕ → ℕ
+or_above (Some age) = age
+or_above None = 4294967296
+
 -- Both ends are included. None stands for an age below 0, which lies in no window.
 abbrev pub between : ℕ → ℕ → Option ℕ → Bool
 between first last (Some age) = leb first age && leb age last

@@ -1,11 +1,11 @@
 -- Fields set one by one, and all of them at once.
-use Rattle.std.specs.Prelude.{◌≡◌, refl, Bool, true, false, cond, not, ◌&&◌, ◌||◌, List, [], ◌∷◌, ℕ, zero, suc, ◌+◌, ◌<◌, eqb, ℤ, pos, negsuc, set}
-use Rattle.std.proofs.Common.{sym, ◌∙◌, ap, ap₂, arith, eq-eqb, ne_eqb}
+use Rattle.std.specs.Prelude.{◌≡◌, refl, Bool, true, false, cond, not, ◌&&◌, ◌||◌, List, [], ◌∷◌, ◌++◌, ℕ, zero, suc, ◌+◌, ◌*◌, ◌≤◌, ◌<◌, eqb, ℤ, pos, negsuc, length, drop, get_or, set}
+use Rattle.std.proofs.Common.{sym, ◌∙◌, ap, ap₂, arith, eq-eqb, ne_eqb, length-drop, drop-cons}
 use Rattle.std.proofs.Math.Bool.{and-true, and-false}
 use Rattle.model.specs.Facts.{Presence}
 use Rattle.model.specs.Writing.{presence_field}
 use Rattle.model.specs.Calendar.{Date, age_in_days, age_in_years}
-use Rattle.model.specs.Windows.{Window, within, holds_age, open_holds, closed_holds, verdict, decided, some_of, named, set_fields}
+use Rattle.model.specs.Windows.{Window, window_of, windows_of, within, holds_age, open_holds, closed_holds, verdict, decided, some_of, named, set_fields}
 use Rattle.calendar.specs.Answers.{shown}
 use Rattle.windows.specs.declared.Ages.{Ages}
 use Rattle.windows.specs.declared.Verdict.TheVariants.{Closed, Open}
@@ -22,9 +22,13 @@ module _ (g h : ℕ → ℕ → ℕ) where
   by_both a (q ∷ qs) = ap (λ l. g a (h a q) ∷ l) (by_both (suc a) qs)
 
 module _ (g : ℕ → ℕ → ℕ) where
-  pub by_none : ((f q : ℕ) → g f q ≡ q) → (a : ℕ) (qs : List ℕ) → fields_by g a qs ≡ qs
-  by_none e a [] = refl
-  by_none e a (q ∷ qs) = ap₂ (λ x l. x ∷ l) (e a q) (by_none e (suc a) qs)
+  pub by_none : (a : ℕ) → ((f q : ℕ) → a ≤ f → g f q ≡ q) → (qs : List ℕ) → fields_by g a qs ≡ qs
+  by_none a e [] = refl
+  by_none a e (q ∷ qs) = ap₂ (λ x l. x ∷ l) (e a q (omega arith)) (by_none (suc a) (λ f p k. e f p (omega arith)) qs)
+
+  pub by_append : (a b : ℕ) (xs ys : List ℕ) → a + length xs ≡ b → fields_by g a (xs ++ ys) ≡ fields_by g a xs ++ fields_by g b ys
+  by_append a b [] ys e = ap (λ n. fields_by g n ys) (let z : a ≡ b = omega arith in z)
+  by_append a b (x ∷ xs) ys e = ap (λ l. g a x ∷ l) (by_append (suc a) b xs ys (omega arith))
 
   -- One field set after the others.
   abbrev pub then_set : ℕ → ℕ → ℕ → ℕ → ℕ
@@ -45,6 +49,21 @@ module _ (g : ℕ → ℕ → ℕ) where
 pub set_fields_by : (is_named : ℕ → Bool) (says : ℕ → Presence) (a : ℕ) (qs : List ℕ) → set_fields is_named says a qs ≡ fields_by (λ f q. cond (is_named f) (presence_field (says f)) q) a qs
 set_fields_by is_named says a [] = refl
 set_fields_by is_named says a (q ∷ qs) = ap (λ l. cond (is_named a) (presence_field (says a)) q ∷ l) (set_fields_by is_named says (suc a) qs)
+
+-- ---- the windows of a list, from the last
+pub last_windows : (list : List ℕ) (i : ℕ) → length list < i * 2 + 2 → windows_of (drop (i * 2) list) ≡ []
+last_windows list i h = few (drop (i * 2) list) (omega (arith, length-drop (i * 2) list))
+  where
+    few : (l : List ℕ) → length l < 2 → windows_of l ≡ []
+    few [] k = refl
+    few (w ∷ []) k = refl
+    few (w ∷ v ∷ l) k = absurd (omega arith)
+
+pub next_window : (list : List ℕ) (i : ℕ) → i * 2 + 1 < length list → windows_of (drop (i * 2) list) ≡ window_of (get_or list (i * 2) 0) (get_or list (i * 2 + 1) 0) ∷ windows_of (drop ((i + 1) * 2) list)
+next_window list i h =
+    ap windows_of (drop-cons list (i * 2) 0 (omega arith) ∙ ap (λ l. get_or list (i * 2) 0 ∷ l) (drop-cons list (suc (i * 2)) 0 (omega arith)))
+    ∙ ap₂ (λ a b. window_of (get_or list (i * 2) 0) (get_or list a 0) ∷ windows_of (drop b list))
+    (let z : suc (i * 2) ≡ i * 2 + 1 = omega arith in z) (let z : suc (suc (i * 2)) ≡ (i + 1) * 2 = omega arith in z)
 
 -- ---- one window more
 cond_or : (a b : Bool) {A : Type 0} (v q : A) → cond a v (cond b v q) ≡ cond (a || b) v q

@@ -10,7 +10,7 @@ ghost use Rattle.answer.specs.Answers.{Answered};
 ghost use Rattle.refusal.specs.Numbers.{refused};
 ghost use Rattle.calendar.specs.Answers.{date_of};
 ghost use Rattle.windows.specs.declared.Window.{Window as Listed};
-ghost use Rattle.windows.specs.Setting.{Reads, window_in, window_meant, right_in, all_right, counted_in, field_of, held_by, held_as, fields_by, set_where, marked};
+ghost use Rattle.windows.specs.Setting.{Reads, window_in, window_meant, right_in, all_right, counted_in, or_above, field_of, held_by, held_as, fields_by, set_where, marked};
 
 use answer::Answer;
 use calendar::Date;
@@ -73,14 +73,27 @@ struct Ages {
     years: Option<u32>,
 }
 
+// A number above every last age.
+const ABOVE_AGES: u64 = 1 << 32;
+
+// An age as it is compared: none is above every last one.
+fn or_above(age: Option<u32>) -> u64
+    ensures { result ≡ or_above age }
+{
+    match age {
+        Some(age) => u64::from(age),
+        None => ABOVE_AGES,
+    }
+}
+
 impl Ages {
-    // The one that is counted in the unit.
-    fn counted_in(self, unit: Unit) -> Option<u32>
-        ensures { result ≡ counted_in unit self }
+    // The one that is counted in the unit, as it is compared. Which ages there are is so asked once for all windows.
+    fn counted_in(self, unit: Unit) -> u64
+        ensures { result ≡ or_above (counted_in unit self) }
     {
         match unit {
-            Unit::Days => self.days,
-            Unit::Years => self.years,
+            Unit::Days => or_above(self.days),
+            Unit::Years => or_above(self.years),
         }
     }
 }
@@ -110,13 +123,12 @@ impl Window {
     }
 
     // Whether it holds the age, counted in its own unit.
+    #[tactic(auto, using(crate::proofs::Parts::held_number))]
     fn holds(self, ages: Ages) -> bool
         ensures { result ≡ held_by ages (window_meant self) }
     {
-        match ages.counted_in(self.unit) {
-            Some(age) => self.first <= age && age <= self.last,
-            None => false,
-        }
+        let age = ages.counted_in(self.unit);
+        u64::from(self.first) <= age && age <= u64::from(self.last)
     }
 
     // Whether it says the verdict: only while it holds the age.
@@ -153,7 +165,8 @@ fn is_bad_list(list: &[u32]) -> bool
     !all_right(windows)
 }
 
-// Sets every fact of which some window is such a one to a value.
+// Sets every fact of which some window is such a one to a value. Compiled into its callers, each with its own value and test.
+#[inline(always)]
 fn set_each<F: Fn(Window) -> bool>(
     windows: &[[u32; 2]],
     value: Presence,
@@ -179,6 +192,7 @@ fn mark(windows: &[[u32; 2]], value: Presence, out: &mut [u8; facts::TABLE_BYTES
 }
 
 // Sets every fact of which some window says the verdict to what that makes it.
+#[inline(always)]
 fn decide(windows: &[[u32; 2]], verdict: Verdict, ages: Ages, out: &mut [u8; facts::TABLE_BYTES])
     ensures { table_fields out.new ≡ fields_by (set_where (held_as verdict ages) (field_of verdict) (map window_in windows.now)) 0 (table_fields out.old) }
 {

@@ -24,7 +24,7 @@ use Rattle.decision.specs.Meaning.{decision_of, Sound}
 use Rattle.decision.specs.Answers.{Held}
 use Rattle.clause.specs.Clauses.{decision_size, countable}
 use Rattle.clause.specs.Answers.{ClauseFacts, DecisionWritten}
-use Rattle.clause.proofs.AnswerLaws.{gathered, decision_size_lem, decision_short, node_small, few_facts}
+use Rattle.clause.proofs.AnswerLaws.{gathered, gathered_size, gathered_short, node_small, few_facts}
 use Rattle.std.specs.Prelude.{Ok, Err}
 use Rattle.refusal.specs.declared.Refusal.TheVariants.{Room}
 use Rattle.answer.specs.Answers.{Put}
@@ -44,11 +44,11 @@ module _ {W : List ℕ} {T : Table} {buf : List ℕ} {d : Decision} {os : List �
       length (words_of (record_of (decision_of W T buf d) l)) ≡ 1 + (length entries + 1) / 2 + decision_size d.permit held named
   size_is s l e =
       let D = decision_of W T buf d in
-      omega (arith, length_encode_r product_sets.number (record_of D l), length_encode_d product_sets.number D, decision_size_lem s h wide f, ap length e, length-map l entry_field)
+      omega (arith, length_encode_r product_sets.number (record_of D l), length_encode_d product_sets.number D, gathered_size s h wide f, ap length e, length-map l entry_field)
 
   module _ {out : List ℕ} where
     pub put_long : countable d.permit held named ≡ false → Put W T buf d entries out out (Err Room)
-    put_long k = record { put = λ l s e. long_list (length out) (record_of (decision_of W T buf d) l) out (decision_short s h wide f ∙ k) }
+    put_long k = record { put = λ l s e. long_list (length out) (record_of (decision_of W T buf d) l) out (gathered_short s h wide f ∙ k) }
 
     pub put_no_room : (size : ℕ) → size ≡ decision_size d.permit held named → length out < 1 + (length entries + 1) / 2 + size → Put W T buf d entries out out (Err Room)
     put_no_room size z k = record { put = λ l s e. no_room (length out) (record_of (decision_of W T buf d) l) out (omega (arith, size_is s l e)) }
@@ -63,5 +63,5 @@ module _ {W : List ℕ} {T : Table} {buf : List ℕ} {d : Decision} {os : List �
               let n = size_is s l e in
               let small = size_small d.permit held named h.few k in
               written_record (length out) (front + rest) (record_of (decision_of W T buf d) l) out (take front mid ++ (tail ++ drop (length mid - front) (drop front mid)))
-              (omega (arith, whole.number)) (omega (arith, whole.number)) (decision_short s h wide f ∙ k) whole;
+              (omega (arith, whole.number)) (omega (arith, whole.number)) (gathered_short s h wide f ∙ k) whole;
         }

@@ -1,8 +1,27 @@
 -- The widths, case by case.
-use Rattle.std.specs.Prelude.{◌≡◌, ℕ, ◌≤◌, ◌<◌}
-use Rattle.std.proofs.Common.{arith, lt-ltb, le-ltb, eq-eqb, ne_eqb}
+use Rattle.std.specs.Prelude.{◌≡◌, refl, ℕ, zero, suc, ◌≤◌, ◌<◌}
+use Rattle.std.proofs.Common.{sym, ap, arith, lt-ltb, le-ltb, eq-eqb, ne_eqb}
 use Rattle.model.specs.Fields.{bits}
 use Rattle.bits.specs.Widths.{plain_width, mark_width, denied_width}
+
+-- By the kind.
+pub plain_by : (kind k : ℕ) → kind ≡ k → plain_width k ≡ plain_width kind
+plain_by kind k e = ap plain_width (sym e)
+
+pub plain_none : (kind : ℕ) → (kind ≡ 2 → ⊥) → (kind ≡ 4 → ⊥) → (kind ≡ 5 → ⊥) → (kind ≡ 6 → ⊥) → (kind ≡ 9 → ⊥) → (kind ≡ 10 → ⊥) → 0 ≡ plain_width kind
+unfolding plain_width
+plain_none zero a b c d e f = refl
+plain_none (suc zero) a b c d e f = refl
+plain_none (suc (suc zero)) a b c d e f = absurd (a refl)
+plain_none (suc (suc (suc zero))) a b c d e f = refl
+plain_none (suc (suc (suc (suc zero)))) a b c d e f = absurd (b refl)
+plain_none (suc (suc (suc (suc (suc zero))))) a b c d e f = absurd (c refl)
+plain_none (suc (suc (suc (suc (suc (suc zero)))))) a b c d e f = absurd (d refl)
+plain_none (suc (suc (suc (suc (suc (suc (suc zero))))))) a b c d e f = refl
+plain_none (suc (suc (suc (suc (suc (suc (suc (suc zero)))))))) a b c d e f = refl
+plain_none (suc (suc (suc (suc (suc (suc (suc (suc (suc zero))))))))) a b c d e f = absurd (e refl)
+plain_none (suc (suc (suc (suc (suc (suc (suc (suc (suc (suc zero)))))))))) a b c d e f = absurd (f refl)
+plain_none (suc (suc (suc (suc (suc (suc (suc (suc (suc (suc (suc n))))))))))) a b c d e f = refl
 
 pub plain_few : (kind : ℕ) → plain_width kind ≤ 16
 unfolding plain_width

@@ -28,37 +28,45 @@ held_taken {os = os} {held = held} h wide = length-take-le held os (omega (arith
 pub named_taken : {words : List ℕ} {T : Table} {node : Option ℕ} {fs : List ℕ} {count : ℕ} → ClauseFacts words T node fs count → length (take count fs) ≡ count
 named_taken {fs = fs} {count = count} f = length-take-le count fs f.within
 
--- From `decision::obligations` and `clause_facts`.
-module _ {words : List ℕ} {T : Table} {buf os fs : List ℕ} {d : Decision} {held count : ℕ}
-    (s : Sound words buf d) (h : Held words d buf os held) (wide : list_room ≤ length os) (f : ClauseFacts words T d.clause fs count) where
-  pub gathered : Gathered words T buf d (take held os) (take count fs)
-  gathered = record { clause = s.clause; obligations = λ _. h.front s.held; facts = f.front s.clause }
+-- Of what is gathered for a decision: how many words its node takes, and whether its lists can be counted.
+module _ {words : List ℕ} {T : Table} {buf os fs : List ℕ} {d : Decision} (g : Gathered words T buf d os fs) where
+  facts_number : length (clause_at words T d.clause).facts ≡ length fs
+  facts_number = ap length (sym g.facts)
 
-  facts_number : length (clause_at words T d.clause).facts ≡ count
-  facts_number = sym (f.number s.clause)
+  obligations_number : d.permit ≡ true → length (obligations_in words buf d) ≡ length os
+  obligations_number e = ap length (sym (g.obligations e))
 
-  obligations_number : d.permit ≡ true → length (obligations_in words buf d) ≡ held
-  obligations_number e = ap length (sym (h.front s.held)) ∙ held_taken h wide
-
-  size_by : (b : Bool) → d.permit ≡ b → words_d (cond b (permits (permit_of words T buf d)) (denies (clause_at words T d.clause))) ≡ decision_size b held count
+  size_by : (b : Bool) → d.permit ≡ b → words_d (cond b (permits (permit_of words T buf d)) (denies (clause_at words T d.clause))) ≡ decision_size b (length os) (length fs)
   unfolding permit_of
   size_by true e = ap₂ (λ n m. 2 + words_for 4 n + words_for 2 m) (obligations_number e) facts_number
   size_by false e = ap (λ m. 3 + words_for 2 m) facts_number
 
   -- As many words as `decision_words` says.
-  pub decision_size_lem : length (decision_words (decision_of words T buf d)) ≡ decision_size d.permit held count
+  pub decision_size_lem : length (decision_words (decision_of words T buf d)) ≡ decision_size d.permit (length os) (length fs)
   unfolding decision_of
   decision_size_lem = length_encode_d product_sets.number (decision_of words T buf d) ∙ size_by d.permit refl
 
-  short_by : (b : Bool) → d.permit ≡ b → short_d (cond b (permits (permit_of words T buf d)) (denies (clause_at words T d.clause))) ≡ countable b held count
+  short_by : (b : Bool) → d.permit ≡ b → short_d (cond b (permits (permit_of words T buf d)) (denies (clause_at words T d.clause))) ≡ countable b (length os) (length fs)
   unfolding permit_of
   short_by true e = ap₂ (λ n m. leb m most_listed && leb n most_held) (obligations_number e) facts_number
   short_by false e = ap (λ m. leb m most_listed) facts_number
 
   -- Its lists can be counted where `countable` says so.
-  pub decision_short : short_d (decision_of words T buf d) ≡ countable d.permit held count
+  pub decision_short : short_d (decision_of words T buf d) ≡ countable d.permit (length os) (length fs)
   unfolding decision_of
   decision_short = short_by d.permit refl
+
+-- The same of what `decision::obligations` and `clause_facts` leave at the front of their buffers.
+module _ {words : List ℕ} {T : Table} {buf os fs : List ℕ} {d : Decision} {held count : ℕ}
+    (s : Sound words buf d) (h : Held words d buf os held) (wide : list_room ≤ length os) (f : ClauseFacts words T d.clause fs count) where
+  pub gathered : Gathered words T buf d (take held os) (take count fs)
+  gathered = record { clause = s.clause; obligations = λ _. h.front s.held; facts = f.front s.clause }
+
+  pub gathered_size : length (decision_words (decision_of words T buf d)) ≡ decision_size d.permit held count
+  gathered_size = decision_size_lem gathered ∙ ap₂ (decision_size d.permit) (held_taken h wide) (named_taken f)
+
+  pub gathered_short : short_d (decision_of words T buf d) ≡ countable d.permit held count
+  gathered_short = decision_short gathered ∙ ap₂ (countable d.permit) (held_taken h wide) (named_taken f)
 
 -- What is countable is few.
 pub few_facts : (b : Bool) (n m : ℕ) → countable b n m ≡ true → m ≤ most_listed

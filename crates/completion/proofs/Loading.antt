@@ -11,7 +11,7 @@ use Rattle.model.specs.Facts.{Presence}
 use Rattle.model.specs.Consulted.{Entry, Consulted, consult, once_from}
 use Rattle.model.specs.Writing.{entry_bits, seen_in, entry_field}
 use Rattle.laws.specs.FieldAt.{field_at}
-use Rattle.laws.proofs.FieldAtLaws.{no_entry, EntryIn, entry_at}
+use Rattle.laws.proofs.FieldAtLaws.{no_entry, EntryIn, entry_at, entries_there}
 use Rattle.laws.proofs.ReadForm.{Named}
 use Rattle.consulted.specs.Listing.{Lent, Consults, Recorded}
 use Rattle.consulted.proofs.Listing.{consults_then, consults_as}
@@ -52,3 +52,7 @@ module _ (words : List ℕ) (count : ℕ) (s : Lent) where
       record {
         log = λ es rest n c were. consults_as (λ l. ap (once_from l) (sym (take_all i es (omega arith)))) (k.log es rest n c were);
       }
+
+  -- Words that end before their entries do hold none.
+  pub load_cut : (t : Lent) (i : ℕ) → i < count → length words ≤ 1 + i / 2 → LoadsConsulted words count s t
+  load_cut t i h short = record { log = λ es rest n c were. let z : ⊥ = omega (arith, entries_there es rest words i (omega arith) were) in absurd z }

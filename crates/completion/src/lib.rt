@@ -21,6 +21,10 @@ pub fn load_consulted(words: &[u32], prior: usize, consulted: &mut Consulted<'_>
     ensures { LoadsConsulted words.now prior (held consulted.old) (held consulted.new) }
 {
     for i in 0..prior {
+        // the words end before their entries do
+        if words.len() <= 1 + i / 2 {
+            return;
+        }
         let field = packing::unpack_entry(words, 1, i) as u32;
         consulted.consult(field % policy_model::FACTS, facts::entry_presence(field));
     }

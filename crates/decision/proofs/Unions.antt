@@ -7,7 +7,7 @@ use native.Mathlib.Omega.{arith}
 use borrow.Author.Tests.{eq-eqb, ne_eqb}
 use lib.Dec.{eqb}
 use lib.ListN.{length, take, drop, set, get_or, length-append}
-use lib.Seq.{length-take-le, take-append-le, take-take}
+use lib.Seq.{length-take-le, take-append-le, take-take, drop-set-lt}
 use Rattle.std.proofs.lemmas.List.{take_more, take_more_set}
 use Rattle.std.proofs.lemmas.Bool.{or_parts}
 use lib.Bits.{bit_or}
@@ -45,6 +45,7 @@ union_append os (p ∷ ps) qs = union_append (insert_one os p) ps qs
 pub grown_then : {ps qs a b c : List ℕ} {u v z : Union} → Grown ps a b u v → Grown qs b c v z → Grown (ps ++ qs) a c u z
 grown_then {ps} {qs} f g =
     record {
+      rest = g.rest ∙ f.rest;
       holds = λ os k h. g.holds os (below_second obligation_count ps qs k) (f.holds os (below_first obligation_count ps qs k) h);
       grown = λ os k h.
           g.grown os (below_second obligation_count ps qs k) (f.holds os (below_first obligation_count ps qs k) h)
@@ -52,14 +53,22 @@ grown_then {ps} {qs} f g =
           ∙ sym (union_append _ ps qs);
     }
 
+-- Nothing was appended yet.
+pub grown_none : (buf : List ℕ) (u : Union) → Grown [] buf buf u u
+grown_none buf u = record { rest = refl; holds = λ os _ h. h; grown = λ os _ _. refl }
+
 -- ---- one more
 module _ (u : Union) (o : ℕ) (buf : List ℕ) where
+  pub append_none : obligation_count ≤ o → Grown (o ∷ []) buf buf u u
+  append_none h = record { rest = refl; holds = λ os k _. absurd (omega (arith, k.0)); grown = λ os k _. absurd (omega (arith, k.0)) }
+
   held_by_lem : (os : List ℕ) → Holding os buf u → eqb (bit_at u.mask o) 1 ≡ held o (os ++ take u.count buf)
   held_by_lem os h = ap (λ m. eqb (bit_at m o) 1) h.mask_is ∙ mask_of o (os ++ take u.count buf)
 
   pub append_held : bit_at u.mask o ≡ 1 → Grown (o ∷ []) buf buf u u
   append_held e =
       record {
+        rest = refl;
         holds = λ os _ h. h;
         grown = λ os _ h. ap (λ b. cond b (os ++ take u.count buf) ((os ++ take u.count buf) ++ o ∷ [])) (sym (eq-eqb (bit_at u.mask o) 1 e) ∙ held_by_lem os h);
       }
@@ -76,6 +85,7 @@ module _ (u : Union) (o : ℕ) (buf : List ℕ) where
     append_new m fits e =
         let more : take (u.count + 1) (set buf u.count o) ≡ take u.count buf ++ o ∷ [] = take_more_set buf u.count o (omega arith) in
         record {
+          rest = drop-set-lt obligation_room buf u.count o (omega arith);
           holds = λ os k h.
               record {
                 mask_is =
@@ -100,7 +110,7 @@ module _ (u : Union) (o : ℕ) (buf : List ℕ) where
         let most : length (take u.count buf ++ o ∷ []) ≤ obligation_count =
         pigeon obligation_count (take u.count buf ++ o ∷ []) (distinct_end (take u.count buf) o h.appended.0 (not_appended os h)) (every_end (λ p. p < obligation_count) (take u.count buf) o h.appended.1 k.0) in
         omega (arith, length-append (take u.count buf) (o ∷ []), length-take-le u.count buf (omega (arith, u.bounded))) in
-        record { holds = λ os k h. absurd (clash os k h); grown = λ os k h. absurd (clash os k h) }
+        record { rest = refl; holds = λ os k h. absurd (clash os k h); grown = λ os k h. absurd (clash os k h) }
 
 -- One more, in a turn of a loop.
 pub grown_more : (os before mid after : List ℕ) (u v r : Union) (i : ℕ) → i < length os →

@@ -232,7 +232,7 @@ impl Union {
     }
 
     // Appends these obligations, one by one.
-    #[tactic(auto, using(crate::proofs::Unions::grown_more))]
+    #[tactic(auto, using(crate::proofs::Unions::grown_none, crate::proofs::Unions::grown_more))]
     fn append_all(&mut self, numbers: &[u8], buf: &mut [u8])
         requires { RoomToUnite 1 buf.old }
         ensures { Grown numbers.now buf.old buf.new self.old self.new }
@@ -246,7 +246,8 @@ impl Union {
     #[inline(never)]
     fn append_node(&mut self, words: &[u32], named: Option<usize>, buf: &mut [u8])
         requires { RoomToUnite 1 buf.old }
-        ensures { Names words.now named → Grown (obligations_at words.now named) buf.old buf.new self.old self.new }
+        ensures rest { drop obligation_room buf.new ≡ drop obligation_room buf.old }
+        ensures grown { Names words.now named → Grown (obligations_at words.now named) buf.old buf.new self.old self.new }
     {
         let mut own = [0u8; MOST_HELD];
         let count = load_obligations(words, named, &mut own);

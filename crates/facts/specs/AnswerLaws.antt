@@ -1,10 +1,11 @@
 -- The number of a presence is the one that is written, and the one that is read; what it is to a Has, and what a settled fact is to a reduction.
-use Rattle.std.specs.Prelude.{◌≡◌, refl, true, false, ℕ, zero, suc}
+use Rattle.std.specs.Prelude.{◌≡◌, refl, true, false, ℕ, zero, suc, ◌+◌, ◌≤◌, eqb}
+use Rattle.std.proofs.Common.{arith}
 use Rattle.model.specs.Facts.{absent, present, unknown, silent, presence}
 use Rattle.model.specs.Facts as model
 use Rattle.model.specs.Partial.{known, reduce_has}
-use Rattle.model.specs.Consulted.{Consulted, consult, consult_known}
-use Rattle.model.specs.Writing.{presence_field}
+use Rattle.model.specs.Consulted.{Consulted, consult, consult_known, contradicts}
+use Rattle.model.specs.Writing.{presence_field, seen_in}
 use Rattle.model.specs.Condition.{eval_has}
 use Rattle.facts.specs.declared.Presence.{Presence}
 use Rattle.facts.specs.declared.Presence.TheVariants.{Absent, Present, Unknown, Silent}
@@ -17,11 +18,42 @@ number_written Present = refl
 number_written Unknown = refl
 number_written Silent = refl
 
--- Any field of a table but 0 and 1 reads Unknown.
+pub number_few : (p : Presence) → presence_number p ≤ 3
+number_few Absent = omega arith
+number_few Present = omega arith
+number_few Unknown = omega arith
+number_few Silent = omega arith
+
+-- Of two presences one is Present and the other Absent where their numbers add to 1.
+pub numbers_contradict : (p q : Presence) → eqb (presence_number p + presence_number q) 1 ≡ contradicts (presence_of p) (presence_of q)
+numbers_contradict Absent Absent = refl
+numbers_contradict Absent Present = refl
+numbers_contradict Absent Unknown = refl
+numbers_contradict Absent Silent = refl
+numbers_contradict Present Absent = refl
+numbers_contradict Present Present = refl
+numbers_contradict Present Unknown = refl
+numbers_contradict Present Silent = refl
+numbers_contradict Unknown Absent = refl
+numbers_contradict Unknown Present = refl
+numbers_contradict Unknown Unknown = refl
+numbers_contradict Unknown Silent = refl
+numbers_contradict Silent Absent = refl
+numbers_contradict Silent Present = refl
+numbers_contradict Silent Unknown = refl
+numbers_contradict Silent Silent = refl
+
+-- Any field of a table but 0 and 1 reads Unknown; any presence of an entry but 0, 1 and 2 is silence.
 pub other_field : (n : ℕ) → (n ≡ 0 → ⊥) → (n ≡ 1 → ⊥) → Reads Unknown (presence n)
 other_field zero z o = absurd (z refl)
 other_field (suc zero) z o = absurd (o refl)
 other_field (suc (suc n)) z o = record { seen = refl; number = refl }
+
+pub other_entry : (n : ℕ) → (n ≡ 0 → ⊥) → (n ≡ 1 → ⊥) → (n ≡ 2 → ⊥) → Reads Silent (seen_in n)
+other_entry zero z o t = absurd (z refl)
+other_entry (suc zero) z o t = absurd (o refl)
+other_entry (suc (suc zero)) z o t = absurd (t refl)
+other_entry (suc (suc (suc n))) z o t = record { seen = refl; number = refl }
 
 -- A Has is satisfied by a present fact.
 pub has_value : (f : ℕ) (p : model.Presence) → is_present p ≡ is_satisfied (eval_has f p)

@@ -1,6 +1,6 @@
 -- A field by its number, for any width: its place in a word as a shift, the fields of a list that was packed, and which lists can be.
 use Rattle.std.specs.Prelude.{◌≡◌, refl, List, [], ◌∷◌, ◌++◌, map, length, take, drop}
-use Rattle.std.proofs.Common.{sym, ◌∙◌, ap₂, zero-mul, suc-mul, add_comm, div-add-mod', le-div_iff_mul-le, le_trans, arith, length-append, take-suc, drop-drop, get_or-drop}
+use Rattle.std.proofs.Common.{sym, ◌∙◌, ap₂, zero-mul, suc-mul, add_comm, div-add-mod', le-div_iff_mul-le, le_trans, arith, length-append, length-drop, take-suc, drop-drop, get_or-drop}
 use Rattle.std.proofs.Math.Path.{ap}
 use Prim.Native.Nat.{ℕ, zero, suc, ◌+◌, ◌-◌, ◌*◌, ◌/◌, ◌%◌, ◌^◌, ◌≤◌, ◌<◌}
 use Rattle.std.proofs.Math.Nat.{mod-lt}
@@ -15,6 +15,7 @@ use Rattle.model.specs.Reading.{presence_count}
 use Rattle.laws.specs.Lists.{Below}
 use Rattle.laws.specs.FieldAt.{field_at, firsts, padded, Narrow}
 use Rattle.laws.proofs.WordLaws.{padded_none, narrow_drop, joined_small, split_joined, length_packed}
+use Rattle.laws.proofs.Lengths.{length_pack}
 use Rattle.laws.proofs.ReadForm.{Named}
 use Rattle.laws.proofs.ShiftLaws.{split_none, split_shift}
 
@@ -161,3 +162,9 @@ entry_of b e h is = record { fact_is = omega arith; seen_is = ap seen_in (let k 
 -- Where entries stand, the field of each says it.
 pub entry_at : (es : Consulted) (rest ws : List ℕ) (i b : ℕ) → Named es → i < length es → pack entry_bits (map entry_field es) ++ rest ≡ ws → b ≡ field_at entry_bits ws i → EntryIn b (get_or es i no_entry)
 entry_at es rest ws i b n h were e = entry_of b (get_or es i no_entry) (names_fact es i n h) (e ∙ entry_field_lem es rest ws i n h were ∙ field_of es i h)
+
+-- Words don't end before the entries that stand after their first.
+pub entries_there : (es : Consulted) (rest words : List ℕ) (i : ℕ) → i < length es → pack entry_bits (map entry_field es) ++ rest ≡ drop 1 words → 1 + i / 2 < length words
+entries_there es rest words i h were =
+    let long : length (pack entry_bits (map entry_field es)) ≡ (length es + 1) / 2 = length_pack entry_bits (map entry_field es) ∙ ap (λ m. (m + 1) / 2) (length-map es entry_field) in
+    omega (arith, long, ap length were, length-append (pack entry_bits (map entry_field es)) rest, length-drop 1 words)

@@ -63,6 +63,11 @@ length_presence present = omega arith
 length_presence unknown = omega arith
 length_presence silent = omega arith
 
+pub least_most : (kind : Listed) → (5 ≤ most_of kind) × (most_of kind ≤ 13)
+least_most Obligations = (omega arith, omega arith)
+least_most Facts = (omega arith, omega arith)
+least_most Entries = (omega arith, omega arith)
+
 pub length_field : (kind : Listed) (b : ℕ) → length (field_text kind b) < most_of kind
 unfolding field_text
 length_field Obligations b = omega (arith, length_decimal b)

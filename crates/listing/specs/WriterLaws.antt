@@ -1,9 +1,14 @@
 -- Writers one after the other, each into the part of the output that begins where the last one ended.
-use Rattle.std.specs.Prelude.{◌≡◌, List, [], ◌++◌, ℕ, ◌+◌, ◌-◌, length, take, drop}
+use Rattle.std.specs.Prelude.{◌≡◌, List, [], ◌++◌, ℕ, ◌+◌, ◌-◌, ◌≤◌, length, take, drop}
 use Rattle.std.proofs.Common.{sym, ◌∙◌, ap, ap₂, append_assoc, append-nil, arith, length-append, length-drop, drop_of_length-le, take_all, take_at, drop_at, drop-drop}
+use Rattle.std.proofs.Math.Seq.{take-length}
 use Rattle.listing.specs.Texts.{Wrote}
 
 -- A copy is the bytes that were copied.
+pub copied : (xs : List ℕ) {before after : List ℕ} {r : ℕ} → r ≡ length xs → after ≡ take (length xs) xs ++ drop (length xs) before → Wrote xs before after r
+copied xs {before} e h = record { output = h ∙ ap (λ l. l ++ drop (length xs) before) (take-length xs); count = e }
+
+-- So are bytes that were copied whole.
 pub copied_whole : (xs : List ℕ) {before after : List ℕ} {r : ℕ} → r ≡ length xs → after ≡ xs ++ drop (length xs) before → Wrote xs before after r
 copied_whole xs e h = record { output = h; count = e }
 
@@ -29,3 +34,7 @@ wrote_then {xs} {ys} {before} {mid} {part} {n} {k} w v =
           ∙ sym (append_assoc xs ys (drop (length (xs ++ ys)) before));
       count = omega (arith, w.count, v.count);
     }
+
+-- The bytes that are counted are there.
+pub wrote_there : {xs before after : List ℕ} {r : ℕ} → Wrote xs before after r → r ≤ length after
+wrote_there {xs} {before} w = omega (arith, w.count, ap length w.output, length-append xs (drop (length xs) before))

@@ -54,6 +54,21 @@ room_next {a} {b} {from} {to} {xs} p ys m =
       begun = p.begun;
     }
 
+-- Without a cursor: at the first bit, and for a field that comes first, also by its width as it is computed.
+pub room_start : (bs out : List ℕ) → length bs ≤ 8 * length out → length bs < 2 ^ 62 → Room 0 bs out
+room_start bs out h k = record { fits = omega arith; few = omega arith; clear = refl }
+
+pub room_low : (w v at : ℕ) (bs out : List ℕ) → w ≤ 25 → Room at (low w v ++ bs) out → (w ≤ 25) × (at + w ≤ 8 * length out) × (at < 2 ^ 62)
+room_low w v at bs out n r =
+    let a = length-append (low w v) bs in
+    let b = length_low w v in
+    let f = r.fits in
+    let g = r.few in
+    (n, omega arith, omega arith)
+
+pub room_low_as : (w u v at : ℕ) (bs out : List ℕ) → u ≡ w → w ≤ 25 → Room at (low w v ++ bs) out → (u ≤ 25) × (at + u ≤ 8 * length out) × (at < 2 ^ 62)
+room_low_as w u v at bs out e n r = subst (λ x. (x ≤ 25) × (at + x ≤ 8 * length out) × (at < 2 ^ 62)) (sym e) (room_low w v at bs out n r)
+
 -- Nothing is put.
 pub none_put : {bs out : List ℕ} {cursor : Cursor} → RoomFor bs out cursor → Put [] out cursor out cursor
 none_put r = record { spliced = record { next = omega arith; run = r.room.clear; long = refl }; begun = r.begun }

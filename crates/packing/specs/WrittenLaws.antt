@@ -1,7 +1,7 @@
 -- Words that were written, and those after them: at once, or one by one.
 use Rattle.std.specs.Prelude.{◌≡◌, refl, List, [], ◌∷◌, ◌++◌, ℕ, suc, ◌+◌, ◌-◌, ◌≤◌, ◌<◌, length, take, drop, get_or, set}
 use Rattle.std.proofs.Common.{sym, ◌∙◌, ap, ap₂, append_assoc, append-nil, add-one, arith, length-append, length-drop, length-set, length-take, drop_of_length-le, take_all, take_at, drop_at, take-suc, drop-cons, drop-drop}
-use Rattle.std.proofs.Math.Seq.{append_snoc}
+use Rattle.std.proofs.Math.Seq.{take-length, drop-length, append_snoc}
 use Rattle.std.proofs.lemmas.List.{set_at}
 use Rattle.packing.specs.Written.{Written, Sofar}
 
@@ -55,6 +55,17 @@ module _ {words out after : List ℕ} {n : ℕ} (s : Written words out after n) 
   -- The same words, said in another way.
   pub written_same : {others : List ℕ} → words ≡ others → Written others out after n
   written_same e = record { number = s.number ∙ ap length e; output = s.output ∙ ap (λ l. l ++ drop n out) e }
+
+-- A lead word, written after the words behind it.
+pub written_lead : (w : ℕ) {words tail : List ℕ} (out : List ℕ) {m : ℕ} → 0 < length out →
+    Written words (take (length out - 1) (drop 1 out)) tail m →
+    Written (w ∷ words) out (set (take 1 out ++ (tail ++ drop (length out - 1) (drop 1 out))) 0 w) (1 + m)
+written_lead w [] h s = absurd (omega arith)
+written_lead w {words} {tail} (x ∷ out) {m} h s =
+    let one : length (x ∷ out) - 1 ≡ length out = omega arith in
+    let more : 1 + m ≡ suc m = omega arith in
+    let s₁ : Written words out tail m = rw (one, take-length) at s in
+    rw (one, drop-length, append-nil, more) (record { number = ap suc s₁.number; output = ap (λ l. w ∷ l) s₁.output })
 
 pub sofar_more : (words out after : List ℕ) (j w : ℕ) → Sofar words out after j → j < length words → length words ≤ length out → w ≡ get_or words j 0 → Sofar words out (set after j w) (j + 1)
 sofar_more words out after j w s h room e =

@@ -338,6 +338,30 @@ permit_word w res e =
     let same : (w % 268435456) % 65536 ≡ w % 65536 = omega arith in
     rw (k, eq-eqb ((w % 268435456) / 65536) 0 none, same)
 
+-- And to be an All, or an Any.
+pub all_word : (w : ℕ) (res : Bool) → w / 4096 ≡ 589824 → policy.All (w % 4096) ≡ policy_head w res
+unfolding policy_head
+all_word w res e =
+    let k : w / 268435456 ≡ 9 = omega arith in
+    let same : w % 268435456 ≡ w % 4096 = omega arith in
+    rw (k, same, lt-ltb (w % 4096) 4096 (omega arith))
+
+pub any_word : (w : ℕ) (res : Bool) → w / 4096 ≡ 655360 → policy.Any (w % 4096) ≡ policy_head w res
+unfolding policy_head
+any_word w res e =
+    let k : w / 268435456 ≡ 10 = omega arith in
+    let same : w % 268435456 ≡ w % 4096 = omega arith in
+    rw (k, same, lt-ltb (w % 4096) 4096 (omega arith))
+
+-- The other words of the kinds All and Any: a bit above the count is 1.
+pub all_field : (w : ℕ) (res : Bool) → w / 268435456 ≡ 9 → ¬ (w / 4096 ≡ 589824) → policy.BadField ≡ policy_head w res
+unfolding policy_head
+all_field w res k other = rw (k, le-ltb (w % 268435456) 4096 (omega arith))
+
+pub any_field : (w : ℕ) (res : Bool) → w / 268435456 ≡ 10 → ¬ (w / 4096 ≡ 655360) → policy.BadField ≡ policy_head w res
+unfolding policy_head
+any_field w res k other = rw (k, le-ltb (w % 268435456) 4096 (omega arith))
+
 -- A Grant without obligations.
 no_obligations : (r : ℕ) → r % 134217728 < 65536 → r / 1048576 % 128 ≡ 0
 no_obligations r h = omega arith

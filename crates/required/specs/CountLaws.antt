@@ -1,6 +1,6 @@
 -- The one bits of a set counted.
-use Rattle.std.specs.Prelude.{◌≡◌, refl, Bool, true, false, cond, List, [], ◌∷◌, ◌++◌, ℕ, zero, suc, ◌+◌, ◌*◌, ◌/◌, ◌%◌, ◌^◌, ◌<◌, length, drop, get_or}
-use Rattle.std.proofs.Common.{sym, ◌∙◌, ap, ap₂, one-mul, add_comm, div-add-mod', mod-lt, add-one, arith, pow_pos, shr_lt, drop-cons}
+use Rattle.std.specs.Prelude.{◌≡◌, refl, Bool, true, false, cond, List, [], ◌∷◌, ◌++◌, ℕ, zero, suc, ◌+◌, ◌*◌, ◌/◌, ◌%◌, ◌^◌, ◌≤◌, ◌<◌, length, drop, get_or}
+use Rattle.std.proofs.Common.{sym, ◌∙◌, ap, ap₂, one-mul, add_comm, div-add-mod', mod-lt, add-one, arith, pow_pos, shr_lt, drop_of_length-le, drop-cons}
 use Rattle.std.specs.Int.Count as count
 use Rattle.model.specs.Fields.{split, joined}
 use Rattle.model.specs.Required.{one_bit, flags, fact_set, total, ones}
@@ -70,3 +70,6 @@ ones_named named = ap ones (set_numbers named) ∙ ones_numbers named 16 0
 pub ones_next : (numbers : List ℕ) (i : ℕ) → i < length numbers → get_or numbers i 0 < 2 ^ 64 → ones (drop i numbers) ≡ count.ones (get_or numbers i 0) + ones (drop (i + 1) numbers)
 ones_next numbers i h k =
     ap ones (drop-cons numbers i 0 h) ∙ ap₂ (λ x j. x + ones (drop j numbers)) (sym (ones_total 64 (get_or numbers i 0) k)) (sym (add-one i))
+
+pub ones_end : (numbers : List ℕ) (i : ℕ) → length numbers ≤ i → ones (drop i numbers) ≡ 0
+ones_end numbers i h = ap ones (drop_of_length-le numbers h)

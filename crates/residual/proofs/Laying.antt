@@ -19,7 +19,7 @@ use Rattle.decision.specs.Room.{list_room}
 use Rattle.decision.specs.Answers.{Held}
 use Rattle.clause.specs.Clauses.{decision_size, countable}
 use Rattle.clause.specs.Answers.{ClauseFacts, DecisionWritten}
-use Rattle.clause.proofs.AnswerLaws.{gathered, decision_size_lem, decision_short, node_small, few_facts}
+use Rattle.clause.proofs.AnswerLaws.{gathered, gathered_size, gathered_short, node_small, few_facts}
 use Rattle.sizes.specs.Laid.{too_many}
 use Rattle.residual.specs.Weight.{weight_d}
 use Rattle.residual.specs.Answers.{NodeLaid}
@@ -36,7 +36,7 @@ module _ {W : List ℕ} {T : Table} {buf os : List ℕ} {d : Decision} {held : �
     bound = omega arith;
     laid = λ s.
         let D = decision_of W T buf d in
-        let w = weight_at false D (decision_short s h wide f ∙ k) in
+        let w = weight_at false D (gathered_short s h wide f ∙ k) in
         record { size_is = omega (arith, w); front = λ l room. absurd (omega arith) };
     bytes = λ s. refl;
   }
@@ -48,7 +48,7 @@ module _ {W : List ℕ} {T : Table} {buf os : List ℕ} {d : Decision} {held : �
     node_size : Sound W buf d → size ≡ weight_d (decision_of W T buf d)
     node_size s =
         let D = decision_of W T buf d in
-        e ∙ sym (decision_size_lem s h wide f) ∙ length_encode_d product_sets.number D ∙ sym (weight_at true D (decision_short s h wide f ∙ k))
+        e ∙ sym (gathered_size s h wide f) ∙ length_encode_d product_sets.number D ∙ sym (weight_at true D (gathered_short s h wide f ∙ k))
 
     -- There is no room for it.
     pub node_no_room : (out : List ℕ) → length out < size → NodeLaid W T d buf buf out size

@@ -66,11 +66,13 @@ module _ {one : ℕ → ℕ → List ℕ → Parsed ℕ} {all : ℕ → ℕ → 
         level_begins all depth above level (left - 1) arms lt ∙ one_then arms f (ap (λ d. all d v cs n) down ∙ sym e)
 
     -- A node with none below it.
-    pub passed : (v : ℕ) (cs : List ℕ) (n : ℕ) → (left ≡ 0 → ⊥) → n ≡ 0 → one (depth - level) w bs ≡ all (depth - level - 1) v cs n →
+    pub passed : (v : ℕ) (cs : List ℕ) (n : ℕ) → n ≡ 0 → (left ≡ 0 → ⊥) → one (depth - level) w bs ≡ all (depth - level - 1) v cs n → Due all depth above level (left - 1) v cs ≡ Due all depth above level left w bs
+    passed v cs n z f e = one_then (got v cs) f (lists.none (depth - level - 1) n v cs z ∙ sym e)
+
+    -- The same where what is left was stored at the level, as of a node with arms.
+    pub passed_stored : (v : ℕ) (cs : List ℕ) (n : ℕ) → (left ≡ 0 → ⊥) → n ≡ 0 → one (depth - level) w bs ≡ all (depth - level - 1) v cs n →
         Due all depth (set above level (left - 1)) level (left - 1) v cs ≡ Due all depth above level left w bs
-    passed v cs n f z e =
-        stored_below all depth above level (left - 1) level (all (depth - level) v cs (left - 1)) (omega arith)
-        ∙ one_then (got v cs) f (lists.none (depth - level - 1) n v cs z ∙ sym e)
+    passed_stored v cs n f z e = stored_below all depth above level (left - 1) level (all (depth - level) v cs (left - 1)) (omega arith) ∙ passed v cs n z f e
 
     pub turned_back_lem : (n : ℕ) → (left ≡ 0 → ⊥) → one (depth - level) w bs ≡ refuse n → refuse n ≡ Due all depth above level left w bs
     turned_back_lem n f e = refused_stands all depth above level n ∙ one_then (refuse n) f (sym e)

@@ -1,7 +1,10 @@
 -- `completion::load_consulted` meets its contract. The loop's invariant: the first i entries are listed. Assumes nothing.
 use mathlib.Core.Path.{refl}
-use Rattle.completion.proofs.Loading.{load_more, load_all}
+use Rattle.completion.proofs.Loading.{load_more, load_all, load_cut}
 use Rattle.completion.proofs.load_consulted.Goals as goal
+
+pub returns-then-words-i : goal.returns-then-words-i
+returns-then-words-i c = load_cut _ _ _ _ _ c.loop-i-test.true c.if-words-i.true
 
 pub loop-i-preserved : goal.loop-i-preserved
 loop-i-preserved c =

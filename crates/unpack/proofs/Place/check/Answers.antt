@@ -1,7 +1,7 @@
 -- `check` of Place meets its contract: what is asked of the nodes that are due, at this level and then at those above, is what is asked of the whole. Assumes nothing.
 use Rattle.std.proofs.Common.{◌≡◌, ◌∙◌, sym, arith, rules, length-set, drop, Err}
 use Rattle.unpack.specs.Places.{whole}
-use Rattle.unpack.specs.LevelLaws.{one_due, opened, passed, turned_back_lem, level_done, all_done}
+use Rattle.unpack.specs.LevelLaws.{one_due, opened, passed_stored, turned_back_lem, level_done, all_done}
 use Rattle.unpack.proofs.Place.check.Goals as goal
 
 pub loop-left-init : goal.loop-left-init
@@ -55,7 +55,7 @@ loop-left-preserved g c =
     let i = c.loop-left.invariant in
     let s = c.in_ok-step.ensures in
     record {
-      asked = passed (g.met.N.Nodes.lists c.args.nodes.now) _ _ _ _ _ _ c.in_ok-step.step.found.words (drop c.in_ok-step.step.found.at (whole c.args.self.now.here)) c.in_ok-step.step.arms c.if-left-eq0.false c.if-step-ne0.false s.0 ∙ i.asked;
+      asked = passed_stored (g.met.N.Nodes.lists c.args.nodes.now) _ _ _ _ _ _ c.in_ok-step.step.found.words (drop c.in_ok-step.step.found.at (whole c.args.self.now.here)) c.in_ok-step.step.arms c.if-left-eq0.false c.if-step-ne0.false s.0 ∙ i.asked;
       level = i.level;
       above = simp length-set i.above;
       inside = s.1;
